@@ -28,12 +28,14 @@ P4
 P5
 P6
 P7
+P8
 G1
 G2
 G3
 G4
 G5
 G6
+G7
 1
 2
 3
@@ -76,22 +78,22 @@ _datacube() {
     local word=${COMP_WORDS[COMP_CWORD]} command=${COMP_WORDS[1]} words IFS=$' \t\n'
     COMPREPLY=()
     case $command in
-    table) words='--by --of --ring --shard --builders --threads --quiet --json --aligned --width -h --help' ;;
-    schema) words='--by --of -h --help' ;;
-    check) words='-h --help' ;;
-    print) words='--ring --shard --builders --threads --quiet --store --wary --partial --json --aligned --width -h --help' ;;
-    refusals) words='--ring --shard --builders --threads --quiet --store --wary -h --help' ;;
-    slice) words='--ring --shard --builders --threads --quiet --store --wary --json --aligned --width -h --help' ;;
-    drill) words='--ring --shard --builders --threads --quiet --store --wary --json --aligned --width -h --help' ;;
-    rollup) words='--ring --shard --builders --threads --quiet --store --wary --json --aligned --width -h --help' ;;
-    live) words='--ring --shard --threads --quiet --store --wary --commit-every -h --help' ;;
-    merge) words='--partial --check --quiet -h --help' ;;
-    explain) words='-h --help' ;;
+    table) words='--by --of --ring --shard --builders --threads --quiet --why --json --aligned --width --where --strict -h --help' ;;
+    schema) words='--by --of --why -h --help' ;;
+    check) words='--why -h --help' ;;
+    print) words='--ring --shard --builders --threads --quiet --why --store --wary --partial --json --aligned --width --where --strict -h --help' ;;
+    refusals) words='--ring --shard --builders --threads --quiet --why --store --wary -h --help' ;;
+    slice) words='--ring --shard --builders --threads --quiet --why --store --wary --json --aligned --width --where --strict -h --help' ;;
+    drill) words='--ring --shard --builders --threads --quiet --why --store --wary --json --aligned --width --where --strict -h --help' ;;
+    rollup) words='--ring --shard --builders --threads --quiet --why --store --wary --json --aligned --width --where --strict -h --help' ;;
+    live) words='--ring --shard --threads --quiet --why --store --wary --commit-every -h --help' ;;
+    merge) words='--partial --check --quiet --why -h --help' ;;
+    explain) words='--why -h --help' ;;
     *) words= ;;
     esac
     if [ "$COMP_CWORD" -eq 1 ]; then
         COMPREPLY=($(compgen -W 'table schema check print refusals slice drill rollup live merge explain -h --help -V --version' -- "$word"))
-    elif [[ ${COMP_WORDS[COMP_CWORD - 1]} == @(--builders|--by|--commit-every|--of|--ring|--shard|--threads|--width) ]]; then
+    elif [[ ${COMP_WORDS[COMP_CWORD - 1]} == @(--builders|--by|--commit-every|--of|--ring|--shard|--threads|--where|--width) ]]; then
         compopt +o default
     elif [[ $word == -* ]]; then
         COMPREPLY=($(compgen -W "$words" -- "$word"))

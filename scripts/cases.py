@@ -320,8 +320,9 @@ def tried(cases, program, first):
         os.chmod(room, 0o755)
         shutil.copy(program, f"{room}/datacube")
         if program.endswith(".py"):
-            # The oracle, which takes the forms of a cube from a file beside it.
-            shutil.copy(f"{ROOT}/scripts/views.py", room)
+            # The oracle, which takes the forms of a cube and the schemas of files from files beside it.
+            for name in ("views.py", "guess.py", "oracle.py"):
+                shutil.copy(f"{ROOT}/scripts/{name}", room)
         shutil.copytree(f"{ROOT}/examples", f"{room}/examples")
         with ThreadPoolExecutor(os.cpu_count()) as pool:
             for start in range(0, len(cases), 16):

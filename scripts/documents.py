@@ -13,10 +13,12 @@ README.md and docs/DEFINITIONS.md say of the bounds of a schema from its definit
                                                      line is `N passed, M failed`, and it fails where something isn't
 
 The program is the one at PATH, else the one that `./datacube` would run. In docs/FORMATS.md a table stands between
-`<!-- codes: ABOUT -->` and `<!-- end of codes -->`; ABOUT is what the program's notes say that a code is about.
+`<!-- codes: ABOUT -->` and `<!-- end of codes -->`; ABOUT is what the program's notes say that a code is about. The table
+of what is said where a command failed is made of the code of cube_why.
 """
 import argparse
 import glob
+import json
 import os
 import re
 import subprocess
@@ -41,6 +43,19 @@ CRATES = f"{ROOT}/crates.txt"
 CRATE = re.compile(r"^(\w+)[^:#\n]*:(.*)$", re.MULTILINE)
 ROW = re.compile(r"^(\| `(\w+)` \| [^|]* \| )[^|]* \|$", re.MULTILINE)
 FUNCTION = re.compile(r"`(\w+)::(?:\w+::)*(\w+)`")
+# where it stands what there is to do at each code, an entry there, and what FORMATS calls the kinds of files and of headers
+ADVICE_CODE = f"{ROOT}/crates/cube_why/src/advice.rt"
+ADVICE = re.compile(r'    Advice \{\n        code: "(.*?)",\n        lines: &\[(.*?)\],\n    \},', re.DOTALL)
+KINDS = {
+    "gzip": "a file that begins with 1F 8B",
+    "archive": r"a file that begins with `PK\x03\x04`",
+    "UTF-16": "a file that begins with FF FE or FE FF",
+    "folder": "a folder",
+    "by names": "a header that would do by names",
+    "semicolon": "semicolons",
+    "tab": "tabs",
+    "bar": "bars",
+}
 # where the bounds of a schema and of a run stand, and how documents say them
 BOUND = re.compile(r"pub (\w+)_at_most : length \S+ ≤ (\d+)")
 SHARDS = re.compile(r"pub at_most : shard\.count ≤ (\d+)")
@@ -102,6 +117,24 @@ def formats_with(notes, text):
     if missing:
         sys.exit(f"docs/FORMATS.md has no table of the codes about: {', '.join(missing)}")
     return pattern.sub(lambda it: it[1] + table_of(notes, it[2]) + it[3], text)
+
+
+def advice_rows():
+    """A row for each advice of the crate cube_why: the code, or the kind of a file or a header, and the lines that are said."""
+    rows = []
+    for code, lines in ADVICE.findall(text_at(ADVICE_CODE)):
+        said = [json.loads(f'"{it}"') for it in re.findall(r'"((?:[^"\\]|\\.)*)"', lines)]
+        if not said:
+            continue
+        rows.append(f"| {KINDS.get(code, f'`{code}`')} | {'<br>'.join(said).replace('|', chr(92) + '|')} |")
+    return rows
+
+
+def advised(text):
+    """The text of docs/FORMATS.md with its table of advice made anew."""
+    begin = "| At | What follows the lines of the cause |\n|---|---|\n"
+    head, _, rest = text.partition(begin)
+    return head + begin + "".join(f"{it}\n" for it in advice_rows()) + rest[rest.index("\n\n") + 1 :]
 
 
 def architecture_with(text):
@@ -208,7 +241,7 @@ def section_of(text, title):
 
 
 def formats_in_manual(program):
-    """The sections of the manual page on schemas, feeds and printed cubes, with examples, and on statuses."""
+    """The sections of the manual page on schemas, feeds, printed cubes and facts of interest, with examples, and on statuses."""
     text = text_at(FORMATS)
     shop = f"{ROOT}/examples/shop"
     feed = f"{ROOT}/examples/first/feed.csv"
@@ -223,6 +256,7 @@ def formats_in_manual(program):
     page += ".PP\nCODES has the faults of lines, L1 to L6, by which a line is refused, and those of a whole feed, F1 to F4.\n"
     page += ".SH THE PRINTED CUBE\n" + from_markdown(section_of(text, "The printed cube"))
     page += ".PP\nOf the feed above, in a file feed.csv:\n" + example(f"$ datacube < feed.csv\n{program.said(given=feed)}")
+    page += ".SS Facts of interest\n" + from_markdown(section_of(text, "Facts of interest"))
     page += ".SH EXAMPLES\n.PP\nThe schema of a shop's sales, examples/shop/schema.toml:\n" + example(text_at(f"{shop}/schema.toml"))
     page += ".PP\nThe feed of one of its sources, street.csv, whose last line is refused:\n" + example(text_at(f"{shop}/street.csv"))
     page += ".PP\nWhat was sold in each city, over all products and payments, by the feeds of three sources:\n"
@@ -230,7 +264,8 @@ def formats_in_manual(program):
     page += ".PP\nOne step below Leeds, along the products:\n" + ask("drill", named[0], "'=Leeds,\\A,\\A'", "product", *named[1:])
     page += ".PP\nThe lines that were refused, each with its source, its number and a code:\n" + ask("refusals", *named)
     statuses = text[text.index("| Status | Meaning |") :]
-    return page + ".SH EXIT STATUS\n" + from_markdown(statuses.partition("\n\n")[0])
+    page += ".SH EXIT STATUS\n" + from_markdown(statuses.partition("\n\n")[0])
+    return page + ".SH WHY IT FAILED\n" + from_markdown(section_of(text, "Why it failed").replace("<br>", " "))
 
 
 def commands_of(program):
@@ -271,7 +306,7 @@ def wanted(program):
     )
     made = {
         ARCHITECTURE: architecture_with(text_at(ARCHITECTURE)),
-        FORMATS: formats_with(notes, text_at(FORMATS)),
+        FORMATS: advised(formats_with(notes, text_at(FORMATS))),
         PROMISES: promises.page_with(text_at(PROMISES)),
         DEFINITIONS: bounded(DEFINITIONS),
         README: readme(),

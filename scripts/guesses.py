@@ -96,7 +96,22 @@ def compare(room, rng):
     room.seen.update({"tables": 1, "refused": run.status == 4})
     if not options and any(code != 2 for _, _, code in run.refused):
         return "a line with as many fields as the header is refused under a schema that was guessed"
-    return differs("table", room.run(["table", *options, "f.csv"]), (run.status, run.print(), b""))
+    status, text, err = room.run(["table", *options, "f.csv"])
+    return differs("table", (status, text, untold(run, len(records), err)), (run.status, run.print(), b""))
+
+
+def untold(run, count, err):
+    """What is left of the lines on standard error but for the one that tells how many of so many records were refused, and which
+    is the first of them, with its code; why it was is tried by cases."""
+    if not run.refused:
+        return err
+    refused = len(run.refused)
+    _, number, code = run.refused[0]
+    verb, first = ("was", "it") if refused == 1 else ("were", "the first")
+    begin = f"datacube: {refused} of {count} lines {verb} refused; {first} is f.csv, record {number}: "
+    end = f" (code {code}). datacube refusals shows all.\n"
+    is_told = err.startswith(begin.encode()) and err.endswith(end.encode()) and err.count(b"\n") == 1
+    return b"" if is_told else err
 
 
 if __name__ == "__main__":

@@ -200,6 +200,9 @@ def commands(program):
         for count in (1, 3):
             made[f"print, {count} feeds, {builders} builders"] = (
                 ["print", "--builders", str(builders), "schema.toml", *files[:count]], b"")
+    good = program.write("good.csv", oracle.encode([SAMPLE.header(), ONE, [b"I", b"2", b"east", b"b", b"-3"]]))
+    some = ["--where", "kind=a,b", "--where", "amount>=-3", "--where", "region!=\\N"]
+    made["print --where --strict"] = (["print", "--strict", *some, "schema.toml", good, good], b"")
     made["slice"] = (["slice", "schema.toml", "?,=a", *files[:2]], b"")
     made["drill"] = (["drill", "schema.toml", "\\A,\\A", "kind", *files[:2]], b"")
     made["rollup"] = (["rollup", "schema.toml", "=west,=a", "kind", *files[:2]], b"")
@@ -671,7 +674,7 @@ def hurtful(trials):
                  lambda: near_linear(program, made("numbers"), 12500, 4, session))
 
 
-NAMES = ["region", "kind", "a,b", 'say "so"', "two\nlines", "café", "count(*)", "m)", "\\N", "x" * 40, "Op", "?"]
+NAMES = ["region", "kind", "a,b", 'say "so"', "two\nlines", "café", "count(*)", "m)", "\\N", "x" * 40, "Op", "?", "kind=", "kind<", "m)!", "=", ">="]
 TEXTS = [b"", b"a", b"b", b"west", b"\\N", b"\\A", b"?", b"a,b", b'"', b"two\r\nlines", "grüße".encode(), b"x" * 30,
          b"y" * 3000, b"\\=", b"=a", b" a "]
 NUMBERS = [b"0", b"1", b"-1", b"+5", b"007", b"-0", b"9223372036854775807", b"-9223372036854775808", b"\\N", b"12", b"-12"]
@@ -744,13 +747,16 @@ def random_record(rng, schema, texts, ids):
     dims = [rng.choice(texts + keeps * 3) for _ in schema.dimensions]
     measures = [rng.choice(keeps * 3 + [number_of(rng, schema.decimals.get(it))] * 11) for it in schema.measures]
     kind = rng.random()
-    record = [rng.choice([b"I", b"I", b"I", b"U", b"U"]), b"%d" % rng.randrange(ids), *dims, *measures]
+    operations, by_id = [b"I", b"I", b"I", b"U", b"U"], [b"D"]
+    if schema.feed:
+        operations, by_id = operations + [b"P", b"P", b"P"], [b"D", b"R"]
+    record = [rng.choice(operations), b"%d" % rng.randrange(ids), *dims, *measures]
     if kind < 0.15:
-        return [b"D", record[1]]
+        return [rng.choice(by_id), record[1]]
     if kind < 0.18:
-        return [b"D", *record[1:]]
+        return [rng.choice(by_id), *record[1:]]
     if kind < 0.22:
-        record[rng.randrange(len(record))] = rng.choice([b"", b"\xff", b"X", *WRONG_NUMBERS])
+        record[rng.randrange(len(record))] = rng.choice([b"", b"\xff", b"X", b"P", b"R", *WRONG_NUMBERS])
     elif kind < 0.24:
         record.append(b"more")
     elif kind < 0.25:
@@ -800,6 +806,33 @@ def random_case(rng, by_names=False):
     return schema, feeds
 
 
+SIGNS = [b"=", b"=", b"!=", b"!=", b"<", b"<=", b">", b">="]
+
+
+def random_condition(rng, schema):
+    """A word that says a condition, now and then none."""
+    name = rng.choice(schema.dimensions + schema.measures)
+    sign, values = rng.choice(SIGNS), []
+    for _ in range(rng.choice([1, 1, 2, 3]) if sign in (b"=", b"!=") else 1):
+        text = rng.choice(TEXTS + [b"N", b"1"]) if name in schema.dimensions else number_of(rng, schema.decimals.get(name))
+        values.append(b"\\N" if rng.random() < (0.2 if sign in (b"=", b"!=") else 0.02) else text)
+    kind = rng.random()
+    if kind < 0.03:
+        values = rng.choice([[b"a", b"b"], [rng.choice(WRONG_NUMBERS)]])
+    value = oracle.encode([values], rng if rng.random() < 0.1 else None).removesuffix(b"\n")
+    if kind > 0.98:
+        return rng.choice([name.encode(), name.encode() + sign, sign + value, b"", name.encode() + b"!" + value, name.encode() + sign + b"a\nb"])
+    return name.encode() + sign + value
+
+
+def random_conditions(rng, schema):
+    """The options of a command for some conditions, and what they say, or the code P8."""
+    words = [random_condition(rng, schema) for _ in range(rng.choice([0, 0, 0, 1, 1, 2, 3]))]
+    options = [part for word in words for part in rng.choice([[b"--where", word], [b"--where=" + word]])]
+    conditions = [oracle.condition_of(schema, it) for it in words]
+    return options, "P8" if "P8" in conditions else conditions
+
+
 def expected(schema, feeds, headers):
     """The code of the fault of the lowest source, where one is at fault."""
     for source, (records, is_right) in enumerate(zip(feeds, headers), 1):
@@ -822,30 +855,36 @@ def compare(program, rng):
         files.append(program.write(f"case{at}.csv", mark + data))
     options = ["--ring", str(rng.choice([1, 2, 64, 65536])), "--builders", str(rng.choice([1, 1, 2, 3, 8])),
                *rng.choice([[], ["--threads", str(rng.choice([1, 2, 3, 4, 16]))]])]
-    run = oracle.Run(schema, feeds) if not fault else None
+    whole = oracle.Run(schema, feeds) if not fault else None
+    asked, conditions = random_conditions(rng, schema)
+    strict = rng.choice([[], [], [], ["--strict"]])
+    code = "P8" if conditions == "P8" else fault
+    if strict and whole and whole.refused:
+        code = code or "G7 %d %d %d" % whole.refused[0]
+    run = oracle.Run(schema, feeds, conditions=conditions) if not code else None
     pattern = [rng.choice(["any", "any", None, oracle.ALL, rng.choice(TEXTS[:4])]) for _ in schema.dimensions]
     key = [rng.choice([oracle.ALL, oracle.ALL, None, rng.choice(TEXTS[:4])]) for _ in schema.dimensions]
     place = rng.randrange(len(schema.dimensions))
     name = schema.dimensions[place].encode()
+    some = [*options, *strict, *asked]
     wanted = [
-        (["print", *options, "case.toml", *files], run and run.print()),
-        (["refusals", *options, "case.toml", *files], run and run.refusals()),
-        (["slice", *options, "case.toml", oracle.word_of(pattern), *files], run and run.slice(pattern)),
-        (["drill", *options, "case.toml", oracle.word_of(key), name, *files], run and run.drill(key, place)),
+        (["print", *some, "case.toml", *files], code or run.print()),
+        (["refusals", *options, "case.toml", *files], fault or whole.refusals()),
+        (["slice", *some, "case.toml", oracle.word_of(pattern), *files], code or run.slice(pattern)),
+        (["drill", *some, "case.toml", oracle.word_of(key), name, *files], code or run.drill(key, place)),
     ]
     for words, text in wanted:
         words = words[:1] + [it if isinstance(it, bytes) else it.encode() for it in words[1:]]
         answer = program.run(words, limit=120)
-        code = fault or (text if isinstance(text, str) else None)
-        if code:
-            if answer.code() != code or answer.out:
-                return f"{words[0]}: {code} was to come, and {answer.err[:100]!r} came"
-        elif (answer.status, answer.out, answer.err) != (run.status, text, b""):
+        if isinstance(text, str):
+            if answer.code() != text or answer.out:
+                return f"{words}: {text} was to come, and {answer.err[:100]!r} came"
+        elif (answer.status, answer.out, answer.err) != (whole.status, text, b""):
             return f"{words}: status {answer.status}, {answer.err[:200]!r}, or other text"
     if os.path.exists(BENCH):
         call = [BENCH, "run", "case.toml", *files]
         plain = subprocess.run(call, cwd=program.folder, stdout=subprocess.PIPE, stderr=subprocess.DEVNULL, timeout=120)
-        if (plain.returncode == 0, plain.stdout) != (not fault, b"" if fault else run.print()):
+        if (plain.returncode == 0, plain.stdout) != (not fault, b"" if fault else whole.print()):
             return f"on one thread: status {plain.returncode}, or other text"
     return compare_session(program, rng, schema, feeds, files, fault)
 

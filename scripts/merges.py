@@ -90,18 +90,21 @@ def parts(room, rng):
 
 
 def shards(room, rng):
-    """The shards of feeds: their partial cubes, which are merged, and their refusals."""
+    """The shards of feeds: their partial cubes, now and then of facts of interest, which are merged, and their refusals."""
     schema, feeds = case_of(rng)
     room.write("schema.toml", schema.toml())
     pairs = [hostile.written(rng, schema, it) for it in feeds]
     names, feeds = [room.write(f"feed{at}.csv", data) for at, (data, _) in enumerate(pairs)], [it for _, it in pairs]
-    count, whole = rng.choice([1, 2, 3, 5]), oracle.Run(schema, feeds)
+    options, conditions = hostile.random_conditions(rng, schema)
+    if conditions == "P8":
+        options, conditions = [], []
+    count, whole = rng.choice([1, 2, 3, 5]), oracle.Run(schema, feeds, conditions=conditions)
     texts, refused, partial = [], [], schema.partial()
     for shard in range(1, count + 1):
-        run = oracle.Run(partial, feeds, (shard, count))
+        run = oracle.Run(partial, feeds, (shard, count), conditions)
         texts.append(run.print())
         refused += run.refused
-        for command, text in ((["print", "--partial"], run.print()), (["refusals"], run.refusals())):
+        for command, text in ((["print", "--partial", *options], run.print()), (["refusals"], run.refusals())):
             got = room.run([*command, "--shard", f"{shard}/{count}", "schema.toml", *names])
             why = differs(f"shard {shard}/{count} of {command[0]}", got, (run.status, text, b""))
             if why:

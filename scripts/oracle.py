@@ -14,6 +14,7 @@ import functools
 import hashlib
 import itertools
 import math
+import operator
 import os
 import re
 import stat
@@ -24,6 +25,8 @@ import views
 
 NULL = b"\\N"
 KEEP = b"\\="
+# (operations of which nothing but the id is looked at)
+BY_ID = (b"D", b"R")
 ALL = object()
 KEPT = object()
 LEAST, GREATEST = -(2**63), 2**63 - 1
@@ -133,6 +136,10 @@ class Schema:
 
     def delimiter(self):
         return self.feed.delimiter.encode() if self.feed else b","
+
+    def operations(self):
+        """What the operation of a change may be."""
+        return (b"I", b"U", b"D", b"P", b"R") if self.feed else (b"I", b"U", b"D")
 
     def toml(self):
         lines = [
@@ -248,7 +255,7 @@ class Line:
         """That of a record in the order of the schema."""
         middle = 2 + len(schema.dimensions)
         op, name = (record + [b"", b""])[:2]
-        is_whole = len(record) == middle + len(schema.measures) or op == b"D" and len(record) == 2
+        is_whole = len(record) == middle + len(schema.measures) or op in BY_ID and len(record) == 2
         return Line(op, name, [(it, None) for it in record[2:middle]], record[middle:], is_whole, schema.nulls() + [NULL])
 
     @staticmethod
@@ -306,22 +313,22 @@ def is_text(field):
 
 def change_of(schema, line):
     """The change of a line as (op, id, dims, measures), or the number of its fault."""
-    if line.op not in (b"I", b"U", b"D"):
+    if line.op not in schema.operations():
         return 1
     if not line.is_whole:
         return 2
-    used = [] if line.op == b"D" else [it for it, _ in line.dims] + line.measures
+    used = [] if line.op in BY_ID else [it for it, _ in line.dims] + line.measures
     if not all(map(is_text, [line.id, *used])):
         return 3
     if line.id == b"":
         return 4
-    if line.op == b"D":
+    if line.op in BY_ID:
         return line.op, line.id, None, None
     measures = [measure_of(schema, line, *it) for it in zip(schema.measures, line.measures)]
     if "wrong" in measures:
         return 5
     dims = [dimension_of(schema, it, first) for it, first in line.dims]
-    if line.op == b"I" and KEPT in dims + measures:
+    if line.op != b"U" and KEPT in dims + measures:
         return 6
     return line.op, line.id, dims, measures
 
@@ -373,11 +380,11 @@ class Source:
         present = 7 if self.schema.version == 2 else 6
         if op == b"I" and name in self.book:
             return present
-        if op != b"I" and name not in self.book:
+        if op in (b"U", b"D") and name not in self.book:
             return present + 1
-        if op == b"D":
-            del self.book[name]
-        elif op == b"I":
+        if op in BY_ID:
+            self.book.pop(name, None)
+        elif op != b"U":
             self.book[name] = (dims, measures)
         else:
             old = self.book[name]
@@ -465,16 +472,18 @@ def text_of_refusals(refused):
 
 
 class Run:
-    """What a run over the data records of several feeds prints, row by row, with its refusals and its status."""
+    """What a run over the data records of several feeds prints of the facts of which all conditions hold, row by row, with its
+    refusals and its status."""
 
     view = staticmethod(lambda text: text)
 
-    def __init__(self, schema, feeds, shard=(1, 1)):
+    def __init__(self, schema, feeds, shard=(1, 1), conditions=()):
         self.schema, self.sources = schema, [Source(schema) for _ in feeds]
         for source, records in zip(self.sources, feeds):
             for record in records:
                 source.take(record, shard)
-        self.facts = [fact for source in self.sources for fact in source.book.values()]
+        present = [fact for source in self.sources for fact in source.book.values()]
+        self.facts = [fact for fact in present if all(it.holds(fact) for it in conditions)]
         self.rows = rows_of(schema, self.facts)
         self.refused = [(at, *it) for at, source in enumerate(self.sources, 1) for it in source.refusals]
         self.status = 4 if self.refused else 0
@@ -906,6 +915,55 @@ def place_of(schema, name):
     return names.index(name) if name in names else None
 
 
+# (the operators of conditions, each before one that it begins with)
+OPERATORS = {b"!=": None, b">=": operator.ge, b"<=": operator.le, b"=": None, b"<": operator.lt, b">": operator.gt}
+
+
+class Condition:
+    """What is wanted of a fact: the place of a dimension or, behind these, a measure, an operator, and the values, None for null."""
+
+    def __init__(self, place, sign, values):
+        self.place, self.sign, self.values = place, sign, values
+
+    def holds(self, fact):
+        value = [*fact[0], *fact[1]][self.place]
+        if self.sign in (b"=", b"!="):
+            return (value in self.values) == (self.sign == b"=")
+        return value is not None and OPERATORS[self.sign](value, self.values[0])
+
+
+def condition_of(schema, word):
+    """The condition that a word says, or the code P8."""
+    names = [it.encode() for it in schema.dimensions + schema.measures]
+    begun = [(name, sign) for name in names if word.startswith(name) for sign in OPERATORS if word.startswith(name + sign)]
+    if not begun:
+        return "P8"
+    name = max((it for it, _ in begun), key=len)
+    sign = next(it for of, it in begun if of == name)
+    records = records_of(word[len(name + sign) :])
+    values = [wanted_value(schema, name.decode(), it) for record in records for it in record]
+    is_one = len(values) == 1 and None not in values
+    if len(records) != 1 or "wrong" in values or not is_one and sign not in (b"=", b"!="):
+        return "P8"
+    return Condition(names.index(name), sign, values)
+
+
+def wanted_value(schema, name, field):
+    """The text, or the units of a measure, that a field of a condition says of the name, None for null, or "wrong"."""
+    if field == NULL or name in schema.dimensions:
+        return None if field == NULL else field
+    value = number(field, schema.decimals.get(name))
+    return "wrong" if value is None else value
+
+
+def conditions_of(schema, words):
+    """The conditions that words say, all of which have to be right."""
+    conditions = [condition_of(schema, it) for it in words]
+    if "P8" in conditions:
+        raise Failure("P8", 2)
+    return conditions
+
+
 def is_up_to(most):
     return lambda word: word.isdigit() and 1 <= int(word) <= most
 
@@ -922,9 +980,12 @@ def is_shard(word):
 # (whether an option's word is right; None where it has none)
 OPTIONS = {b"--ring": is_up_to(65536), b"--builders": is_up_to(8), b"--threads": is_up_to(16), b"--shard": is_shard,
            b"--commit-every": is_up_to(1000000), b"--by": is_text, b"--of": is_text, b"--partial": None, b"--check": None,
-           b"--json": None, b"--aligned": None, b"--width": is_between(20, 10000)}
+           b"--json": None, b"--aligned": None, b"--width": is_between(20, 10000), b"--where": is_text, b"--strict": None}
+# (options that may stand several times)
+REPEATED = [b"--where"]
 OF_FEEDS = [b"--ring", b"--builders", b"--threads", b"--shard"]
 OF_VIEWS = [b"--json", b"--aligned", b"--width"]
+OF_CUBES = [*OF_VIEWS, b"--where", b"--strict"]
 
 
 class Words:
@@ -945,9 +1006,10 @@ class Words:
             check = OPTIONS.get(name)
             if check and not has_value:
                 value = words.pop(0) if words else b""
-            if name not in options or name in self.options or not (check(value) if check else not has_value):
+            is_again = name in self.options and name not in REPEATED
+            if name not in options or is_again or not (check(value) if check else not has_value):
                 raise wrong_words(b"'%s' for '%s'" % (value, name))
-            self.options[name] = value
+            self.options[name] = [*self.options.get(name, []), value] if name in REPEATED else value
         if not least <= len(self.rest) <= most or not all(map(is_text, self.rest)):
             raise wrong_words(b"another number of words is wanted, in UTF-8")
 
@@ -1019,10 +1081,19 @@ def run_of(words, at, *others):
     place = place_of(schema, given.rest[2]) if at > 2 else None
     if at > 2 and place is None:
         raise Failure("P5", 2)
-    feeds = read_feeds(schema, given.rest[at:])
-    run = Run(schema.partial() if b"--partial" in given.options else schema, feeds, given.shard())
-    run.view = view_of(given.options, schema)
+    form = schema.partial() if b"--partial" in given.options else schema
+    run = run_over(form, given, given.rest[at:])
     return run, wanted, place
+
+
+def run_over(schema, given, paths):
+    """The run over feeds that a command with cubes makes."""
+    conditions = conditions_of(schema, given.options.get(b"--where", []))
+    run = Run(schema, read_feeds(schema, paths), given.shard(), conditions)
+    if b"--strict" in given.options and run.refused:
+        raise Failure("G7 %d %d %d" % run.refused[0], 1)
+    run.view = view_of(given.options, schema)
+    return run
 
 
 def view_of(options, schema):
@@ -1073,7 +1144,7 @@ def check_command(words):
 
 
 def print_command(words):
-    run, _, _ = run_of(words, 1, b"--partial", *OF_VIEWS)
+    run, _, _ = run_of(words, 1, b"--partial", *OF_CUBES)
     return written(run, run.print())
 
 
@@ -1083,17 +1154,17 @@ def refusals_command(words):
 
 
 def slice_command(words):
-    run, wanted, _ = run_of(words, 2, *OF_VIEWS)
+    run, wanted, _ = run_of(words, 2, *OF_CUBES)
     return written(run, run.slice(wanted))
 
 
 def drill_command(words):
-    run, wanted, place = run_of(words, 3, *OF_VIEWS)
+    run, wanted, place = run_of(words, 3, *OF_CUBES)
     return written(run, run.drill(wanted, place))
 
 
 def rollup_command(words):
-    run, wanted, place = run_of(words, 3, *OF_VIEWS)
+    run, wanted, place = run_of(words, 3, *OF_CUBES)
     return written(run, run.rollup(wanted, place))
 
 
@@ -1154,13 +1225,11 @@ def schema_command(words):
 
 
 def table_command(words):
-    given = Words(words, [*OF_FEEDS, b"--by", b"--of", *OF_VIEWS], 1, sys.maxsize)
+    given = Words(words, [*OF_FEEDS, b"--by", b"--of", *OF_CUBES], 1, sys.maxsize)
     one_form(given)
     if len(given.rest) > MOST_FEEDS:
         raise Failure("too many feeds", 2)
-    schema = schema_of(made_text(given))
-    run = Run(schema, read_feeds(schema, given.rest), given.shard())
-    run.view = view_of(given.options, schema)
+    run = run_over(schema_of(made_text(given)), given, given.rest)
     return written(run, run.print())
 
 

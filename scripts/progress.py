@@ -295,10 +295,12 @@ def writing(trial):
 
 
 def failing(trial):
-    """Of a run that fails, the line that tells so stays alone."""
+    """Of a run that fails, the line that tells so and those that say why stay alone."""
     trial.write("schema.toml", b"max_records = 10\n" + SCHEMA.encode())
-    status, output, terminal = trial.run("print", "schema.toml", slow(trial))
-    return first(differs((status, output), (1, b"")), is_steady(terminal, 1), is_gone(terminal, ["datacube: G3 1 F4"])), terminal
+    name = slow(trial)
+    status, output, terminal = trial.run("print", "schema.toml", name)
+    said = [f"  {name} has more data records than max_records, which is 10", "  Raise max_records in the schema, or leave lines out."]
+    return first(differs((status, output), (1, b"")), is_steady(terminal, 1), is_gone(terminal, ["datacube: G3 1 F4", *said])), terminal
 
 
 def quick(trial):

@@ -140,7 +140,7 @@ HAVING bool_and(op <> 'D');
 CUBE = """
 SELECT
     {columns}
-FROM facts
+FROM facts{where}
 GROUP BY {grouping}{order}
 """
 
@@ -150,8 +150,31 @@ def name_of(text):
     return '"' + text.replace('"', '""') + '"'
 
 
-def statements(schema):
-    """The SQL over a schema's records: a statement for the changes, the judged ones, the refusals, facts and cube."""
+def literal(text):
+    """A text of SQL."""
+    return "'" + text.replace("'", "''") + "'"
+
+
+def where_of(schema, conditions):
+    """What conditions of `--where` are in SQL: a WHERE clause over the facts."""
+    return "\nWHERE " + "\n    AND ".join(clause_of(schema, it) for it in conditions) if conditions else ""
+
+
+def clause_of(schema, condition):
+    """What a condition is in SQL. Texts are compared by their bytes, and null is unequal to each value."""
+    names, at = schema.dimensions + schema.measures, condition.place - len(schema.dimensions)
+    said = lambda it: "NULL" if it is None else literal(it.decode()) if at < 0 else oracle.decimal(it, schema.places(at))
+    name, values = name_of(names[condition.place]), [said(it) for it in condition.values]
+    if condition.sign == b"=":
+        return "(" + " OR ".join(f"{name} IS NOT DISTINCT FROM {it}" for it in values) + ")"
+    if condition.sign == b"!=":
+        return "(" + " AND ".join(f"{name} IS DISTINCT FROM {it}" for it in values) + ")"
+    return f"{name} " + ('COLLATE "C" ' if at < 0 else "") + f"{condition.sign.decode()} {values[0]}"
+
+
+def statements(schema, conditions=()):
+    """The SQL over a schema's records: a statement for the changes, the judged ones, the refusals, facts and the cube of those of
+    which conditions hold."""
     keeps = schema.version == 2
     middle = 3 + len(schema.dimensions)
     width = middle - 1 + len(schema.measures)
@@ -167,7 +190,7 @@ def statements(schema):
         "judged": JUDGED,
         "refusals": REFUSALS.format(present=7 if keeps else 6, absent=8 if keeps else 7),
         "facts": FACTS.format(columns=",\n    ".join(fact_columns(schema))),
-        "cube": cube(schema),
+        "cube": cube(schema, conditions),
     }
 
 
@@ -191,8 +214,9 @@ def functions_of(schema):
     return [IS_NUMBER, *([IS_DECIMAL] if schema.decimals else []), FRACTION]
 
 
-def cube(schema):
-    """The query for a schema's cube over the facts that are present; a dimension that no kept set has is ALL always."""
+def cube(schema, conditions=()):
+    """The query for a schema's cube over the facts that are present and of which conditions hold; a dimension that no kept set has
+    is ALL always."""
     kept = [it for at, it in enumerate(schema.dimensions) if any(mask >> at & 1 for mask in schema.masks)]
     columns = [", ".join(name_of(it) if it in kept else f"NULL AS {name_of(it)}" for it in schema.dimensions)]
     for it in schema.dimensions:
@@ -205,7 +229,8 @@ def cube(schema):
         columns.append(f"{call} AS {name_of(text)}")
     order = [f'grouping({name}), {name} COLLATE "C" NULLS LAST' for name in map(name_of, kept)]
     ordered = "\nORDER BY\n    " + ",\n    ".join(order) if order else ""
-    return CUBE.format(columns=",\n    ".join(columns), grouping=grouping_of(schema), order=ordered)
+    where = where_of(schema, conditions)
+    return CUBE.format(columns=",\n    ".join(columns), where=where, grouping=grouping_of(schema), order=ordered)
 
 
 def grouping_of(schema):
@@ -216,9 +241,9 @@ def grouping_of(schema):
     return "GROUPING SETS (" + ", ".join(map(list_of, schema.grouping)) + ")"
 
 
-def script_of(schema, feeds):
+def script_of(schema, feeds, conditions=()):
     """What psql is given: the records, and then the statements, of which two are copied out."""
-    made = statements(schema)
+    made = statements(schema, conditions)
     copied = lambda query: rf"COPY ({query}) TO STDOUT WITH (FORMAT csv, NULL '\N');" + "\n"
     return "".join([
         RECORDS, copy_records(feeds), made["changes"], made["judged"], made["facts"], copied(made["refusals"]),
@@ -353,7 +378,7 @@ class Trials:
 
     def __init__(self, server, program, room):
         self.server, self.program, self.room = server, program, room
-        self.passed = self.failed = self.records = self.lines = self.refused = self.left_out = 0
+        self.passed = self.failed = self.records = self.lines = self.refused = self.left_out = self.conditions = 0
 
     def note(self, name, why, is_shown=True):
         """Counts a case, which failed where it says why."""
@@ -361,10 +386,10 @@ class Trials:
         if why or is_shown:
             print(f"{'FAILED ' if why else 'ok     '} {name}" + (f": {why}" if why else ""), flush=True)
 
-    def trial(self, name, schema_path, paths, is_shown=True):
-        """Compares over a schema's feeds, and counts that as a case."""
+    def trial(self, name, schema_path, paths, is_shown=True, words=()):
+        """Compares over a schema's feeds, of the facts that the words of conditions say, and counts that as a case."""
         try:
-            why = self.compare(schema_path, paths)
+            why = self.compare(schema_path, paths, words)
         except (OSError, RuntimeError, csv.Error, subprocess.SubprocessError) as error:
             why = str(error)
         self.note(name, why, is_shown)
@@ -379,22 +404,25 @@ class Trials:
         self.left_out += len(records) - len(kept)
         return kept
 
-    def compare(self, schema_path, paths):
-        """Says how the program and SQL differ over the feeds, or gives None."""
+    def compare(self, schema_path, paths, words=()):
+        """Says how the program and SQL differ over the feeds, of the facts that words say, or gives None."""
         files, feeds = [], []
         for at, path in enumerate(paths):
             records = read_feed(path)
             kept = self.kept(records)
             feeds.append(kept[1:])
             files.append(path if kept == records else self.write(f"kept{at}.csv", oracle.encode(kept)))
-        ran = {it: self.run([it, schema_path, *files]) for it in ("refusals", "print")}
+        some = [part for it in words for part in (b"--where", it)]
+        ran = {it: self.run([it, *options, schema_path, *files]) for it, options in (("refusals", []), ("print", some))}
         for it in ran.values():
             if it.returncode not in (0, 4):
                 return it.stderr.decode(errors="replace").strip()
         schema = read_schema(schema_path)
         if any(len(it.encode()) > LONGEST_NAME or "\0" in it for it in schema.dimensions + schema.measures):
             return f"PostgreSQL holds no name of a column with a NUL or more than {LONGEST_NAME} bytes"
-        refusals, _, rows = self.server.ask(script_of(schema, feeds)).partition(END_OF_REFUSALS)
+        script = script_of(schema, feeds, oracle.conditions_of(schema, words))
+        refusals, _, rows = self.server.ask(script).partition(END_OF_REFUSALS)
+        self.conditions += len(words)
         self.records += sum(map(len, feeds))
         self.refused += refusals.count(b"\n")
         self.lines += rows.count(b"\n")
@@ -410,7 +438,7 @@ class Trials:
         return path
 
     def seen(self):
-        said = f"{self.records} records, {self.refused} refused, {self.lines} lines of cubes"
+        said = f"{self.records} records, {self.refused} refused, {self.lines} lines of cubes, {self.conditions} conditions"
         left = f"; {self.left_out} records left out, with a NUL or bytes that aren't UTF-8"
         return said + (left if self.left_out else "")
 
@@ -433,6 +461,8 @@ def examples(trials):
     shop = f"{ROOT}/examples/shop"
     feeds = [f"{shop}/{it}.csv" for it in ("market", "street", "online")]
     trials.trial("examples/shop", f"{shop}/schema.toml", feeds)
+    for words in (["city=Leeds,York"], ["city!=York", "cents>=400"], ["city=\\N"], ["product<tea", "pieces!=\\N,1"]):
+        trials.trial(f"examples/shop, {' and '.join(words)}", f"{shop}/schema.toml", feeds, words=[it.encode() for it in words])
     with open(f"{ROOT}/docs/SQL.md", encoding="utf-8") as file:
         page = file.read()
     parts = [IS_NUMBER, IS_DECIMAL, FRACTION, RECORDS, *statements(read_schema(f"{shop}/schema.toml")).values()]
@@ -441,14 +471,16 @@ def examples(trials):
 
 
 def generated(trials, count, seed):
-    """Generated schemas, each with its feeds."""
+    """Generated schemas, each with its feeds, and most with conditions."""
     for at in range(count):
         rng = random.Random(f"{seed} {at}")
         schema, feeds = hostile.random_case(rng)
         schema.max_records = 2**32 - 1
         written = [oracle.encode([schema.header(), *trials.kept(records)], rng) for records in feeds]
         files = [trials.write(f"feed{number}.csv", it) for number, it in enumerate(written)]
-        trials.trial(f"generated case {at} of seed {seed}", trials.write("schema.toml", schema.toml()), files, False)
+        words = [hostile.random_condition(rng, schema) for _ in range(rng.choice([0, 1, 1, 2, 3]))]
+        words = [it for it in words if oracle.condition_of(schema, it) != "P8"]
+        trials.trial(f"generated case {at} of seed {seed}", trials.write("schema.toml", schema.toml()), files, False, words)
     print(f"        {count} generated cases of seed {seed}")
 
 

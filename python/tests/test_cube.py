@@ -109,6 +109,72 @@ class Shop(unittest.TestCase):
                 self.assertEqual(file.read(), cube.text.encode())
 
 
+class FactsOfInterest(unittest.TestCase):
+    """Conditions of the facts that count."""
+
+    def test_the_shop(self):
+        cube = jackraisin.cube(SCHEMA, FEEDS, where="city=York,Leeds")
+        self.assertEqual((cube.at({})["sum(cents)"], cube.refused), (3250, True))
+        cube = jackraisin.cube(SCHEMA, FEEDS, where=["city!=York", "cents>=700"])
+        self.assertEqual({it["city"] for it in cube}, {"Leeds", None, ALL})
+        self.assertEqual(jackraisin.cube(SCHEMA, FEEDS, where=()).text, read("cube"))
+        self.assertEqual(jackraisin.slice(SCHEMA, FEEDS, {"city": ANY}, where="city=York")[-1]["sum(cents)"], 800)
+        self.assertEqual([it["city"] for it in jackraisin.drill(SCHEMA, FEEDS, {}, "city", where=[r"city=\N,Leeds"])], ["Leeds", None])
+        self.assertEqual(jackraisin.rollup(SCHEMA, FEEDS, {"city": "York"}, "city", where="cents<0")[0]["count(*)"], 0)
+        shards = [jackraisin.cube(SCHEMA, FEEDS, shard=(at, 2), partial=True, where="city=York") for at in (1, 2)]
+        self.assertEqual(jackraisin.merge(SCHEMA, shards).text, jackraisin.cube(SCHEMA, FEEDS, where="city=York").text)
+
+    def test_generated(self):
+        for seed in range(40):
+            rng = random.Random(f"where {seed}")
+            schema, feeds = beside.small_case(rng)
+            words = [hostile.random_condition(rng, schema).decode() for _ in range(rng.choice([1, 1, 2, 3]))]
+            conditions = [oracle.condition_of(schema, it.encode()) for it in words]
+            with self.subTest(seed=seed, words=words), beside.written(schema, feeds, rng) as paths:
+                if "P8" in conditions:
+                    with self.assertRaises(jackraisin.Failure) as caught:
+                        jackraisin.cube(beside.schema_like(schema), paths, where=words)
+                    self.assertEqual((caught.exception.line, caught.exception.status), ("P8", 2))
+                    continue
+                cube = jackraisin.cube(beside.schema_like(schema), paths, where=words)
+                self.assertEqual(cube.text.encode(), oracle.Run(schema, feeds, conditions=conditions).print())
+
+    def test_what_is_no_condition(self):
+        for where in ("city", ["city=York", "town=York"], "cents=few", "cents=1,2\n3"):
+            with self.assertRaises(jackraisin.Failure) as caught:
+                jackraisin.cube(SCHEMA, FEEDS, where=where)
+            self.assertEqual((caught.exception.code, caught.exception.status), ("P8", 2))
+        for how in ({"where": "city=York"}, {"strict": True}):
+            with self.assertRaises(jackraisin.Failure) as caught:
+                jackraisin.cube(SCHEMA, FEEDS, store="nowhere.db", **how)
+            self.assertEqual((caught.exception.code, caught.exception.status), ("error:", 2))
+        self.assertRaises(TypeError, jackraisin.cube, SCHEMA, FEEDS, where=[b"city=York"])
+        self.assertRaises(jackraisin.Unsayable, jackraisin.cube, SCHEMA, FEEDS, where="city=\ud800")
+
+
+class Strict(unittest.TestCase):
+    """A refused line is a failure."""
+
+    def test_each_question(self):
+        calls = [
+            lambda **how: jackraisin.cube(SCHEMA, FEEDS, **how),
+            lambda **how: jackraisin.cube(SCHEMA, FEEDS, partial=True, where="city=nowhere", **how),
+            lambda **how: jackraisin.slice(SCHEMA, FEEDS, {"city": ANY}, **how),
+            lambda **how: jackraisin.drill(SCHEMA, FEEDS, {}, "city", **how),
+            lambda **how: jackraisin.rollup(SCHEMA, FEEDS, {"city": "York"}, "city", **how),
+        ]
+        for call in calls:
+            self.assertTrue(call(strict=False).refused)
+            with self.assertRaises(jackraisin.Failure) as caught:
+                call(strict=True)
+            self.assertEqual((caught.exception.line, caught.exception.code, caught.exception.status), ("G7 2 5 7", "G7", 1))
+            self.assertIn("id that is present", caught.exception.meaning)
+
+    def test_nothing_is_refused(self):
+        cube = jackraisin.cube(SCHEMA, FEEDS[0], strict=True)
+        self.assertEqual((cube.text, cube.refused), (jackraisin.cube(SCHEMA, FEEDS[0]).text, False))
+
+
 class LongTexts(unittest.TestCase):
     """Texts that are longer than the fields that csv takes, whose limit is one for the whole process."""
 

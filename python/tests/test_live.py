@@ -46,15 +46,16 @@ class Player:
         return [Decimal(it).scaleb(-places) for it in units] + [0, -7, Decimal("-0.0")] if places else units
 
     def change(self):
-        source, name, op = self.rng.choice([1, 2, 3, 64]), f"id {self.rng.randrange(6)}", self.rng.choice("IIUUD")
+        source, name, op = self.rng.choice([1, 2, 3, 64]), f"id {self.rng.randrange(6)}", self.rng.choice("IIUUDPPR" if self.schema.feed else "IIUUD")
         dims, measures = self.values(op == "U")
         field = lambda it: b"\\N" if it is None else b"\\=" if it is KEEP else (f"{it:f}" if isinstance(it, Decimal) else str(it)).encode()
-        fields = [] if op == "D" else list(map(field, [*dims, *measures]))
+        fields = [] if op in "DR" else list(map(field, [*dims, *measures]))
         self.played.reply([b"%d" % source, op.encode(), name.encode(), *fields])
-        if op == "D":
-            self.live.delete(source, name)
+        if op in "DR":
+            (self.live.delete if op == "D" else self.live.remove)(source, name)
         else:
-            (self.live.insert if op == "I" else self.live.update)(source, name, self.given(self.schema.dimensions, dims), self.given(self.schema.measures, measures))
+            make = {"I": self.live.insert, "U": self.live.update, "P": self.live.put}[op]
+            make(source, name, self.given(self.schema.dimensions, dims), self.given(self.schema.measures, measures))
 
     def given(self, names, values):
         """Values in order, or by names without those that are kept."""
@@ -99,6 +100,47 @@ class Generated(unittest.TestCase):
                         player.change() if rng.random() < 0.7 else player.question(self)
                     self.assertEqual(live.cube().text.encode(), played.run().print())
                 self.assertEqual(live.status, played.status())
+
+
+@needs("live")
+class Puts(unittest.TestCase):
+    """Changes that no id's being there refuses, under a schema with `feed`."""
+
+    def test_generated(self):
+        for seed in range(12):
+            rng = random.Random(f"puts {seed}")
+            schema, _ = beside.small_case(rng)
+            schema.max_records, schema.feed = 2**32 - 1, oracle.Feed()
+            played = oracle.Session(schema, [])
+            with self.subTest(seed=seed), Live(beside.schema_like(schema)) as live:
+                player = Player(rng, schema, live, played)
+                for _ in range(rng.choice([5, 60])):
+                    player.change() if rng.random() < 0.8 else player.question(self)
+                self.assertEqual(live.cube().text.encode(), played.run().print())
+                self.assertEqual(live.refusals(), played.refused())
+
+    def test_twice_and_what_is_absent(self):
+        with Live(NAMED) as live:
+            live.remove(1, "a")
+            live.put(1, "a", ["west"], [5])
+            live.put(1, "a", {"region": "east"}, {"amount": None})
+            live.put(1, "b", ["east"], [7])
+            live.remove(1, "b")
+            live.remove(1, "b")
+            self.assertEqual([(it.key, it.answers) for it in live.cube()], [(("east",), (1, None)), ((ALL,), (1, None))])
+        self.assertEqual(live.status, 0)
+
+    def test_what_cant_be_said(self):
+        with Live(PLAIN) as live:
+            self.assertRaises(jackraisin.Unsayable, live.put, 1, "a", ["west", "a"], [5])
+            self.assertRaises(jackraisin.Unsayable, live.remove, 1, "a")
+        with Live(CENTS) as live:
+            self.assertRaises(jackraisin.Unsayable, live.put, 1, "a", [KEEP], [5, 1])
+            self.assertRaises(jackraisin.Unsayable, live.put, 1, "a", ["west"], [5, KEEP])
+            self.assertRaises(jackraisin.Unsayable, live.put, 1, "", ["west"], [5, 1])
+            self.assertRaises(jackraisin.Unsayable, live.remove, 1, "")
+            self.assertRaises(jackraisin.Unsayable, live.put, 1, "a", {}, [5, 1])
+            self.assertEqual(live.cube()[0].answers[0], 0)
 
 
 @needs("live")

@@ -306,12 +306,18 @@ def environment():
     return {**os.environ, "PYTHONPATH": f"{beside.ROOT}/python/src", "TMPDIR": PRIVATE.folder_for_others()}
 
 
+def interruptible():
+    """As from a terminal: a shell that runs the tests in the background has them start with SIGINT ignored."""
+    signal.signal(signal.SIGINT, signal.SIG_DFL)
+
+
 class Command:
     """The command, asked over its standard input."""
 
     def __init__(self, *words):
         pipes = {"stdin": subprocess.PIPE, "stdout": subprocess.PIPE, "stderr": subprocess.DEVNULL}
-        self.process = subprocess.Popen([sys.executable, "-m", "jackraisin.postgres", *words], env=environment(), **pipes)
+        command = [sys.executable, "-m", "jackraisin.postgres", *words]
+        self.process = subprocess.Popen(command, env=environment(), preexec_fn=interruptible, **pipes)
 
     def ask(self, question):
         self.process.stdin.write(f"{question}\n".encode())

@@ -8,3 +8,4 @@ mod WholeLaws
 mod DraftLaws
 mod PartLaws
 mod ShareLaws
+mod InterestLaws

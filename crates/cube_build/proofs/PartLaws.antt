@@ -94,7 +94,7 @@ all-alike s (items ∷ feeds) (a ∷ own) (b ∷ other) stand stand' =
     (all-alike s feeds own other stand.1 stand'.1)
 
 -- and ledgers of one schema and as many sources that stand at one arrival list
-ledgers-alike : (s : Layout) (sources : ℕ) (arrivals : Arrivals) (a b : LedgerView) → a.schema ≡ s → b.schema ≡ s
+pub ledgers-alike : (s : Layout) (sources : ℕ) (arrivals : Arrivals) (a b : LedgerView) → a.schema ≡ s → b.schema ≡ s
     → length a.accounts ≡ sources → length b.accounts ≡ sources →
     LedgerStandsAt a arrivals → LedgerStandsAt b arrivals → IsPermutation (all_facts a.accounts) (all_facts b.accounts)
 ledgers-alike s sources arrivals a b schema_a schema_b all_a all_b stand_a stand_b =

@@ -6,3 +6,4 @@ pub mod Joined
 pub mod Drafts
 pub mod Parts
 pub mod Shares
+pub mod Interest

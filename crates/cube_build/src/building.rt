@@ -1,6 +1,7 @@
 //! The build: builders of the feeds of all sources, in threads.
 ghost use Rattle.std.specs.Prelude.{◌≡◌, ◌≤◌, [], map, vec_len, IfOk, IfErr, OnOk};
 ghost use Rattle.cube_rings.specs.FeedingAll.{ExplainsFeeding};
+ghost use Rattle.cube_build.specs.Interest.{BuildsWhere, gathered_of_interest};
 ghost use Rattle.cube_build.specs.Parts.{AreAllMade, BuildsParts, schema_of_run};
 ghost use Rattle.cube_build.specs.Shares.{TakenInParts};
 
@@ -8,7 +9,7 @@ use crate::built::Built;
 use crate::draft::{Draft, new_drafts};
 use crate::making::{Making, make_all};
 use crate::shares::feed_in_shares;
-use cube_core::Schema;
+use cube_core::{Condition, Schema};
 use cube_rings::{FeedingFault, Gate, Gatherer, Settings, feed_all};
 use std::alloc::{AllocError, Global};
 use std::io::Read;
@@ -96,5 +97,43 @@ pub fn build<T: Threads + Wait + Sync, R: Read + Drop + Send, G: Gate + Sync>(
     match complete(rt, settings.threads(), gatherers, &mut making) {
         Ok(()) => Ok(Built::of(making)),
         Err(_) => Err(FeedingFault::Full),
+    }
+}
+
+/// Builds the feeds as [`build`] does, and counts the facts of interest alone: those that survive and of which all conditions
+/// hold. They are looked for once the feeds have ended, so refusals and faults are the same whatever the conditions; with no
+/// condition nothing is looked at.
+pub fn build_where<T: Threads + Wait + Sync, R: Read + Drop + Send, G: Gate + Sync>(
+    rt: &T,
+    alloc: Global,
+    schema: &Schema,
+    readers: Vec<R>,
+    settings: &Settings,
+    gate: &G,
+    conditions: &[Condition],
+) -> Result<Built, FeedingFault>
+    requires readers { (1 ≤ vec_len readers) × (vec_len readers ≤ 64) }
+    ensures ok { IfOk result (BuildsWhere schema.now conditions.now
+        (map R.Read.remaining readers.items) settings.now.builders) }
+    ensures schema { IfOk result (λ built. schema_of_run built ≡ schema.now) }
+    ensures err { IfErr result (ExplainsFeeding schema.now (map R.Read.remaining readers.items)) }
+{
+    let Ok(mut making) = Making::with_room(alloc, settings.builders() as usize) else {
+        return Err(FeedingFault::Memory);
+    };
+    let mut gatherers = feed_parts(rt, alloc, schema, readers, settings, gate)?;
+    keep_of_interest(gatherers.as_mut_slice(), conditions);
+    match complete(rt, settings.threads(), gatherers, &mut making) {
+        Ok(()) => Ok(Built::of(making)),
+        Err(_) => Err(FeedingFault::Full),
+    }
+}
+
+// Keeps the facts of interest of every draft.
+fn keep_of_interest(gatherers: &mut [Gatherer<Draft>], conditions: &[Condition])
+    ensures { gatherers.new ≡ map (gathered_of_interest conditions.now) gatherers.old }
+{
+    for gatherer in gatherers.iter_mut() {
+        gatherer.builder.keep(conditions);
     }
 }

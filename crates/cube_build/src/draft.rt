@@ -3,10 +3,11 @@ ghost use Rattle.std.specs.Prelude.{◌≡◌, ◌≤◌, ◌<◌, ◌++◌, ◌
 ghost use Rattle.std.specs.List.{All};
 ghost use Rattle.cube_core.specs.Arrival.{Arrivals};
 ghost use Rattle.cube_build.specs.Drafts.{DraftView, StandsFrom, IsNewDraft, AreNewDrafts, IsDraftOf, IsMadeOf};
+ghost use Rattle.cube_build.specs.Interest.{draft_of_interest};
 
 use crate::builder::Builder;
 use cube_cells::{Cube, Summary};
-use cube_core::Schema;
+use cube_core::{Condition, Schema};
 use cube_feed::{FeedItem, TakesItems};
 use cube_ledger::Ledger;
 use std::alloc::{AllocError, Global};
@@ -99,6 +100,13 @@ impl Draft {
             StandsFrom first self.old arrivals → StandsFrom first self.new arrivals) }
     {
         self.ledger.apply_fed(source, item)
+    }
+
+    /// Keeps the facts of interest of the ledger alone. It takes no memory.
+    pub fn keep(&mut self, conditions: &[Condition])
+        ensures { self.new ≡ draft_of_interest conditions.now self.old }
+    {
+        self.ledger.keep(conditions);
     }
 
     /// The builder of the ledger, with the cube filled by so many threads. The only error is that memory ran out.

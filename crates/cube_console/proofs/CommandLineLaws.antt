@@ -2,12 +2,12 @@
 use Rattle.std.proofs.Common.{◌≡◌, ◌≤◌, ◌∙◌, Bor, List, [], ◌∷◌, false, true, length, refl, sym, ap, subst, arith}
 use Rattle.std.specs.Prelude.{Option, Some, None, Result, Ok, IfErr, IfSome, MatchResult, codes, slice_index}
 use Rattle.std.specs.Prelude.{option_map, unwrap_or}
-use Rattle.clap.specs.Words.{HasMatchesOf, Row, Text, first_of, is_simple, subcommand_of, subcommand_rows_of, takes}
+use Rattle.clap.specs.Words.{HasMatchesOf, Row, Text, first_of, is_simple, one_of, subcommand_of, subcommand_rows_of, takes}
 use Rattle.clap.specs.declared.Error.{Error}
 use Rattle.clap.specs.declared.parser.matches.ArgMatches.{ArgMatches}
 use Rattle.clap.proofs.OnLiterals.{clap_on_literals}
 use Rattle.cube_console.specs.CommandLine.{AsksToCheck, AsksToExplain, IsInBounds, IsRequest, begins_as_flag}
-use Rattle.cube_console.specs.CommandLine.{command_line}
+use Rattle.cube_console.specs.CommandLine.{command_line, is_given, words_of}
 use Rattle.cube_console.specs.declared.request.Request.{Request}
 use Rattle.cube_console.specs.declared.request.Request.TheVariants.{Sample, Check, Explain, Print, Refusals, Slice, Drill}
 use Rattle.cube_console.specs.declared.request.Request.TheVariants.{RollUp, Live, Merge, Schema, Table}
@@ -54,10 +54,14 @@ pub takes-explain : (name : Text) → takes command_line (name ∷ codes "explai
 unfolding clap_on_literals
 takes-explain name = refl
 
+-- a found command with all of its words of this name
+abbrev pub with_words_of : Text → Option (Text × List Row) → Option (Text × List Text)
+with_words_of word = option_map (λ found. (found.0, words_of word found.1))
+
 -- and then it finds `explain` without a word
 subcommand_of-explain : (name : Text)
-    → with_word_of (codes "CODE") (subcommand_of command_line (name ∷ codes "explain" ∷ []))
-    ≡ Some (codes "explain", None)
+    → with_words_of (codes "CODE") (subcommand_of command_line (name ∷ codes "explain" ∷ []))
+    ≡ Some (codes "explain", [])
 unfolding clap_on_literals
 subcommand_of-explain name = refl
 
@@ -70,8 +74,8 @@ takes-explain_code name (b ∷ rest) plain = simp plain refl
 
 -- and then it finds `explain` with that word
 subcommand_of-explain_code : (name code : Text) → begins_as_flag code ≡ false
-    → with_word_of (codes "CODE") (subcommand_of command_line (name ∷ codes "explain" ∷ code ∷ []))
-    ≡ Some (codes "explain", Some code)
+    → with_words_of (codes "CODE") (subcommand_of command_line (name ∷ codes "explain" ∷ code ∷ []))
+    ≡ Some (codes "explain", code ∷ [])
 unfolding clap_on_literals
 subcommand_of-explain_code name [] plain = refl
 subcommand_of-explain_code name (b ∷ rest) plain = simp plain refl
@@ -96,8 +100,8 @@ IsRequest-HasMatchesOf words m request matches is =
 pub IsInBounds-IsRequest : (found : Option (Text × List Row)) (request : Request) → IsRequest found (Some request)
     → IsInBounds request
 IsInBounds-IsRequest None Sample is = tt
-IsInBounds-IsRequest None (Check schema) is = tt
-IsInBounds-IsRequest None (Explain code) is = tt
+IsInBounds-IsRequest None (Check schema why) is = tt
+IsInBounds-IsRequest None (Explain code why) is = tt
 IsInBounds-IsRequest None (Print run partial) is =
     let bad : Sample ≡ Print run partial = sym (ap (λ (o : Option Request). unwrap_or o Sample) is) in cc
 IsInBounds-IsRequest None (Refusals run) is =
@@ -116,8 +120,8 @@ IsInBounds-IsRequest None (Schema words) is = tt
 IsInBounds-IsRequest None (Table table) is =
     let bad : Sample ≡ Table table = sym (ap (λ (o : Option Request). unwrap_or o Sample) is) in cc
 IsInBounds-IsRequest (Some found) Sample is = tt
-IsInBounds-IsRequest (Some found) (Check schema) is = tt
-IsInBounds-IsRequest (Some found) (Explain code) is = tt
+IsInBounds-IsRequest (Some found) (Check schema why) is = tt
+IsInBounds-IsRequest (Some found) (Explain code why) is = tt
 IsInBounds-IsRequest (Some found) (Print run partial) is = is.0.2
 IsInBounds-IsRequest (Some found) (Refusals run) is = is.2
 IsInBounds-IsRequest (Some found) (Slice run cell) is = is.0.2
@@ -131,10 +135,6 @@ IsInBounds-IsRequest (Some found) (Table table) is = is.2
 -- a reference to a text
 abbrev reference : Text → Bor Text
 reference text = record { ref_ptr = (0, 0); now = text }
-
-option_map-reference : (text : Option Text) → option_map (λ (t : Bor Text). t.now) (option_map reference text) ≡ text
-option_map-reference None = refl
-option_map-reference (Some text) = refl
 
 -- what makes a request doesn't make none
 not-IsRequest : (found : Option (Text × List Row)) (request : Request) → IsRequest found (Some request)
@@ -175,12 +175,13 @@ AsksToCheck-with_word_of Q (Some found) path request result is_found is done = g
 
     go : (request : Option Request) → IsRequest (Some found) request
         → IfSome request (λ asked. result ≡ Ok asked) → MatchResult result (AsksToCheck path) Q
-    go None is done = absurd (is (Check (reference path)) (named, worded))
+    go None is done =
+        absurd (is (Check (reference path) (is_given (one_of (codes "why") found.1))) (named, worded, refl))
     go (Some Sample) is done = absurd is
-    go (Some (Check schema)) is done =
+    go (Some (Check schema why)) is done =
         subst (λ answer. MatchResult answer (AsksToCheck path) Q) (sym done)
         (ap (λ (o : Option Text). unwrap_or o path) (sym is.1 ∙ worded))
-    go (Some (Explain code)) is done =
+    go (Some (Explain code why)) is done =
         name-slice_index found.0 (codes "check") (codes "explain") named is.0 (λ same. absurd (omega arith))
     go (Some (Print run partial)) is done =
         name-slice_index found.0 (codes "check") (codes "print") named is.0.0 (λ same. absurd (omega arith))
@@ -201,49 +202,50 @@ AsksToCheck-with_word_of Q (Some found) path request result is_found is done = g
     go (Some (Table table)) is done =
         name-slice_index found.0 (codes "check") (codes "table") named is.0 (λ same. absurd (omega arith))
 
--- a request that `explain` makes asks for the code that is its word, or for all
-AsksToExplain-with_word_of : (Q : Error → Type 0) (found : Option (Text × List Row)) (code : Option Text)
+-- a request that `explain` makes asks for the code that its words are, or for all
+AsksToExplain-with_words_of : (Q : Error → Type 0) (found : Option (Text × List Row)) (code : List Text)
     (request : Option Request) (result : Result Request Error)
-    → with_word_of (codes "CODE") found ≡ Some (codes "explain", code) → IsRequest found request
+    → with_words_of (codes "CODE") found ≡ Some (codes "explain", code) → IsRequest found request
+    → ((rows : List Row) → found ≡ Some (codes "explain", rows) → ¬ (request ≡ None))
     → IfSome request (λ asked. result ≡ Ok asked)
     → MatchResult result (AsksToExplain code) Q
-AsksToExplain-with_word_of Q None code request result is_found is done = cc
-AsksToExplain-with_word_of Q (Some found) code request result is_found is done = go request is done
+AsksToExplain-with_words_of Q None code request result is_found is some done = cc
+AsksToExplain-with_words_of Q (Some found) code request result is_found is some done = go request is some done
   where
     named : found.0 ≡ codes "explain"
     named =
-        ap (λ (o : Option (Text × Option Text)). (unwrap_or o (found.0, first_of (codes "CODE") found.1)).0) is_found
+        ap (λ (o : Option (Text × List Text)). (unwrap_or o (found.0, words_of (codes "CODE") found.1)).0) is_found
 
-    worded : first_of (codes "CODE") found.1 ≡ code
+    worded : words_of (codes "CODE") found.1 ≡ code
     worded =
-        ap (λ (o : Option (Text × Option Text)). (unwrap_or o (found.0, first_of (codes "CODE") found.1)).1) is_found
+        ap (λ (o : Option (Text × List Text)). (unwrap_or o (found.0, words_of (codes "CODE") found.1)).1) is_found
 
     go : (request : Option Request) → IsRequest (Some found) request
+        → ((rows : List Row) → Some found ≡ Some (codes "explain", rows) → ¬ (request ≡ None))
         → IfSome request (λ asked. result ≡ Ok asked) → MatchResult result (AsksToExplain code) Q
-    go None is done =
-        absurd (is (Explain (option_map reference code)) (named, worded ∙ sym (option_map-reference code)))
-    go (Some Sample) is done = absurd is
-    go (Some (Check schema)) is done =
+    go None is some done = absurd (some found.1 (ap (λ (name : Text). Some (name, found.1)) named) refl)
+    go (Some Sample) is some done = absurd is
+    go (Some (Check schema why)) is some done =
         name-slice_index found.0 (codes "explain") (codes "check") named is.0 (λ same. absurd (omega arith))
-    go (Some (Explain asked)) is done =
+    go (Some (Explain asked why)) is some done =
         subst (λ answer. MatchResult answer (AsksToExplain code) Q) (sym done) (sym is.1 ∙ worded)
-    go (Some (Print run partial)) is done =
+    go (Some (Print run partial)) is some done =
         name-slice_index found.0 (codes "explain") (codes "print") named is.0.0 (λ same. absurd (omega arith))
-    go (Some (Refusals run)) is done =
+    go (Some (Refusals run)) is some done =
         name-slice_index found.0 (codes "explain") (codes "refusals") named is.0 (λ same. absurd (omega arith))
-    go (Some (Slice run cell)) is done =
+    go (Some (Slice run cell)) is some done =
         name-slice_index found.0 (codes "explain") (codes "slice") named is.0.0 (λ same. absurd (omega arith))
-    go (Some (Drill run cell dimension)) is done =
+    go (Some (Drill run cell dimension)) is some done =
         name-slice_index found.0 (codes "explain") (codes "drill") named is.0.0 (λ same. absurd (omega arith))
-    go (Some (RollUp run cell dimension)) is done =
+    go (Some (RollUp run cell dimension)) is some done =
         name-slice_index found.0 (codes "explain") (codes "rollup") named is.0.0 (λ same. absurd (omega arith))
-    go (Some (Live live)) is done =
+    go (Some (Live live)) is some done =
         name-slice_index found.0 (codes "explain") (codes "live") named is.0 (λ same. absurd (omega arith))
-    go (Some (Merge merge)) is done =
+    go (Some (Merge merge)) is some done =
         name-slice_index found.0 (codes "explain") (codes "merge") named is.0 (λ same. absurd (omega arith))
-    go (Some (Schema words)) is done =
+    go (Some (Schema words)) is some done =
         name-slice_index found.0 (codes "explain") (codes "schema") named is.0 (λ same. absurd (omega arith))
-    go (Some (Table table)) is done =
+    go (Some (Table table)) is some done =
         name-slice_index found.0 (codes "explain") (codes "table") named is.0 (λ same. absurd (omega arith))
 
 -- so `check` with a word asks to check that file
@@ -261,20 +263,24 @@ request-check Q name path words m request result plain are matches is done =
 pub request-explain : (Q : Error → Type 0) (name : Text) (words : List Text) (m : ArgMatches) (request : Option Request)
     (result : Result Request Error)
     → words ≡ name ∷ codes "explain" ∷ [] → HasMatchesOf command_line words m
-    → IsRequest (subcommand_rows_of m) request → IfSome request (λ asked. result ≡ Ok asked)
-    → MatchResult result (AsksToExplain None) Q
-request-explain Q name words m request result are matches is done =
-    AsksToExplain-with_word_of Q (subcommand_rows_of m) None request result
-    (ap (with_word_of (codes "CODE")) ((matches command_line-is_simple).1 ∙ ap (subcommand_of command_line) are)
-    ∙ subcommand_of-explain name) is done
+    → IsRequest (subcommand_rows_of m) request
+    → ((rows : List Row) → subcommand_rows_of m ≡ Some (codes "explain", rows) → ¬ (request ≡ None))
+    → IfSome request (λ asked. result ≡ Ok asked)
+    → MatchResult result (AsksToExplain []) Q
+request-explain Q name words m request result are matches is some done =
+    AsksToExplain-with_words_of Q (subcommand_rows_of m) [] request result
+    (ap (with_words_of (codes "CODE")) ((matches command_line-is_simple).1 ∙ ap (subcommand_of command_line) are)
+    ∙ subcommand_of-explain name) is some done
 
 -- and with a word for that code
 pub request-explain_code : (Q : Error → Type 0) (name code : Text) (words : List Text) (m : ArgMatches)
     (request : Option Request) (result : Result Request Error)
     → begins_as_flag code ≡ false → words ≡ name ∷ codes "explain" ∷ code ∷ [] → HasMatchesOf command_line words m
-    → IsRequest (subcommand_rows_of m) request → IfSome request (λ asked. result ≡ Ok asked)
-    → MatchResult result (AsksToExplain (Some code)) Q
-request-explain_code Q name code words m request result plain are matches is done =
-    AsksToExplain-with_word_of Q (subcommand_rows_of m) (Some code) request result
-    (ap (with_word_of (codes "CODE")) ((matches command_line-is_simple).1 ∙ ap (subcommand_of command_line) are)
-    ∙ subcommand_of-explain_code name code plain) is done
+    → IsRequest (subcommand_rows_of m) request
+    → ((rows : List Row) → subcommand_rows_of m ≡ Some (codes "explain", rows) → ¬ (request ≡ None))
+    → IfSome request (λ asked. result ≡ Ok asked)
+    → MatchResult result (AsksToExplain (code ∷ [])) Q
+request-explain_code Q name code words m request result plain are matches is some done =
+    AsksToExplain-with_words_of Q (subcommand_rows_of m) (code ∷ []) request result
+    (ap (with_words_of (codes "CODE")) ((matches command_line-is_simple).1 ∙ ap (subcommand_of command_line) are)
+    ∙ subcommand_of-explain_code name code plain) is some done

@@ -68,6 +68,7 @@ live_of run = record {
   store = run.store;
   wary = run.wary;
   commit_every = 1;
+  why = run.why;
 }
 
 -- of the words of a run, those that `live` has too are its own
@@ -81,6 +82,7 @@ AreLiveWords-AreRunWords rows run are = record {
     threads = are.threads;
     shard = are.shard;
     is_quiet = are.is_quiet;
+    asks_why = are.asks_why;
   };
   store = are.store;
   is_wary = are.is_wary;

@@ -63,9 +63,9 @@ file_word = needed_word (codes "FILE")
 abbrev pub file_words : Rule
 file_words = record (some_words (codes "FILE")) { required = true }
 
--- the word that names a code; it may be left out
-abbrev pub code_word : Rule
-code_word = new_rule (codes "CODE")
+-- the words of a code or of a line that the program wrote; they may be left out
+abbrev pub code_words : Rule
+code_words = some_words (codes "CODE")
 
 -- an option that has one number, from 1 to a bound, or its default, if it has one, where it is left out
 abbrev pub number_option : Text → ℕ → List Text → Rule
@@ -112,6 +112,22 @@ check_option = flag (codes "check")
 abbrev pub text_option : Text → Rule
 text_option name = record (new_rule name) { long = Some name; value_names = 1 }
 
+-- an option that has any text and may be given several times
+abbrev pub texts_option : Text → Rule
+texts_option name = record (text_option name) { action = Some action.Append }
+
+-- `--where`, a condition that each fact that counts meets: any text, which is looked at later
+abbrev pub where_option : Rule
+where_option = texts_option (codes "where")
+
+-- `--strict`, which makes a refused line a failure
+abbrev pub strict_option : Rule
+strict_option = flag (codes "strict")
+
+-- `--why`, which has more lines say why a command failed
+abbrev pub why_option : Rule
+why_option = flag (codes "why")
+
 -- `--shard`, the share of the feeds that is read: any text, which is looked at later
 abbrev pub shard_option : Rule
 shard_option = text_option (codes "shard")
@@ -155,61 +171,67 @@ width_option = between_option (codes "width") 20 10000
 abbrev pub with_view : App → App
 with_view line = with_rule (with_rule (with_rule line json_option) aligned_option) width_option
 
+-- a command with the options for the facts that count and for the lines that may be refused behind its words
+abbrev pub with_facts : App → App
+with_facts line = with_rule (with_rule line where_option) strict_option
+
 -- a command with the two options of a store behind its words
 abbrev pub with_store : App → App
 with_store line = with_rule (with_rule line store_option) wary_option
 
 -- a command with the feeds and the options of a run behind its words
 abbrev pub with_feeds : App → App
-with_feeds line = with_store (with_rule
+with_feeds line = with_store (with_rule (with_rule
     (with_rule (with_rule (with_rule (with_rule (with_rule line feed_words) ring_option) shard_option) builders_option)
-    threads_option) quiet_option)
+    threads_option) quiet_option) why_option)
 
 -- each command and its words
 abbrev pub check_line : App
-check_line = with_rule (new_app (codes "check")) schema_word
+check_line = with_rule (with_rule (new_app (codes "check")) schema_word) why_option
 
 abbrev pub print_line : App
-print_line = with_view (with_rule (with_feeds (with_rule (new_app (codes "print")) schema_word)) partial_option)
+print_line =
+    with_facts (with_view (with_rule (with_feeds (with_rule (new_app (codes "print")) schema_word)) partial_option))
 
 abbrev pub refusals_line : App
 refusals_line = with_feeds (with_rule (new_app (codes "refusals")) schema_word)
 
 abbrev pub slice_line : App
-slice_line = with_view (with_feeds (with_rule (with_rule (new_app (codes "slice")) schema_word) cell_word))
+slice_line =
+    with_facts (with_view (with_feeds (with_rule (with_rule (new_app (codes "slice")) schema_word) cell_word)))
 
 abbrev pub drill_line : App
 drill_line =
-    with_view
-    (with_feeds (with_rule (with_rule (with_rule (new_app (codes "drill")) schema_word) cell_word) dimension_word))
+    with_facts (with_view
+    (with_feeds (with_rule (with_rule (with_rule (new_app (codes "drill")) schema_word) cell_word) dimension_word)))
 
 abbrev pub rollup_line : App
 rollup_line =
-    with_view
-    (with_feeds (with_rule (with_rule (with_rule (new_app (codes "rollup")) schema_word) cell_word) dimension_word))
+    with_facts (with_view
+    (with_feeds (with_rule (with_rule (with_rule (new_app (codes "rollup")) schema_word) cell_word) dimension_word)))
 
 abbrev pub live_line : App
 live_line = with_rule
-    (with_store (with_rule (with_rule
+    (with_store (with_rule (with_rule (with_rule
     (with_rule (with_rule (with_rule (with_rule (new_app (codes "live")) schema_word) feed_words) ring_option)
-    shard_option) threads_option) quiet_option)) commit_every_option
+    shard_option) threads_option) quiet_option) why_option)) commit_every_option
 
 abbrev pub merge_line : App
-merge_line = with_rule
+merge_line = with_rule (with_rule
     (with_rule (with_rule (with_rule (with_rule (new_app (codes "merge")) schema_word) merged_words) partial_option)
-    check_option) quiet_option
+    check_option) quiet_option) why_option
 
 abbrev pub explain_line : App
-explain_line = with_rule (new_app (codes "explain")) code_word
+explain_line = with_rule (with_rule (new_app (codes "explain")) code_words) why_option
 
 abbrev pub table_line : App
-table_line = with_view (with_rule
+table_line = with_facts (with_view (with_rule (with_rule
     (with_rule (with_rule (with_rule
     (with_rule (with_rule (with_rule (with_rule (new_app (codes "table")) file_words) by_option) of_option) ring_option)
-    shard_option) builders_option) threads_option) quiet_option)
+    shard_option) builders_option) threads_option) quiet_option) why_option))
 
 abbrev pub schema_line : App
-schema_line = with_rule (with_rule (with_rule (new_app (codes "schema")) file_word) by_option) of_option
+schema_line = with_rule (with_rule (with_rule (with_rule (new_app (codes "schema")) file_word) by_option) of_option) why_option
 
 -- a command line with the commands over files of people's own
 abbrev pub with_own_files : App → App
@@ -235,6 +257,7 @@ rule_in_form name form.One = new_rule name
 rule_in_form name form.Several = some_words name
 rule_in_form name form.Flag = flag name
 rule_in_form name (form.Text value) = text_option name
+rule_in_form name (form.Texts value) = texts_option name
 rule_in_form name (form.Number most default) = number_option name most (map (λ text. text.now) default.now)
 rule_in_form name (form.Between least most) = between_option name least most
 
@@ -272,13 +295,13 @@ begins_as_flag (b ∷ rest) = b == 45
 
 -- a request is the one to check the schema file at this path
 abbrev pub AsksToCheck : Text → Request → Type 0
-AsksToCheck path (Check schema) = schema.now ≡ path
+AsksToCheck path (Check schema why) = schema.now ≡ path
 AsksToCheck path _ = ⊥
 
--- a request is the one to explain a code, or all where there is none
-abbrev pub AsksToExplain : Option Text → Request → Type 0
-AsksToExplain code (Explain asked) = option_map (λ text. text.now) asked ≡ code
-AsksToExplain code _ = ⊥
+-- a request is the one to explain a code of these words, or all where there are none
+abbrev pub AsksToExplain : List Text → Request → Type 0
+AsksToExplain words (Explain code why) = map (λ word. word.now) code.items ≡ words
+AsksToExplain words _ = ⊥
 
 -- an option's text writes this number in decimal;
 -- there is none where there is no text, as the option is left out without a default
@@ -317,9 +340,12 @@ pub record AreRunWords (rows : List Row) (run : RunWords) : Type 0 where
   pub threads : IsNumberOf (one_of (codes "threads") rows) run.threads
   pub shard : option_map (λ text. text.now) run.shard ≡ first_of (codes "shard") rows
   pub is_quiet : run.quiet ≡ is_given (one_of (codes "quiet") rows)
+  pub asks_why : run.why ≡ is_given (one_of (codes "why") rows)
   pub store : option_map (λ text. text.now) run.store ≡ first_of (codes "store") rows
   pub is_wary : run.wary ≡ is_given (one_of (codes "wary") rows)
   pub view : AreViewWords rows run.view
+  pub conditions : words_of (codes "where") rows ≡ map (λ word. word.now) run.conditions.items
+  pub is_strict : run.strict ≡ is_given (one_of (codes "strict") rows)
 
 -- a number is between two bounds
 abbrev pub IsBetween : ℕ → ℕ → ℕ → Type 0
@@ -349,6 +375,7 @@ pub record AreSharedWords (rows : List Row) (live : LiveWords) : Type 0 where
   pub threads : IsNumberOf (one_of (codes "threads") rows) live.threads
   pub shard : option_map (λ text. text.now) live.shard ≡ first_of (codes "shard") rows
   pub is_quiet : live.quiet ≡ is_given (one_of (codes "quiet") rows)
+  pub asks_why : live.why ≡ is_given (one_of (codes "why") rows)
 
 -- the files and the options of `live` are those that clap found:
 -- those that it shares, the store, and whether to be wary of torn writes
@@ -372,12 +399,14 @@ pub record AreMergeWords (rows : List Row) (merge : MergeWords) : Type 0 where
   pub is_partial : merge.partial ≡ is_given (one_of (codes "partial") rows)
   pub is_checked : merge.check ≡ is_given (one_of (codes "check") rows)
   pub is_quiet : merge.quiet ≡ is_given (one_of (codes "quiet") rows)
+  pub asks_why : merge.why ≡ is_given (one_of (codes "why") rows)
 
 -- the file and the options of `schema` are those that clap found, each under its name
 pub record AreSchemaWords (rows : List Row) (words : SchemaWords) : Type 0 where
   pub file : first_of (codes "FILE") rows ≡ Some words.file.now
   pub by : option_map (λ text. text.now) words.by ≡ first_of (codes "by") rows
   pub of : option_map (λ text. text.now) words.of ≡ first_of (codes "of") rows
+  pub asks_why : words.why ≡ is_given (one_of (codes "why") rows)
 
 -- the files and the options of `table` are those that clap found, each under its name, and the files in their order
 pub record AreTableWords (rows : List Row) (table : TableWords) : Type 0 where
@@ -389,7 +418,10 @@ pub record AreTableWords (rows : List Row) (table : TableWords) : Type 0 where
   pub threads : IsNumberOf (one_of (codes "threads") rows) table.threads
   pub shard : option_map (λ text. text.now) table.shard ≡ first_of (codes "shard") rows
   pub is_quiet : table.quiet ≡ is_given (one_of (codes "quiet") rows)
+  pub asks_why : table.why ≡ is_given (one_of (codes "why") rows)
   pub view : AreViewWords rows table.view
+  pub conditions : words_of (codes "where") rows ≡ map (λ word. word.now) table.conditions.items
+  pub is_strict : table.strict ≡ is_given (one_of (codes "strict") rows)
 
 -- `table` has at least one file, and its options, where they are given, are in their bounds
 pub record TableHasRoom (table : TableWords) : Type 0 where
@@ -427,9 +459,12 @@ IsStep name command rows run cell dimension =
 -- a found command makes this request
 abbrev pub MakesRequest : Text × List Row → Request → Type 0
 MakesRequest found Sample = ⊥
-MakesRequest found (Check schema) = (found.0 ≡ codes "check") × (first_of (codes "SCHEMA") found.1 ≡ Some schema.now)
-MakesRequest found (Explain code) =
-    (found.0 ≡ codes "explain") × (first_of (codes "CODE") found.1 ≡ option_map (λ text. text.now) code)
+MakesRequest found (Check schema why) =
+    (found.0 ≡ codes "check") × (first_of (codes "SCHEMA") found.1 ≡ Some schema.now)
+    × (why ≡ is_given (one_of (codes "why") found.1))
+MakesRequest found (Explain code why) =
+    (found.0 ≡ codes "explain") × (words_of (codes "CODE") found.1 ≡ map (λ word. word.now) code.items)
+    × (why ≡ is_given (one_of (codes "why") found.1))
 MakesRequest found (Print run partial) =
     IsRun found.0 (codes "print") found.1 run × (partial ≡ is_given (one_of (codes "partial") found.1))
 MakesRequest found (Refusals run) = IsRun found.0 (codes "refusals") found.1 run

@@ -148,6 +148,10 @@ fn argument<'a>(alloc: Global, word: &Word<'a>) -> Arg<'a>
         Form::Several => argument.num_args(1..),
         Form::Flag => argument.long(word.name).action(ArgAction::SetTrue),
         Form::Text(value) => argument.long(word.name).value_name(value),
+        Form::Texts(value) => argument
+            .long(word.name)
+            .value_name(value)
+            .action(ArgAction::Append),
         Form::Number(most, default) => argument
             .long(word.name)
             .value_name("N")

@@ -7,7 +7,7 @@ dimensions. Each feed is a CSV file of inserts, updates and deletes; the cube is
 which are present in the end.";
 
 /// The program's version, by the rules of Semantic Versioning 2.0.0. It stands here alone.
-pub(crate) const VERSION: &str = "1.14.0";
+pub(crate) const VERSION: &str = "1.15.0";
 
 /// The forms of a command line.
 pub(crate) const USAGE: &str = "datacube < FEED
@@ -21,7 +21,7 @@ pub(crate) const USAGE: &str = "datacube < FEED
        datacube rollup [OPTIONS] SCHEMA CELL DIM FEED...
        datacube live [OPTIONS] SCHEMA [FEED...]
        datacube merge [OPTIONS] SCHEMA CUBE...
-       datacube explain [CODE]";
+       datacube explain [CODE...]";
 
 /// What the help says below the commands.
 pub(crate) const AFTER_HELP: &str = "\
@@ -39,7 +39,8 @@ Exit status:
      in `live` or with --store, a change
 
 A failure prints one line on standard error, `datacube: CODE`, and `datacube explain CODE`
-says what the code means and how to mend it. Each command has its own `--help`.
+says what the code means and how to mend it. On a terminal, and with --why, which each command
+takes, more lines say where and why. Each command has its own `--help`.
 docs/FORMATS.md describes the formats of schemas, feeds, cells and cubes.";
 
 /// What the help of `table` says below its words.
@@ -55,6 +56,11 @@ behind it, for its first so many characters, and for --of `:` and its number of 
 
 What isn't given is guessed: measures are columns of numbers that are added, dimensions are dates,
 by days and months, and columns of few different texts.
+
+With --where only facts of which CONDITION holds are counted: a dimension or a measure, one of
+`=`, `!=`, `<`, `<=`, `>` and `>=`, and a value; with `=` and `!=` several values, with commas
+between them. \\N is null:
+  --where city=York,Leeds --where 'price>=10' --where 'kind!=\\N'
 
 Exit status: 0 done, 1 a run failed, 2 wrong words or `no columns`, 4 done, with lines refused.
 `datacube explain CODE` explains what a failure prints.";
@@ -85,6 +91,11 @@ several that were printed so, each of other facts.
 
 With --json each line is one of JSON, and with --aligned the columns are aligned, for people;
 neither goes with the other or with --partial.
+
+With --where only facts of which CONDITION holds are counted: a dimension or a measure, one of
+`=`, `!=`, `<`, `<=`, `>` and `>=`, and a value; with `=` and `!=` several values, with commas
+between them. \\N is null:
+  --where city=York,Leeds --where 'price>=10' --where 'kind!=\\N'
 
 With --store the changes that FILE keeps of `datacube live` come after the feeds, of which there
 may be none then; FILE stays as it is.
@@ -118,6 +129,11 @@ Put CELL in single quotes, so that the shell leaves it as it is.
 With --json each line is one of JSON, and with --aligned the columns are aligned, for people;
 neither goes with the other.
 
+With --where only facts of which CONDITION holds are counted: a dimension or a measure, one of
+`=`, `!=`, `<`, `<=`, `>` and `>=`, and a value; with `=` and `!=` several values, with commas
+between them. \\N is null:
+  --where city=York,Leeds --where 'price>=10' --where 'kind!=\\N'
+
 With --store the changes that FILE keeps of `datacube live` come after the feeds, of which there
 may be none then; FILE stays as it is.
 
@@ -140,6 +156,11 @@ Put CELL in single quotes, so that the shell leaves it as it is.
 
 With --json each line is one of JSON, and with --aligned the columns are aligned, for people;
 neither goes with the other.
+
+With --where only facts of which CONDITION holds are counted: a dimension or a measure, one of
+`=`, `!=`, `<`, `<=`, `>` and `>=`, and a value; with `=` and `!=` several values, with commas
+between them. \\N is null:
+  --where city=York,Leeds --where 'price>=10' --where 'kind!=\\N'
 
 With --store the changes that FILE keeps of `datacube live` come after the feeds, of which there
 may be none then; FILE stays as it is.
@@ -164,6 +185,11 @@ Put CELL in single quotes, so that the shell leaves it as it is.
 
 With --json each line is one of JSON, and with --aligned the columns are aligned, for people;
 neither goes with the other.
+
+With --where only facts of which CONDITION holds are counted: a dimension or a measure, one of
+`=`, `!=`, `<`, `<=`, `>` and `>=`, and a value; with `=` and `!=` several values, with commas
+between them. \\N is null:
+  --where city=York,Leeds --where 'price>=10' --where 'kind!=\\N'
 
 With --store the changes that FILE keeps of `datacube live` come after the feeds, of which there
 may be none then; FILE stays as it is.
@@ -218,9 +244,12 @@ Exit status: 0 done, 1 a cube is at fault (as `datacube explain M5` says), 2 wro
 
 /// What the help of `explain` says below its word.
 const AFTER_EXPLAIN: &str = "\
-CODE is what stands behind `datacube: ` on standard error, as S4, G3 or 'schema unreadable', a code
-that G3 ends with, as F3, or that `live` answers, as Q1, or a number in the last column of
-`datacube refusals`, as 6. Without it, all codes are explained.
+CODE is what stands on standard error, as S4, 'G3 1 F3' or 'feed 2 unreadable', with or without
+`datacube: ` before it, a code that `live` answers, as Q1, or a number in the last column of
+`datacube refusals`, as 6. It may be several words:
+  datacube explain datacube: G3 1 F3
+
+Without it, all codes are explained.
 
 Exit status: 0 done, 2 there is no such code.";
 
@@ -234,6 +263,8 @@ pub(crate) enum Form<'a> {
     Flag,
     /// An option whose value may be any text, and what the help calls that.
     Text(&'a str),
+    /// An option that may be given several times, each time with any text, and what the help calls that.
+    Texts(&'a str),
     /// An option whose value is a number from 1 to this bound, and its default, if it has one.
     Number(u64, &'a [&'a str]),
     /// An option whose value is a number from the first bound to the second.
@@ -332,6 +363,30 @@ const QUIET: Word = Word {
     help: "Shows no progress on standard error, where that is a terminal",
 };
 
+// For more lines where a command fails.
+const WHY: Word = Word {
+    name: "why",
+    form: Form::Flag,
+    is_needed: false,
+    help: "Says more where it fails: the file, the line, the column, the value, what was wanted and how to mend it; on a terminal it does so anyway",
+};
+
+// A condition for facts.
+const WHERE: Word = Word {
+    name: "where",
+    form: Form::Texts("CONDITION"),
+    is_needed: false,
+    help: "Counts only facts of which CONDITION holds, as city=York,Leeds or 'price>=10'; where it is given several times, of which all hold",
+};
+
+// For refused lines that are failures.
+const STRICT: Word = Word {
+    name: "strict",
+    form: Form::Flag,
+    is_needed: false,
+    help: "Fails where a line is refused, and writes nothing then",
+};
+
 // For a store of which nothing is supposed after a torn write.
 const WARY: Word = Word {
     name: "wary",
@@ -365,7 +420,7 @@ const WIDTH: Word = Word {
 };
 
 /// The feeds and the options of a run.
-pub(crate) const RUN_WORDS: [Word; 8] = [
+pub(crate) const RUN_WORDS: [Word; 9] = [
     Word {
         name: "FEED",
         form: Form::Several,
@@ -377,6 +432,7 @@ pub(crate) const RUN_WORDS: [Word; 8] = [
     BUILDERS,
     THREADS,
     QUIET,
+    WHY,
     Word {
         name: "store",
         form: Form::Text("FILE"),
@@ -406,9 +462,10 @@ pub(crate) const OWN_FILES: [Line; 2] = [
             BUILDERS,
             THREADS,
             QUIET,
+            WHY,
         ],
         is_run: false,
-        options: &[JSON, ALIGNED, WIDTH],
+        options: &[JSON, ALIGNED, WIDTH, WHERE, STRICT],
     },
     Line {
         name: "schema",
@@ -423,6 +480,7 @@ pub(crate) const OWN_FILES: [Line; 2] = [
             },
             BY,
             OF,
+            WHY,
         ],
         is_run: false,
         options: &[],
@@ -435,7 +493,7 @@ pub(crate) const PRINTS: [Line; 3] = [
         name: "check",
         about: "Says whether a schema file is right: `ok`, or the code of its first fault",
         after: None,
-        words: &[SCHEMA],
+        words: &[SCHEMA, WHY],
         is_run: false,
         options: &[],
     },
@@ -455,6 +513,8 @@ pub(crate) const PRINTS: [Line; 3] = [
             JSON,
             ALIGNED,
             WIDTH,
+            WHERE,
+            STRICT,
         ],
     },
     Line {
@@ -483,7 +543,7 @@ pub(crate) const VIEWS: [Line; 3] = [
             },
         ],
         is_run: true,
-        options: &[JSON, ALIGNED, WIDTH],
+        options: &[JSON, ALIGNED, WIDTH, WHERE, STRICT],
     },
     Line {
         name: "drill",
@@ -505,7 +565,7 @@ pub(crate) const VIEWS: [Line; 3] = [
             },
         ],
         is_run: true,
-        options: &[JSON, ALIGNED, WIDTH],
+        options: &[JSON, ALIGNED, WIDTH, WHERE, STRICT],
     },
     Line {
         name: "rollup",
@@ -527,7 +587,7 @@ pub(crate) const VIEWS: [Line; 3] = [
             },
         ],
         is_run: true,
-        options: &[JSON, ALIGNED, WIDTH],
+        options: &[JSON, ALIGNED, WIDTH, WHERE, STRICT],
     },
 ];
 
@@ -549,6 +609,7 @@ pub(crate) const SESSIONS: [Line; 3] = [
             SHARD,
             THREADS,
             QUIET,
+            WHY,
             Word {
                 name: "store",
                 form: Form::Text("FILE"),
@@ -591,6 +652,7 @@ pub(crate) const SESSIONS: [Line; 3] = [
                 help: "Reads all cubes to their ends before it writes",
             },
             QUIET,
+            WHY,
         ],
         is_run: false,
         options: &[],
@@ -599,12 +661,15 @@ pub(crate) const SESSIONS: [Line; 3] = [
         name: "explain",
         about: "Says what a code means, what causes it, and how to mend it",
         after: Some(AFTER_EXPLAIN),
-        words: &[Word {
-            name: "CODE",
-            form: Form::One,
-            is_needed: false,
-            help: "The code, as S4; all codes where it is left out",
-        }],
+        words: &[
+            Word {
+                name: "CODE",
+                form: Form::Several,
+                is_needed: false,
+                help: "The code, as S4, or what a failure printed, as G3 1 F3; all codes where it is left out",
+            },
+            WHY,
+        ],
         is_run: false,
         options: &[],
     },

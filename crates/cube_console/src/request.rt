@@ -1,6 +1,6 @@
 //! What a command line asks for.
-ghost use Rattle.std.specs.Prelude.{◌≡◌, ◌≤◌, ℕ, Option, Some, None, IsOk, IfOk, IfSome, codes, length, map, option_map};
-ghost use Rattle.clap.specs.Words.{all_of, first_of, found_of, one_of, rows_of, subcommand_rows_of};
+ghost use Rattle.std.specs.Prelude.{◌≡◌, ◌≤◌, ℕ, List, Option, Some, None, IsOk, IfOk, IfSome, codes, length, map, option_map};
+ghost use Rattle.clap.specs.Words.{Row, all_of, first_of, found_of, one_of, rows_of, subcommand_rows_of};
 ghost use Rattle.cube_console.specs.CommandLine.{AreLiveWords, AreMergeWords, AreRunWords, AreSchemaWords, AreSharedWords, AreTableWords, AreViewWords, RunHasRoom, TableHasRoom, ViewHasRoom, IsNumberOf, IsRequest, IsUpTo, LiveHasRoom, is_given, words_of};
 
 use clap::ArgMatches;
@@ -50,6 +50,12 @@ pub struct RunWords<'a> {
     pub wary: bool,
     /// The form in which the cube is written; of `refusals`, which has none of these options, as it is printed.
     pub view: ViewWords,
+    /// The conditions for the facts that count, as the words spell them; of `refusals` none.
+    pub conditions: Vec<&'a str>,
+    /// Whether a refused line is a failure; of `refusals` it isn't.
+    pub strict: bool,
+    /// Whether more lines say why it failed, where standard error is no terminal too.
+    pub why: bool,
 }
 
 /// The files and the options of `live`.
@@ -73,6 +79,8 @@ pub struct LiveWords<'a> {
     pub wary: bool,
     /// How many changes wait for a commit at most, 1 to 1000000; without effect where there is no store.
     pub commit_every: usize,
+    /// Whether more lines say why it failed, where standard error is no terminal too.
+    pub why: bool,
 }
 
 /// The files and the options of `merge`.
@@ -88,6 +96,8 @@ pub struct MergeWords<'a> {
     pub check: bool,
     /// Whether no progress is shown.
     pub quiet: bool,
+    /// Whether more lines say why it failed, where standard error is no terminal too.
+    pub why: bool,
 }
 
 /// The file and the options of `schema`.
@@ -99,6 +109,8 @@ pub struct SchemaWords<'a> {
     pub by: Option<&'a str>,
     /// The columns that are measures, one CSV record; none where the words leave them out.
     pub of: Option<&'a str>,
+    /// Whether more lines say why it failed, where standard error is no terminal too.
+    pub why: bool,
 }
 
 /// The files and the options of `table`.
@@ -122,6 +134,12 @@ pub struct TableWords<'a> {
     pub quiet: bool,
     /// The form in which the cube is written.
     pub view: ViewWords,
+    /// The conditions for the facts that count, as the words spell them.
+    pub conditions: Vec<&'a str>,
+    /// Whether a refused line is a failure.
+    pub strict: bool,
+    /// Whether more lines say why it failed, where standard error is no terminal too.
+    pub why: bool,
 }
 
 /// What the words of a command line ask for.
@@ -132,10 +150,13 @@ pub enum Request<'a> {
     /// `check SCHEMA`: whether the schema file at this path is right.
     Check {
         schema: &'a str,
+        why: bool,
     },
-    /// `explain [CODE]`: what a code means, or what all mean.
+    /// `explain [CODE...]`: what a code or a line of the program means, which may be several words, or what all mean
+    /// where there are none.
     Explain {
-        code: Option<&'a str>,
+        code: Vec<&'a str>,
+        why: bool,
     },
     /// `print SCHEMA FEED...`: the cube of the feeds, in the partial form with `--partial`.
     Print {
@@ -186,7 +207,9 @@ pub(crate) fn request_of<'a>(
     alloc: Global,
     matches: &ArgMatches<'a>,
 ) -> Result<Option<Request<'a>>, AllocError>
-    ensures { IfOk result (IsRequest (subcommand_rows_of matches.now)) }
+    ensures makes { IfOk result (IsRequest (subcommand_rows_of matches.now)) }
+    ensures explain { (rows : List Row) → subcommand_rows_of matches.now ≡ Some (codes "explain", rows) →
+        IfOk result (λ request. ¬ (request ≡ None)) }
 {
     match matches.subcommand() {
         Some((name, words)) => command_of(alloc, name, words),
@@ -204,14 +227,16 @@ fn command_of<'a>(
     name: &str,
     words: &ArgMatches<'a>,
 ) -> Result<Option<Request<'a>>, AllocError>
-    ensures { IfOk result (IsRequest (Some (name.now, rows_of (found_of words.now)))) }
+    ensures makes { IfOk result (IsRequest (Some (name.now, rows_of (found_of words.now)))) }
+    ensures explain { name.now ≡ codes "explain" → IfOk result (λ request. ¬ (request ≡ None)) }
 {
+    if name == "explain" {
+        let code = all_words(alloc, words, "CODE")?;
+        let why = has_flag(words, "why");
+        return Ok(Some(Request::Explain { code, why }));
+    }
     if name == "check" {
         return Ok(check_request(words));
-    }
-    if name == "explain" {
-        let code = word_of(words, "CODE");
-        return Ok(Some(Request::Explain { code }));
     }
     if name == "live" {
         return live_request(alloc, words);
@@ -236,7 +261,8 @@ fn check_request<'a>(words: &ArgMatches<'a>) -> Option<Request<'a>>
     ensures { IsRequest (Some (codes "check", rows_of (found_of words.now))) result }
 {
     let schema = word_of(words, "SCHEMA")?;
-    Some(Request::Check { schema })
+    let why = has_flag(words, "why");
+    Some(Request::Check { schema, why })
 }
 
 // The request that `live` makes.
@@ -283,6 +309,7 @@ fn schema_request<'a>(words: &ArgMatches<'a>) -> Option<Request<'a>>
             file,
             by: word_of(words, "by"),
             of: word_of(words, "of"),
+            why: has_flag(words, "why"),
         },
     })
 }
@@ -362,6 +389,7 @@ fn run_words<'a>(alloc: Global, words: &ArgMatches<'a>) -> Result<Option<RunWord
     if live.feeds.is_empty() && live.store.is_none() {
         return Ok(None);
     }
+    let conditions = all_words(alloc, words, "where")?;
     Ok(Some(RunWords {
         schema: live.schema,
         feeds: live.feeds,
@@ -373,6 +401,9 @@ fn run_words<'a>(alloc: Global, words: &ArgMatches<'a>) -> Result<Option<RunWord
         store: live.store,
         wary: live.wary,
         view,
+        conditions,
+        strict: has_flag(words, "strict"),
+        why: live.why,
     }))
 }
 
@@ -449,6 +480,7 @@ fn shared_words<'a>(
         store: None,
         wary: false,
         commit_every: MOST_WAITING,
+        why: has_flag(words, "why"),
     }))
 }
 
@@ -476,6 +508,7 @@ fn merge_words<'a>(
         partial: has_flag(words, "partial"),
         check: has_flag(words, "check"),
         quiet: has_flag(words, "quiet"),
+        why: has_flag(words, "why"),
     }))
 }
 
@@ -502,6 +535,7 @@ fn table_words<'a>(
     if files.is_empty() {
         return Ok(None);
     }
+    let conditions = all_words(alloc, words, "where")?;
     Ok(Some(TableWords {
         files,
         by: word_of(words, "by"),
@@ -512,6 +546,9 @@ fn table_words<'a>(
         shard: word_of(words, "shard"),
         quiet: has_flag(words, "quiet"),
         view,
+        conditions,
+        strict: has_flag(words, "strict"),
+        why: has_flag(words, "why"),
     }))
 }
 

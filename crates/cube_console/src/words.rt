@@ -30,10 +30,10 @@ pub fn read_words<'a, S: AsStr>(alloc: Global, words: &'a [S]) -> Result<Request
         MatchResult result (AsksToCheck path) (λ error. kind_of error ≡ kind.OutOfMemory) }
     ensures explain { (name : List ℕ) →
         map S.text words.entry.now ≡ name ∷ codes "explain" ∷ [] →
-        MatchResult result (AsksToExplain None) (λ error. kind_of error ≡ kind.OutOfMemory) }
+        MatchResult result (AsksToExplain []) (λ error. kind_of error ≡ kind.OutOfMemory) }
     ensures explain_code { (name code : List ℕ) → begins_as_flag code ≡ false →
         map S.text words.entry.now ≡ name ∷ codes "explain" ∷ code ∷ [] →
-        MatchResult result (AsksToExplain (Some code)) (λ error. kind_of error ≡ kind.OutOfMemory) }
+        MatchResult result (AsksToExplain (code ∷ [])) (λ error. kind_of error ≡ kind.OutOfMemory) }
 {
     let matches = parse_words(alloc, words)?;
     complete(alloc, request_of(alloc, &matches)?)
@@ -95,7 +95,7 @@ pub fn clashing_words(alloc: Global) -> Error
     refusal(
         alloc,
         ErrorKind::ArgumentConflict,
-        "the arguments '--partial' and '--builders <N>' cannot be used with '--store <FILE>'",
+        "the arguments '--partial', '--builders <N>', '--where <CONDITION>' and '--strict' cannot be used with '--store <FILE>'",
     )
 }
 

@@ -9,11 +9,14 @@ use Rattle.std.proofs.lemmas.Bool.{cases_Bool, and_from, and_parts, or_parts, eq
 use Rattle.std.proofs.lemmas.List.{length-map, length-take, drop-drop, take-append-drop}
 use Rattle.std.proofs.lemmas.List.Folds.{list_any-append}
 use Rattle.cube_core.specs.Layout.{Layout}
-use Rattle.cube_core.specs.Takes.{takes, may_amend, is_id, fits, fits_part, is_dimension_value, puts_dimension_value}
+use Rattle.cube_core.specs.Takes.{takes, may_amend, may_upsert, is_id, fits, fits_part, is_dimension_value}
+use Rattle.cube_core.specs.Takes.{puts_dimension_value}
 use Rattle.cube_core.specs.Items.{width_of, field_at, is_null, is_keep, keeps_any, is_measure, dimension_of}
 use Rattle.cube_core.specs.Items.{dimension_field_of, measure_of, measure_field_of, dimension_fields, measure_fields}
-use Rattle.cube_core.specs.Items.{fact_of, amendment_of, unless_at_fault, insert_of, update_of, change_of}
+use Rattle.cube_core.specs.Items.{fact_of, amendment_of, unless_at_fault, unless_id_at_fault, insert_of, update_of}
+use Rattle.cube_core.specs.Items.{upsert_of, change_of}
 use Rattle.cube_core.specs.declared.change.Change.{Change}
+use Rattle.cube_core.specs.declared.change.Change.TheVariants.{Delete, Remove}
 use Rattle.cube_core.specs.declared.change.LineFault.{LineFault}
 use Rattle.cube_core.specs.declared.partial.Field.TheVariants.{Put}
 
@@ -142,6 +145,14 @@ unless_at_fault-taken s fields change taken =
     IfOk-if P (not (list_all (is_measure s) (measure_fields s fields))) _ _ (λ bad. tt) (λ lawful.
     taken (eqb-true _ _ (holds-not _ right)) (ap not named) (holds-not _ lawful)))))
 
+-- a record of which the id alone counts spells a change of which this holds, if it holds where the id is lawful
+pub unless_id_at_fault-IfOk : (P : Change → Type 0) (s : Layout) (fields : List (List ℕ)) (change : Change)
+    → (is_id (field_at fields 1) ≡ true → P change) → IfOk (unless_id_at_fault change s fields) P
+unless_id_at_fault-IfOk P s fields change holds =
+    IfOk-if P (not ((length fields == 2) || (length fields == width_of s))) _ _ (λ wrong. tt) (λ right.
+    IfOk-if P (not (is_utf8 (field_at fields 1))) _ _ (λ bad. tt) (λ text.
+    IfOk-if P (length (field_at fields 1) == 0) _ _ (λ empty. tt) (λ named. holds (ap not named))))
+
 -- the change that a record spells is one that the schema takes
 pub takes-change_of : (s : Layout) (fields : List (List ℕ))
     → IfOk (change_of s fields) (λ change. takes s change ≡ true)
@@ -161,8 +172,13 @@ takes-change_of s fields =
     (fits_part-amendment_of s fields right lawful))
     (λ none. and_from _ _ named (fits-fact_of s fields right (values none lawful)))))
     (λ neither. IfOk-if P (bytes_eq (field_at fields 0) (codes "D")) _ _
-    (λ letter.
-    IfOk-if P (not ((length fields == 2) || (length fields == width_of s))) _ _ (λ wrong. tt) (λ right.
-    IfOk-if P (not (is_utf8 (field_at fields 1))) _ _ (λ bad. tt) (λ text.
-    IfOk-if P (length (field_at fields 1) == 0) _ _ (λ empty. tt) (λ named. ap not named))))
-    (λ none. tt)))
+    (λ letter. unless_id_at_fault-IfOk P s fields (Delete (field_at fields 1)) (λ named. named))
+    (λ not_delete. IfOk-if P (may_upsert s && bytes_eq (field_at fields 0) (codes "P")) _ _
+    (λ letter. unless_at_fault-taken s fields (upsert_of s fields) (λ right named lawful.
+    IfOk-if P (keeps_any s fields) _ _ (λ keeps. tt)
+    (λ none. and_from _ _ (and_from _ _ (and_parts (may_upsert s) _ letter).0 named)
+    (fits-fact_of s fields right (values none lawful)))))
+    (λ not_upsert. IfOk-if P (may_upsert s && bytes_eq (field_at fields 0) (codes "R")) _ _
+    (λ letter. unless_id_at_fault-IfOk P s fields (Remove (field_at fields 1))
+    (λ named. and_from _ _ (and_parts (may_upsert s) _ letter).0 named))
+    (λ none. tt)))))

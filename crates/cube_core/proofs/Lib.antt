@@ -22,3 +22,4 @@ pub mod SetLaws
 pub mod QueryLaws
 mod PartialFormLaws
 pub mod PlainLaws
+pub mod ReorderedLaws

@@ -23,7 +23,7 @@ use Rattle.cube_core.specs.declared.key.Coord.{Coord}
 use Rattle.cube_core.specs.declared.key.Coord.TheVariants as coord
 use Rattle.cube_core.specs.declared.query.QueryFault.{QueryFault}
 use Rattle.cube_core.specs.declared.query.QueryFault.TheVariants.{Fields, Field, NotCell, NotRolled, UnknownDimension}
-use Rattle.cube_core.specs.declared.query.QueryFault.TheVariants.{Memory, NotGrouped}
+use Rattle.cube_core.specs.declared.query.QueryFault.TheVariants.{Memory, NotGrouped, Condition}
 use Rattle.cube_core.specs.contracts.key.CoordPartialEq.TheImpl as CoordPartialEq
 
 -- the records that a first read and a second show
@@ -115,6 +115,7 @@ Says-through part whole NotCell h k = sym (k (sym h))
 Says-through part whole NotRolled h k = sym (k (sym h))
 Says-through part whole UnknownDimension h k = sym (k (sym h))
 Says-through part whole NotGrouped h k = sym (k (sym h))
+Says-through part whole Condition h k = sym (k (sym h))
 
 -- csv's field at a place: it begins the fields from there on, which are none past the last
 pub field_at-Some : (fields : List (List ℕ)) (place : ℕ) (field : List ℕ) → Some field ≡ csv.field_at fields place

@@ -1,5 +1,5 @@
 -- What the table `decimals` of a schema's document says (TOML 1.1; this project's choice of the keys).
-use Rattle.std.specs.Prelude.{◌&&◌, ℕ, pos, Bool, nat_le, is_some, List, [], Option, Some, None, option_map}
+use Rattle.std.specs.Prelude.{◌&&◌, ℕ, pos, Bool, nat_le, is_some, List, [], Option, Some, None}
 use Rattle.std.specs.Prelude.{if◌then◌else◌}
 use Rattle.std.specs.List.{list_all, filter_map}
 use Rattle.toml.specs.Data.{Data, integer, table, Members}

@@ -6,10 +6,10 @@ use Rattle.std.specs.Str.{bytes_eq, is_utf8, all_ascii_digits}
 use Rattle.std.specs.Str.Parse.{without_leading_sign, signed_digits_value}
 use Rattle.std.specs.List.{list_all, list_any, filter_map}
 use Rattle.cube_core.specs.Layout.{Layout}
-use Rattle.cube_core.specs.Takes.{null_text, may_amend}
+use Rattle.cube_core.specs.Takes.{null_text, may_amend, may_upsert}
 use Rattle.cube_core.specs.declared.fact.Fact.{Fact}
 use Rattle.cube_core.specs.declared.change.Change.{Change}
-use Rattle.cube_core.specs.declared.change.Change.TheVariants.{Insert, Update, Amend, Delete}
+use Rattle.cube_core.specs.declared.change.Change.TheVariants.{Insert, Update, Amend, Upsert, Delete, Remove}
 use Rattle.cube_core.specs.declared.change.LineFault.{LineFault}
 use Rattle.cube_core.specs.declared.change.LineFault.TheVariants as fault
 use Rattle.cube_core.specs.declared.partial.Field.{Field}
@@ -139,18 +139,34 @@ update_of s fields =
     if keeps_any s fields then Ok (Amend (field_at fields 1) (amendment_of s fields))
     else Ok (Update (field_at fields 1) (fact_of s fields))
 
--- the change of a record that takes an id away, or the first fault that holds; fields after the id aren't looked at
-abbrev pub delete_of : Layout → List (List ℕ) → Result Change LineFault
-delete_of s fields =
+-- the upsert that a record with lawful fields spells: as in an insert, no field has a value to keep
+abbrev pub upsert_of : Layout → List (List ℕ) → Result Change LineFault
+upsert_of s fields =
+    if keeps_any s fields then Err fault.Keep
+    else Ok (Upsert (field_at fields 1) (fact_of s fields))
+
+-- the change of a record of which the id alone counts, or the first fault that holds; fields after the id aren't looked at
+abbrev pub unless_id_at_fault : Change → Layout → List (List ℕ) → Result Change LineFault
+unless_id_at_fault change s fields =
     if not ((length fields == 2) || (length fields == width_of s)) then Err fault.Fields
     else if not (is_utf8 (field_at fields 1)) then Err fault.Text
     else if length (field_at fields 1) == 0 then Err fault.Id
-    else Ok (Delete (field_at fields 1))
+    else Ok change
 
--- the change that a data record spells, or its first fault: the operation is `I`, `U` or `D`
+-- the delete that a record spells, and the removal, or the first fault that holds
+abbrev pub delete_of : Layout → List (List ℕ) → Result Change LineFault
+delete_of s fields = unless_id_at_fault (Delete (field_at fields 1)) s fields
+
+abbrev pub remove_of : Layout → List (List ℕ) → Result Change LineFault
+remove_of s fields = unless_id_at_fault (Remove (field_at fields 1)) s fields
+
+-- the change that a data record spells, or its first fault: the operation is `I`, `U` or `D`, and where columns are known
+-- by name it may be `P`, which puts a fact whether or not the id is present, or `R`, which removes what is there
 abbrev pub change_of : Layout → List (List ℕ) → Result Change LineFault
 change_of s fields =
     if bytes_eq (field_at fields 0) (codes "I") then unless_at_fault (insert_of s fields) s fields
     else if bytes_eq (field_at fields 0) (codes "U") then unless_at_fault (update_of s fields) s fields
     else if bytes_eq (field_at fields 0) (codes "D") then delete_of s fields
+    else if may_upsert s && bytes_eq (field_at fields 0) (codes "P") then unless_at_fault (upsert_of s fields) s fields
+    else if may_upsert s && bytes_eq (field_at fields 0) (codes "R") then remove_of s fields
     else Err fault.Op

@@ -26,6 +26,7 @@ pub mod Cube
 pub mod DecimalsDocument
 pub mod Merged
 pub mod Query
+pub mod Conditions
 pub mod Text
 pub mod Printed
 pub mod Sources

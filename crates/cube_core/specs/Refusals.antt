@@ -7,7 +7,7 @@ use Rattle.cube_core.specs.Layout.{Layout}
 use Rattle.cube_core.specs.Takes.{takes, may_amend}
 use Rattle.cube_core.specs.Life.{id_of, life_of, changes_of}
 use Rattle.cube_core.specs.declared.change.Change.{Change}
-use Rattle.cube_core.specs.declared.change.Change.TheVariants.{Insert, Update, Amend, Delete}
+use Rattle.cube_core.specs.declared.change.Change.TheVariants.{Insert, Update, Amend, Upsert, Delete, Remove}
 use Rattle.cube_core.specs.declared.change.LineFault.{LineFault}
 use Rattle.cube_core.specs.declared.change.LineFault.TheVariants as fault
 use Rattle.cube_core.specs.declared.change.Item.{Item}
@@ -26,7 +26,7 @@ absent_code s = if may_amend s then 8 else 7
 abbrev pub shape_code : Layout → ℕ
 shape_code s = if may_amend s then 9 else 8
 
--- the code of a line fault; an insert that keeps a field is a fault of version 2 alone
+-- the code of a line fault; an insert or an upsert that keeps a field is a fault of version 2 alone
 abbrev pub code_of_fault : Layout → LineFault → ℕ
 code_of_fault s fault.Op = 1
 code_of_fault s fault.Fields = 2
@@ -35,12 +35,14 @@ code_of_fault s fault.Id = 4
 code_of_fault s fault.Measure = 5
 code_of_fault s fault.Keep = if may_amend s then 6 else shape_code s
 
--- the code of a change of an id that is present or absent, if it is refused
+-- the code of a change of an id that is present or absent, if it is refused; an upsert and a removal never are
 abbrev pub code_by_presence : Layout → Change → Bool → Option ℕ
 code_by_presence s (Insert id fact) present = if present then Some (present_code s) else None
 code_by_presence s (Update id fact) present = if present then None else Some (absent_code s)
 code_by_presence s (Amend id part) present = if present then None else Some (absent_code s)
+code_by_presence s (Upsert id fact) present = None
 code_by_presence s (Delete id) present = if present then None else Some (absent_code s)
+code_by_presence s (Remove id) present = None
 
 -- the code of what an item says, if it is refused after the items before it
 abbrev pub code_of : Layout → List Item → Result Change LineFault → Option ℕ

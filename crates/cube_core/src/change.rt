@@ -16,8 +16,12 @@ pub enum Change {
     Update { id: Text, fact: Fact },
     /// Puts some values in place of those of the fact under an id that is present; feeds of version 2 alone.
     Amend { id: Text, part: Partial },
+    /// Puts a fact under an id, whether or not one is there; feeds whose columns are known by name alone.
+    Upsert { id: Text, fact: Fact },
     /// Takes the fact of an id that is present away.
     Delete { id: Text },
+    /// Takes the fact of an id away, if one is there; feeds whose columns are known by name alone.
+    Remove { id: Text },
 }
 
 /// Why a record of a feed spells no change. The text of each is its code.
@@ -38,7 +42,7 @@ pub enum LineFault {
     /// A measure is neither null nor a number.
     #[error("L5")]
     Measure,
-    /// A field of an insert keeps a value, and there is none.
+    /// A field of an insert or of an upsert keeps a value, and there is none to keep.
     #[error("L6")]
     Keep,
 }
@@ -75,7 +79,14 @@ impl Change {
                 id: id.copy(alloc)?,
                 part: part.copy(alloc)?,
             }),
+            Change::Upsert { id, fact } => {
+                let (id, fact) = copy_under(alloc, id, fact)?;
+                Ok(Change::Upsert { id, fact })
+            }
             Change::Delete { id } => Ok(Change::Delete {
+                id: id.copy(alloc)?,
+            }),
+            Change::Remove { id } => Ok(Change::Remove {
                 id: id.copy(alloc)?,
             }),
         }

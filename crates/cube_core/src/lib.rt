@@ -6,6 +6,7 @@
 
 mod aggregate;
 mod change;
+mod condition;
 mod dimension_values;
 mod fact;
 mod feed_columns;
@@ -26,6 +27,7 @@ mod text;
 
 pub use aggregate::{Agg, Answer};
 pub use change::{Change, Item, LineFault, Refusal};
+pub use condition::{Comparison, Condition, Operator, Test, hold};
 pub use dimension_values::{DimensionValues, VALUES_IN_PLACE};
 pub use fact::Fact;
 pub use feed_columns::{Column, ColumnPlaces, DimensionPlace, FeedColumns, FoundColumns};
@@ -33,7 +35,7 @@ pub use fraction::reduced;
 pub use hash_key::HashKey;
 pub use key::{Coord, CoordRef, Key, Row, covers};
 pub use partial::{Field, Partial};
-pub use pattern::Pattern;
+pub use pattern::{Pattern, only_record};
 pub use query::QueryFault;
 pub use schema::Schema;
 pub use schema_fault::SchemaFault;

@@ -86,7 +86,7 @@ impl Pattern {
 }
 
 /// The record of a text that has exactly one; the only error is that memory ran out.
-fn only_record(alloc: Global, text: &[u8]) -> Result<Option<ByteRecord>, AllocError>
+pub fn only_record(alloc: Global, text: &[u8]) -> Result<Option<ByteRecord>, AllocError>
     ensures { IfOk result (λ found. option_map fields_of found ≡ only_one (records_of text.now)) }
 {
     let mut reader = ReaderBuilder::new()

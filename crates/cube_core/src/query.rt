@@ -32,6 +32,9 @@ pub enum QueryFault {
     /// A drill-down leads to a grouping set that the schema doesn't keep.
     #[error("P7")]
     NotGrouped,
+    /// A word is no condition under the schema: it isn't a name, an operator and a value, or the value isn't one of those.
+    #[error("P8")]
+    Condition,
 }
 
 impl From<AllocError> for QueryFault {

@@ -5,7 +5,7 @@ ghost use Rattle.cube_core.specs.Layout.{IsSchema, decimals_of, sample_layout, k
 ghost use Rattle.cube_core.specs.Text.{digits_of};
 ghost use Rattle.cube_core.specs.SchemaDocument.{AnswersParts, layout_of_parts, named_parts};
 ghost use Rattle.cube_core.specs.Shard.{IsShard};
-ghost use Rattle.cube_core.specs.Takes.{fits, fits_part, takes, is_id, is_dimension_value, puts_dimension_value};
+ghost use Rattle.cube_core.specs.Takes.{fits, fits_part, takes, is_id, is_dimension_value, may_upsert, puts_dimension_value};
 ghost use Rattle.cube_core.specs.GroupingSet.{is_among, mask_of, mask_of_coords};
 
 use crate::aggregate::Agg;
@@ -315,7 +315,8 @@ impl Schema {
     }
 
     /// Whether a change has an id that isn't empty and, where it has a fact, one that fits; an amendment is taken in
-    /// version 2 alone, with this schema's numbers of fields and no dimension text `\N`.
+    /// version 2 alone, with this schema's numbers of fields and no dimension text `\N`, and an upsert or a removal where
+    /// columns are known by name.
     pub fn takes(&self, change: &Change) -> bool
         ensures { result ≡ takes self.now change.now }
     {
@@ -323,8 +324,17 @@ impl Schema {
             Change::Insert { id, fact } => is_id(id) && self.fits(fact),
             Change::Update { id, fact } => is_id(id) && self.fits(fact),
             Change::Amend { id, part } => self.version == 2 && is_id(id) && self.fits_part(part),
+            Change::Upsert { id, fact } => self.may_upsert() && is_id(id) && self.fits(fact),
             Change::Delete { id } => is_id(id),
+            Change::Remove { id } => self.may_upsert() && is_id(id),
         }
+    }
+
+    /// Whether feeds may upsert and remove: those whose columns are known by name.
+    pub fn may_upsert(&self) -> bool
+        ensures { result ≡ may_upsert self.now }
+    {
+        self.columns.is_some()
     }
 
     fn fits_part(&self, part: &Partial) -> bool

@@ -9,3 +9,4 @@ mod RecordLaws
 mod FeedLaws
 pub mod FaultLaws
 pub mod TurnLaws
+mod ConditionLaws

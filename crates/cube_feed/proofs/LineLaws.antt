@@ -11,13 +11,13 @@ use Rattle.cube_core.specs.Layout.{Layout}
 use Rattle.cube_core.specs.Takes.{may_amend}
 use Rattle.cube_core.specs.Items.{width_of, field_at, keep_text, is_keep, keeps_any, is_measure, dimension_of}
 use Rattle.cube_core.specs.Items.{dimension_field_of, measure_of, measure_field_of, dimension_fields, measure_fields}
-use Rattle.cube_core.specs.Items.{fact_of, amendment_of, unless_at_fault, insert_of, update_of}
+use Rattle.cube_core.specs.Items.{fact_of, amendment_of, unless_at_fault, insert_of, update_of, upsert_of}
 use Rattle.cube_core.proofs.ItemLaws.{is_measure-value, keeps_any-measures, may_amend-keeps}
 use Rattle.cube_core.specs.declared.fact.Fact.{Fact}
 use Rattle.cube_core.specs.declared.partial.Field.{Field}
 use Rattle.cube_core.specs.declared.partial.Partial.{Partial}
 use Rattle.cube_core.specs.declared.change.Change.{Change}
-use Rattle.cube_core.specs.declared.change.Change.TheVariants.{Insert, Update, Amend}
+use Rattle.cube_core.specs.declared.change.Change.TheVariants.{Insert, Update, Amend, Upsert}
 use Rattle.cube_core.specs.declared.change.LineFault.{LineFault}
 use Rattle.cube_core.specs.declared.change.LineFault.TheVariants as fault
 use Rattle.cube_feed.specs.declared.line.Operation.{Operation}
@@ -231,7 +231,7 @@ then_say-part_of s fields keeps read is said =
       | inr other ↦ rw other refl
     ]
 
--- what an insert says, and an update
+-- what an insert says, an upsert and an update
 pub insert_of-fact : (s : Layout) (fields : List (List ℕ)) → false ≡ keeps_any s fields
     → (read : Result (List ℕ × List (Option (List ℕ)) × List (Option ℤ)) LineFault)
     → read ≡ read_of (λ text. Some (dimension_of text)) measure_of s fields
@@ -241,6 +241,16 @@ insert_of-fact s fields none read is =
     then_say-fact_of s fields (sym none) read is Insert
     ∙ ap (λ b. unless_at_fault
     (if b then Err fault.Keep else Ok (Insert (field_at fields 1) (fact_of s fields))) s fields) none
+
+pub upsert_of-fact : (s : Layout) (fields : List (List ℕ)) → false ≡ keeps_any s fields
+    → (read : Result (List ℕ × List (Option (List ℕ)) × List (Option ℤ)) LineFault)
+    → read ≡ read_of (λ text. Some (dimension_of text)) measure_of s fields
+    → then_say read (λ parts. Ok (Upsert parts.0 (record { dims = parts.1; measures = parts.2 })))
+    ≡ unless_at_fault (upsert_of s fields) s fields
+upsert_of-fact s fields none read is =
+    then_say-fact_of s fields (sym none) read is Upsert
+    ∙ ap (λ b. unless_at_fault
+    (if b then Err fault.Keep else Ok (Upsert (field_at fields 1) (fact_of s fields))) s fields) none
 
 pub update_of-fact : (s : Layout) (fields : List (List ℕ)) → false ≡ keeps_any s fields
     → (read : Result (List ℕ × List (Option (List ℕ)) × List (Option ℤ)) LineFault)
@@ -252,7 +262,16 @@ update_of-fact s fields none read is =
     ∙ ap (λ b. unless_at_fault (if b then Ok (Amend (field_at fields 1) (amendment_of s fields))
     else Ok (Update (field_at fields 1) (fact_of s fields))) s fields) none
 
--- and both, where they keep a field
+-- and all, where they keep a field
+pub upsert_of-keep : (s : Layout) (fields : List (List ℕ)) → true ≡ keeps_any s fields
+    → (read : Result (List ℕ × List (Field (Option (List ℕ))) × List (Field (Option ℤ))) LineFault)
+    → read ≡ read_of dimension_put measure_put s fields
+    → then_say read (λ parts. Err fault.Keep) ≡ unless_at_fault (upsert_of s fields) s fields
+upsert_of-keep s fields keeps read is =
+    then_say-part_of s fields (sym keeps) read is (λ id part. Err fault.Keep)
+    ∙ ap (λ b. unless_at_fault
+    (if b then Err fault.Keep else Ok (Upsert (field_at fields 1) (fact_of s fields))) s fields) keeps
+
 pub insert_of-keep : (s : Layout) (fields : List (List ℕ)) → true ≡ keeps_any s fields
     → (read : Result (List ℕ × List (Field (Option (List ℕ))) × List (Field (Option ℤ))) LineFault)
     → read ≡ read_of dimension_put measure_put s fields
@@ -272,18 +291,20 @@ update_of-keep s fields keeps read is =
     ∙ ap (λ b. unless_at_fault (if b then Ok (Amend (field_at fields 1) (amendment_of s fields))
     else Ok (Update (field_at fields 1) (fact_of s fields))) s fields) keeps
 
--- the fault of either, where a field is kept and where none is
+-- the fault of each, where a field is kept and where none is
 pub change_by-keep_fault : (s : Layout) (fields : List (List ℕ)) (operation : Operation) → keeps_any s fields ≡ true
     → (why : LineFault) → Err why ≡ read_of dimension_put measure_put s fields
     → Err why ≡ unless_at_fault (change_by operation s fields) s fields
 change_by-keep_fault s fields operation.Insert keeps why read = insert_of-keep s fields (sym keeps) (Err why) read
 change_by-keep_fault s fields operation.Update keeps why read = update_of-keep s fields (sym keeps) (Err why) read
+change_by-keep_fault s fields operation.Upsert keeps why read = upsert_of-keep s fields (sym keeps) (Err why) read
 
 pub change_by-fact_fault : (s : Layout) (fields : List (List ℕ)) (operation : Operation) → false ≡ keeps_any s fields
     → (why : LineFault) → Err why ≡ read_of (λ text. Some (dimension_of text)) measure_of s fields
     → Err why ≡ unless_at_fault (change_by operation s fields) s fields
 change_by-fact_fault s fields operation.Insert none why read = insert_of-fact s fields none (Err why) read
 change_by-fact_fault s fields operation.Update none why read = update_of-fact s fields none (Err why) read
+change_by-fact_fault s fields operation.Upsert none why read = upsert_of-fact s fields none (Err why) read
 
 -- a part of a record that isn't sound
 pub are_sound-id : {D M : Type 0} (dimension : List ℕ → Option D) (measure : List ℕ → Option M) (s : Layout)

@@ -6,3 +6,4 @@ pub mod PlainFields
 pub mod Feed
 pub mod Faults
 pub mod FeedItems
+pub mod Words

@@ -6,7 +6,7 @@ use Rattle.std.specs.Str.{bytes_eq, is_utf8}
 use Rattle.std.specs.List.{list_all, filter_map}
 use Rattle.cube_core.specs.Layout.{Layout}
 use Rattle.cube_core.specs.Items.{width_of, field_at, keep_text, dimension_of, measure_of, dimension_fields}
-use Rattle.cube_core.specs.Items.{measure_fields, insert_of, update_of}
+use Rattle.cube_core.specs.Items.{measure_fields, insert_of, update_of, upsert_of}
 use Rattle.cube_core.specs.declared.partial.Field.{Field}
 use Rattle.cube_core.specs.declared.partial.Field.TheVariants.{Keep, Put}
 use Rattle.cube_core.specs.declared.partial.Partial.{Partial}
@@ -14,7 +14,7 @@ use Rattle.cube_core.specs.declared.change.Change.{Change}
 use Rattle.cube_core.specs.declared.change.LineFault.{LineFault}
 use Rattle.cube_core.specs.declared.change.LineFault.TheVariants as fault
 use Rattle.cube_feed.specs.declared.line.Operation.{Operation}
-use Rattle.cube_feed.specs.declared.line.Operation.TheVariants.{Insert, Update}
+use Rattle.cube_feed.specs.declared.line.Operation.TheVariants.{Insert, Update, Upsert}
 
 -- whether a field is UTF-8 and may be an id
 abbrev pub is_sound_id : List ℕ → Bool
@@ -69,7 +69,13 @@ read_of dimension measure s fields =
       filter_map measure (measure_fields s fields),
     )
 
+-- what a record says whose id alone counts: a change, where its id was read, or its first fault
+abbrev pub alone : Result (List ℕ) LineFault → Change → Result Change LineFault
+alone (Ok id) change = Ok change
+alone (Err why) change = Err why
+
 -- the change that a record with lawful fields spells, by its operation
 abbrev pub change_by : Operation → Layout → List (List ℕ) → Result Change LineFault
 change_by Insert s fields = insert_of s fields
 change_by Update s fields = update_of s fields
+change_by Upsert s fields = upsert_of s fields

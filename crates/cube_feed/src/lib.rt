@@ -6,6 +6,7 @@
 #![tactic(auto)]
 
 mod columns;
+mod condition;
 mod contiguous;
 mod fault;
 mod feed;
@@ -20,6 +21,7 @@ mod spelled_list;
 mod takes_items;
 mod units;
 
+pub use condition::read_condition;
 pub use fault::FeedFault;
 pub use feed::Feed;
 pub use feed_item::FeedItem;

@@ -2,8 +2,9 @@
 ghost use Rattle.std.specs.Prelude.{◌≡◌, ◌≤◌, ◌∷◌, [], true, false, length, drop, slice_range, IfOk, IfErr, OnOk};
 ghost use Rattle.std.specs.Str.{bytes_eq, is_utf8};
 ghost use Rattle.std.specs.List.{list_all, list_any, filter_map};
-ghost use Rattle.cube_core.specs.Items.{width_of, field_at, keep_text, keeps_any, dimension_fields, measure_fields, unless_at_fault, delete_of, change_of};
-ghost use Rattle.cube_feed.specs.SoundFields.{is_sound_id, is_sound, are_sound, put_fault, listed, part_listed, dimension_put, measure_put, read_of, change_by};
+ghost use Rattle.cube_core.specs.Items.{width_of, field_at, keep_text, keeps_any, dimension_fields, measure_fields, unless_at_fault, unless_id_at_fault, delete_of, remove_of, change_of};
+ghost use Rattle.cube_feed.specs.SoundFields.{is_sound_id, is_sound, are_sound, put_fault, listed, part_listed, dimension_put, measure_put, read_of, change_by, alone};
+ghost use Rattle.cube_core.specs.declared.change.Change.{Change as TheChange};
 ghost use Rattle.cube_feed.specs.declared.field.Stop.TheVariants as stop;
 
 use crate::field::{Fields, Spelled, Stop, is_keep_text};
@@ -18,10 +19,11 @@ use std::alloc::{AllocError, Global};
 enum Operation {
     Insert,
     Update,
+    Upsert,
 }
 
 // Puts the values of the fields from a place to another into a list that has none.
-fn read_values<T: Spelled, L: SpelledList<T>>(
+pub(crate) fn read_values<T: Spelled, L: SpelledList<T>>(
     alloc: Global,
     fields: &Fields<'_>,
     start: usize,
@@ -190,7 +192,7 @@ fn amendment(
     }
 }
 
-// The change of a record that keeps a field, or the record's first fault: an insert has no value to keep.
+// The change of a record that keeps a field, or the record's first fault: an insert and an upsert have no value to keep.
 fn keep(
     alloc: Global,
     schema: &Schema,
@@ -205,13 +207,14 @@ fn keep(
         Ok((id, part)) => match operation {
             Operation::Insert => Ok(Err(LineFault::Keep)),
             Operation::Update => Ok(Ok(Change::Amend { id, part })),
+            Operation::Upsert => Ok(Err(LineFault::Keep)),
         },
         Err(fault) => Ok(Err(fault)),
     }
 }
 
-// The change of a record that inserts or updates and keeps no field, or the record's first fault.
-fn insert_or_update(
+// The change of a record that puts a fact and keeps no field, or the record's first fault.
+fn put_fact(
     alloc: Global,
     schema: &Schema,
     fields: &Fields<'_>,
@@ -230,18 +233,22 @@ fn insert_or_update(
             match operation {
                 Operation::Insert => Ok(Ok(Change::Insert { id, fact })),
                 Operation::Update => Ok(Ok(Change::Update { id, fact })),
+                Operation::Upsert => Ok(Ok(Change::Upsert { id, fact })),
             }
         }
         Err(fault) => Ok(Err(fault)),
     }
 }
 
-fn delete(
+// The id of a record of which it alone counts, or the record's first fault.
+fn lone_id(
     alloc: Global,
     schema: &Schema,
     fields: &Fields<'_>,
-) -> Result<Result<Change, LineFault>, AllocError>
-    ensures { IfOk result (λ what. what ≡ delete_of schema.now fields.now) }
+) -> Result<Result<Text, LineFault>, AllocError>
+    ensures read { IfOk result (λ read. (change : TheChange) →
+        alone read change ≡ unless_id_at_fault change schema.now fields.now) }
+    ensures id { IfOk result (λ read. IfOk read (λ id. id ≡ field_at fields.now 1)) }
 {
     if fields.len() != 2 && fields.len() != width(schema) {
         return Ok(Err(LineFault::Fields));
@@ -252,8 +259,33 @@ fn delete(
     if id.is_empty() {
         return Ok(Err(LineFault::Id));
     }
-    let id = Text::from_str(alloc, id)?;
-    Ok(Ok(Change::Delete { id }))
+    Ok(Ok(Text::from_str(alloc, id)?))
+}
+
+fn delete(
+    alloc: Global,
+    schema: &Schema,
+    fields: &Fields<'_>,
+) -> Result<Result<Change, LineFault>, AllocError>
+    ensures { IfOk result (λ what. what ≡ delete_of schema.now fields.now) }
+{
+    match lone_id(alloc, schema, fields)? {
+        Ok(id) => Ok(Ok(Change::Delete { id })),
+        Err(fault) => Ok(Err(fault)),
+    }
+}
+
+fn remove(
+    alloc: Global,
+    schema: &Schema,
+    fields: &Fields<'_>,
+) -> Result<Result<Change, LineFault>, AllocError>
+    ensures { IfOk result (λ what. what ≡ remove_of schema.now fields.now) }
+{
+    match lone_id(alloc, schema, fields)? {
+        Ok(id) => Ok(Ok(Change::Remove { id })),
+        Err(fault) => Ok(Err(fault)),
+    }
 }
 
 fn is_operation(field: &[u8], letter: u8) -> bool
@@ -277,11 +309,15 @@ pub(crate) fn change(
         Operation::Update
     } else if is_operation(field, b'D') {
         return delete(alloc, schema, fields);
+    } else if schema.may_upsert() && is_operation(field, b'P') {
+        Operation::Upsert
+    } else if schema.may_upsert() && is_operation(field, b'R') {
+        return remove(alloc, schema, fields);
     } else {
         return Ok(Err(LineFault::Op));
     };
     if keeps_any(schema, fields) {
         return keep(alloc, schema, fields, operation);
     }
-    insert_or_update(alloc, schema, fields, operation)
+    put_fact(alloc, schema, fields, operation)
 }

@@ -106,7 +106,7 @@ fn is_fraction(digits: u8, text: &[u8]) -> bool
 }
 
 // What a text has from a place on.
-fn tail_from(place: usize, text: &[u8]) -> &[u8]
+pub(crate) fn tail_from(place: usize, text: &[u8]) -> &[u8]
     ensures { result.now ≡ drop place text.now }
 {
     if text.len() <= place {

@@ -21,6 +21,7 @@ use Rattle.cube_core.specs.Items.{dimension_field_of, measure_field_of, dimensio
 use Rattle.cube_core.specs.Items.{amendment_of, unless_at_fault, insert_of, update_of, change_of, is_header}
 use Rattle.cube_core.specs.FeedRecords.{config_by, feed_records, found_columns, is_read, names_read, places_by}
 use Rattle.cube_core.specs.FeedRecords.{plain_of, stands_once}
+use Rattle.cube_core.specs.Items.{upsert_of, remove_of}
 use Rattle.cube_core.specs.Items.{same_fields, keep_text, column_names, byte_order_mark}
 use Rattle.cube_core.specs.FeedRecords.{items_after, items_of}
 use Rattle.cube_core.specs.Layout.{Layout}
@@ -28,10 +29,10 @@ use Rattle.cube_core.specs.Plain.{plain_in_order}
 use Rattle.cube_core.specs.Records.{records_of}
 use Rattle.cube_core.specs.Shard.{whole_feed, is_in_shard, fnv_hash}
 use Rattle.cube_core.specs.Takes.{takes, may_amend, null_text, is_id, fits, fits_part, is_dimension_value}
-use Rattle.cube_core.specs.Takes.{puts_dimension_value}
+use Rattle.cube_core.specs.Takes.{may_upsert, puts_dimension_value}
 use Rattle.cube_core.specs.Text.{line}
 use Rattle.cube_core.specs.declared.change.Change.{Change}
-use Rattle.cube_core.specs.declared.change.Change.TheVariants.{Insert, Update, Amend, Delete}
+use Rattle.cube_core.specs.declared.change.Change.TheVariants.{Insert, Update, Amend, Upsert, Delete, Remove}
 use Rattle.cube_core.specs.declared.change.Item.{Item}
 use Rattle.cube_core.specs.declared.change.LineFault.{LineFault}
 use Rattle.cube_core.specs.declared.change.LineFault.TheVariants as fault
@@ -273,13 +274,44 @@ change_of-Update s id fact can =
     has.keeps_none
     ∙ ap (λ (f : Fact). Ok (Update id f)) (has.spelled (codes "U"))
 
+-- an upsert's record
+change_of-Upsert : (s : Layout) (id : List ℕ) (fact : Fact) → CanBeSpelled s (Upsert id fact)
+    → change_of s (record_for (Upsert id fact)) ≡ Ok (Upsert id fact)
+change_of-Upsert s id fact can =
+    let both = and_parts (may_upsert s && is_id id) (fits s fact) can.taken in
+    let first = and_parts (may_upsert s) (is_id id) both.0 in
+    let has = AreFactFields-fits s id fact both.1 can.has_record.1 can.has_record.2 in
+    let fields : List (List ℕ) = record_for (Upsert id fact) in
+    ap (λ (b : Bool). if b && true then unless_at_fault (upsert_of s fields) s fields
+    else if b && false then remove_of s fields else Err fault.Op) first.0
+    ∙ unless_at_fault-none s (codes "P") id (map dimension_text fact.dims) (map measure_text fact.measures)
+    (upsert_of s fields) has.wide has.deep first.1 can.has_record.0 has.texts has.numbers has.lawful
+    ∙ ap (λ (b : Bool). if b then Err fault.Keep else Ok (Upsert id (fact_of s fields))) has.keeps_none
+    ∙ ap (λ (f : Fact). Ok (Upsert id f)) (has.spelled (codes "P"))
+
+-- a record of an id alone has no fault where the id has none
+lone_id-none : (id : List ℕ) (change : Change) → is_utf8 id ≡ true → is_id id ≡ true
+    → (if not (is_utf8 id) then Err fault.Text else if length id == 0 then Err fault.Id else Ok change) ≡ Ok change
+lone_id-none id change text named =
+    let after : Result Change LineFault = if length id == 0 then Err fault.Id else Ok change in
+    ap (λ (b : Bool). if not b then Err fault.Text else after) text
+    ∙ ap (λ (b : Bool). if b then Err fault.Id else Ok change) (not-true (length id == 0) named)
+
 -- a delete's record
 change_of-Delete : (s : Layout) (id : List ℕ) → CanBeSpelled s (Delete id)
     → change_of s (record_for (Delete id)) ≡ Ok (Delete id)
 change_of-Delete s id can =
-    let named : Result Change LineFault = if length id == 0 then Err fault.Id else Ok (Delete id) in
-    ap (λ (b : Bool). if not b then Err fault.Text else named) can.has_record
-    ∙ ap (λ (b : Bool). if b then Err fault.Id else Ok (Delete id)) (not-true (length id == 0) can.taken)
+    lone_id-none id (Delete id) can.has_record can.taken
+
+-- a removal's record
+change_of-Remove : (s : Layout) (id : List ℕ) → CanBeSpelled s (Remove id)
+    → change_of s (record_for (Remove id)) ≡ Ok (Remove id)
+change_of-Remove s id can =
+    let both = and_parts (may_upsert s) (is_id id) can.taken in
+    let fields : List (List ℕ) = record_for (Remove id) in
+    ap (λ (b : Bool). if b && false then unless_at_fault (upsert_of s fields) s fields
+    else if b && true then remove_of s fields else Err fault.Op) both.0
+    ∙ lone_id-none id (Remove id) can.has_record both.1
 
 -- an amendment's record: a field that is kept is one that keeps
 keeps-kept : {A : Type 0} (s : Layout) (text : A → List ℕ) (fields : List (Field A)) → may_amend s ≡ true
@@ -342,7 +374,9 @@ pub change_of-record_for : (s : Layout) (change : Change) → CanBeSpelled s cha
 change_of-record_for s (Insert id fact) can = change_of-Insert s id fact can
 change_of-record_for s (Update id fact) can = change_of-Update s id fact can
 change_of-record_for s (Amend id part) can = change_of-Amend s id part can
+change_of-record_for s (Upsert id fact) can = change_of-Upsert s id fact can
 change_of-record_for s (Delete id) can = change_of-Delete s id can
+change_of-record_for s (Remove id) can = change_of-Remove s id can
 
 -- ---- a whole feed
 whole-is_read : (s : Layout) (fields : List (List ℕ)) → s.shard ≡ whole_feed → is_read s fields ≡ true
@@ -391,7 +425,9 @@ some_field (change ∷ changes) = (each change, some_field changes)
     each (Insert id fact) = omega arith
     each (Update id fact) = omega arith
     each (Amend id part) = omega arith
+    each (Upsert id fact) = omega arith
     each (Delete id) = omega arith
+    each (Remove id) = omega arith
 
 -- the text of the header begins with `o`
 records_of-feed : (s : Layout) (lines : List (List (List ℕ))) → AllByRecursion (λ fields. 1 ≤ length fields) lines

@@ -11,7 +11,7 @@ use Rattle.cube_core.specs.Amendment.{fields_over, over}
 use Rattle.cube_core.specs.Life.{id_of, naming, is_delete, since_delete, updated, from_insert, life_of}
 use Rattle.cube_core.specs.declared.fact.Fact.{Fact}
 use Rattle.cube_core.specs.declared.change.Change.{Change}
-use Rattle.cube_core.specs.declared.change.Change.TheVariants.{Insert, Update, Amend, Delete}
+use Rattle.cube_core.specs.declared.change.Change.TheVariants.{Insert, Update, Amend, Upsert, Delete, Remove}
 use Rattle.cube_core.specs.declared.partial.Field.{Field}
 use Rattle.cube_core.specs.declared.partial.Field.TheVariants.{Keep, Put}
 use Rattle.cube_core.specs.declared.partial.Partial.{Partial}
@@ -82,7 +82,16 @@ updated-last s values fields count place part below (Amend id amendment ∷ chan
     (filter_map (put_at values fields place) changes)
     ∙ ap (λ o. last_after (slice_get (values fact) place)
     (cons_option (option_and_then value_put o) (filter_map (put_at values fields place) changes))) (sym there.1)
+updated-last s values fields count place part below (Upsert id other ∷ changes) fact taken long =
+    let both = and_parts (takes s (Upsert id other)) (list_all (takes s) changes) taken in
+    let long' : length (values other) ≡ count = part.of_fact other (and_parts _ _ both.0).1 in
+    let there = slice_get-length (values other) place (omega arith) in
+    updated-last s values fields count place part below changes other both.1 long'
+    ∙ sym (last_after-put (slice_get (values fact) place) (slice_get (values other) place) there.0
+    (filter_map (put_at values fields place) changes) there.1)
 updated-last s values fields count place part below (Delete id ∷ changes) fact taken long =
+    updated-last s values fields count place part below changes fact (and_parts _ _ taken).1 long
+updated-last s values fields count place part below (Remove id ∷ changes) fact taken long =
     updated-last s values fields count place part below changes fact (and_parts _ _ taken).1 long
 
 -- from the first insert on
@@ -104,7 +113,18 @@ from_insert-last s values fields count place part below (Update id other ∷ cha
     from_insert-last s values fields count place part below changes fact (and_parts _ _ taken).1 present
 from_insert-last s values fields count place part below (Amend id other ∷ changes) fact taken present =
     from_insert-last s values fields count place part below changes fact (and_parts _ _ taken).1 present
+from_insert-last s values fields count place part below (Upsert id first ∷ changes) fact taken present =
+    let both = and_parts (takes s (Upsert id first)) (list_all (takes s) changes) taken in
+    let long : length (values first) ≡ count = part.of_fact first (and_parts _ _ both.0).1 in
+    let there = slice_get-length (values first) place (omega arith) in
+    let is : fact ≡ updated first changes = cc present in
+    ap (λ f. slice_get (values f) place) is
+    ∙ updated-last s values fields count place part below changes first both.1 long
+    ∙ sym (last_after-put None (slice_get (values first) place) there.0
+    (filter_map (put_at values fields place) changes) there.1)
 from_insert-last s values fields count place part below (Delete id ∷ changes) fact taken present =
+    from_insert-last s values fields count place part below changes fact (and_parts _ _ taken).1 present
+from_insert-last s values fields count place part below (Remove id ∷ changes) fact taken present =
     from_insert-last s values fields count place part below changes fact (and_parts _ _ taken).1 present
 
 -- a test of all holds of those that are left

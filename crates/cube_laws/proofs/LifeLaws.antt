@@ -9,9 +9,10 @@ use Rattle.std.proofs.lemmas.Bool.{cases_Bool, or_parts, or_right}
 use Rattle.cube_core.specs.Amendment.{fields_over}
 use Rattle.cube_core.specs.Life.{id_of, naming, is_delete, since_delete, from_insert, life_of}
 use Rattle.cube_core.proofs.LifeLaws.{life_after, life_of-naming, life_of-other, life_after-delete, bytes_eq-itself}
+use Rattle.cube_core.proofs.LifeLaws.{life_after-remove, life_after-upsert}
 use Rattle.cube_core.specs.declared.fact.Fact.{Fact}
 use Rattle.cube_core.specs.declared.change.Change.{Change}
-use Rattle.cube_core.specs.declared.change.Change.TheVariants.{Insert, Update, Amend, Delete}
+use Rattle.cube_core.specs.declared.change.Change.TheVariants.{Insert, Update, Amend, Upsert, Delete, Remove}
 use Rattle.cube_core.specs.declared.partial.Field.{Field}
 use Rattle.cube_core.specs.declared.partial.Field.TheVariants.{Keep, Put}
 use Rattle.cube_laws.specs.Life.{is_insert_of, inserts, keeping, putting}
@@ -20,6 +21,17 @@ use Rattle.cube_laws.specs.Life.{is_insert_of, inserts, keeping, putting}
 pub life_of-Delete : (id : List ℕ) (changes : List Change) → life_of id (changes ++ Delete id ∷ []) ≡ None
 life_of-Delete id changes =
     life_of-naming id changes (Delete id) (bytes_eq-itself id) ∙ sym (life_after-delete id (life_of id changes))
+
+-- and after a removal
+pub life_of-Remove : (id : List ℕ) (changes : List Change) → life_of id (changes ++ Remove id ∷ []) ≡ None
+life_of-Remove id changes =
+    life_of-naming id changes (Remove id) (bytes_eq-itself id) ∙ sym (life_after-remove id (life_of id changes))
+
+-- after an upsert it is present with its fact
+pub life_of-Upsert : (id : List ℕ) (changes : List Change) (fact : Fact)
+    → life_of id (changes ++ Upsert id fact ∷ []) ≡ Some fact
+life_of-Upsert id changes fact =
+    life_of-naming id changes (Upsert id fact) (bytes_eq-itself id) ∙ life_after-upsert id fact (life_of id changes)
 
 -- a change that doesn't insert an absent id leaves it absent
 pub life_of-is_insert_of : (id : List ℕ) (changes : List Change) (change : Change) → life_of id changes ≡ None
@@ -35,9 +47,15 @@ life_of-is_insert_of id changes (Amend named part) absent uninserted = elim (cas
   | inl same ↦ life_of-naming id changes (Amend named part) same ∙ ap (life_after (Amend named part)) absent
   | inr other ↦ life_of-other id changes (Amend named part) other ∙ absent
 ]
+life_of-is_insert_of id changes (Upsert named fact) absent uninserted =
+    life_of-other id changes (Upsert named fact) uninserted ∙ absent
 life_of-is_insert_of id changes (Delete named) absent uninserted = elim (cases_Bool (bytes_eq id named)) [
   | inl same ↦ life_of-naming id changes (Delete named) same ∙ ap (life_after (Delete named)) absent
   | inr other ↦ life_of-other id changes (Delete named) other ∙ absent
+]
+life_of-is_insert_of id changes (Remove named) absent uninserted = elim (cases_Bool (bytes_eq id named)) [
+  | inl same ↦ life_of-naming id changes (Remove named) same ∙ ap (life_after (Remove named)) absent
+  | inr other ↦ life_of-other id changes (Remove named) other ∙ absent
 ]
 
 -- so do many of them

@@ -12,9 +12,10 @@ use Rattle.cube_laws.specs.Merging.{joined, AreMergedOf, IsMergeTree, cube, merg
 use Rattle.cube_laws.proofs.GroupCountLaws.{Reordered-middle, Reordered-append}
 use Rattle.cube_laws.proofs.MergedLaws.{AreRowsOver-AreMergedOf}
 use Rattle.cube_laws.proofs.RowLaws.{AreRowsOver-unique}
-use Rattle.cube_laws.proofs.RowOrderLaws.{Reordered, Reordered-refl, Reordered-sym, next, exchange, both}
-use Rattle.cube_laws.proofs.RowOrderLaws.{IsPermutation-Reordered, Reordered-IsPermutation, AreRowsOver-IsPermutation}
-use Rattle.cube_laws.proofs.RowOrderLaws.{none as no_steps}
+use Rattle.cube_core.proofs.ReorderedLaws.{Reordered, Reordered-refl, Reordered-sym, next, exchange, both}
+use Rattle.cube_core.proofs.ReorderedLaws.{IsPermutation-Reordered, Reordered-IsPermutation}
+use Rattle.cube_laws.proofs.RowOrderLaws.{AreRowsOver-IsPermutation}
+use Rattle.cube_core.proofs.ReorderedLaws.{none as no_steps}
 
 -- two lists that begin a list change places
 Reordered-exchange : {X : Type 0} (xs ys zs : List X) → Reordered (xs ++ (ys ++ zs)) (ys ++ (xs ++ zs))

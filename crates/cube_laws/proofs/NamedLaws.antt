@@ -2,12 +2,12 @@
 use Rattle.std.proofs.Common.{◌≡◌, ◌≤◌, ◌<◌, ◌+◌, ℕ, zero, suc, Bool, true, false, not, List, [], ◌∷◌, ◌++◌, length}
 use Rattle.std.proofs.Common.{get_or, filter, map, codes, Option, Some, None, option_map, refl, sym, ap, ap₂, ◌∙◌}
 use Rattle.std.proofs.Common.{subst, inl, inr, arith, nat_lt, zero-add, IsPermutation}
-use Rattle.std.specs.Prelude.{◌==◌, cond, is_some, unwrap_or, if◌then◌else◌}
+use Rattle.std.specs.Prelude.{◌==◌, ◌||◌, cond, is_some, unwrap_or, if◌then◌else◌, Err}
 use Rattle.std.specs.List.{AllByRecursion, AllZip, filter_map, list_all, position_from, range_with_len}
 use Rattle.std.specs.Option.{option_map_or}
 use Rattle.std.specs.Str.{bytes_eq}
 use Rattle.std.proofs.lemmas.Bool.{and_from, and_parts, cases_Bool, eq-eqb, eqb-true, false_from_ne_true, false≢true}
-use Rattle.std.proofs.lemmas.Bool.{not-true}
+use Rattle.std.proofs.lemmas.Bool.{not-true, or_parts}
 use Rattle.std.proofs.lemmas.Iterator.Adapters.{position_from-zero}
 use Rattle.std.proofs.lemmas.List.{append-nil, ext_get_or, get_or-map, get_or_default, length-append, length-map}
 use Rattle.std.proofs.lemmas.List.{drop-drop, map-append}
@@ -22,7 +22,9 @@ use Rattle.cube_core.specs.FeedDocument.{columns_of_feed, dimension_column, feed
 use Rattle.cube_core.specs.FeedRecords.{FeedEnd, RestOfFeed, TooManyRecords, WrongHeader, found_columns, is_read}
 use Rattle.cube_core.specs.FeedRecords.{item_then, items_after, items_of, names_read, place_in, places_by}
 use Rattle.cube_core.specs.FeedRecords.{stands_once}
-use Rattle.cube_core.specs.Items.{change_of, dimension_fields, field_at, is_header, is_keep, measure_fields, width_of}
+use Rattle.cube_core.specs.Items.{change_of, delete_of, dimension_fields, field_at, insert_of, is_header, is_keep}
+use Rattle.cube_core.specs.Items.{measure_fields, remove_of, unless_at_fault, update_of, upsert_of, width_of}
+use Rattle.cube_core.specs.declared.change.LineFault.TheVariants as fault
 use Rattle.cube_core.specs.Layout.{IsSchema, Layout, are_distinct, is_lawful_name, is_listed}
 use Rattle.cube_core.specs.Plain.{nulls_of, plain_at, plain_by_name, plain_dimension, plain_in_order}
 use Rattle.cube_core.specs.Plain.{plain_measure, plain_measures, point_of}
@@ -36,8 +38,10 @@ use Rattle.cube_core.proofs.ListLaws.{filter-failed, filter-passed}
 use Rattle.cube_core.proofs.PlainLaws.{map-same, plain_dimension-same}
 use Rattle.cube_laws.proofs.FeedLaws.{is_header-header_for}
 use Rattle.cube_laws.specs.Feeds.{header_for}
-use Rattle.cube_laws.specs.Named.{AreReadAlike, bare_columns, by_names, in_order, own_columns, picked, whole_column}
-use Rattle.cube_laws.proofs.RowOrderLaws.{IsPermutation-Reordered, Reordered, filter-Reordered, length-Reordered}
+use Rattle.cube_laws.specs.Named.{AreReadAlike, bare_columns, by_names, in_order, own_columns, picked}
+use Rattle.cube_laws.specs.Named.{puts_or_removes, whole_column}
+use Rattle.cube_core.proofs.ReorderedLaws.{IsPermutation-Reordered, Reordered, filter-Reordered}
+use Rattle.cube_laws.proofs.RowOrderLaws.{length-Reordered}
 use Rattle.cube_core.specs.declared.feed_columns.DimensionPlace.{DimensionPlace}
 
 -- where the column of a dimension stands, by a header
@@ -364,30 +368,57 @@ module _ (s : Layout) (is : IsSchema s) where
       (map (at fields) s.dimensions) (map (at fields) s.measures) refl (length-map s.dimensions (at fields)))
       ∙ sym (ap (plain_in_order (in_order s)) (own-fields fields wide))
 
+  -- the operation of a plain record is that of the record
+  first-plain : (fields : List (List ℕ)) → 1 ≤ length fields
+      → field_at (plain_in_order (in_order s) fields) 0 ≡ field_at fields 0
+  first-plain [] some = absurd (omega arith)
+  first-plain (op ∷ fields) some = refl
+
+  -- a record that isn't an upsert or a removal spells the same change by names and in order
+  change_of-own : (plain : List (List ℕ)) → puts_or_removes plain ≡ false
+      → change_of named plain ≡ change_of (in_order s) plain
+  change_of-own plain neither =
+      let parts = or_parts (bytes_eq (field_at plain 0) (codes "P")) (bytes_eq (field_at plain 0) (codes "R")) neither in
+      ap₂ (λ (puts removes : Bool).
+      if bytes_eq (field_at plain 0) (codes "I") then unless_at_fault (insert_of named plain) named plain
+      else if bytes_eq (field_at plain 0) (codes "U") then unless_at_fault (update_of named plain) named plain
+      else if bytes_eq (field_at plain 0) (codes "D") then delete_of named plain
+      else if puts then unless_at_fault (upsert_of named plain) named plain
+      else if removes then remove_of named plain
+      else Err fault.Op) parts.0 parts.1
+
   items_after-own : (number : ℕ) (records : List (List (List ℕ)))
       → AllByRecursion (λ fields. length fields ≡ length (header_for s)) records
+      → AllByRecursion (λ fields. puts_or_removes fields ≡ false) records
       → items_after named (ByName (places_by (own_columns s) (header_for s))) number records
       ≡ items_after (in_order s) InOrder number records
-  items_after-own number [] wide = refl
-  items_after-own number (fields ∷ records) wide =
+  items_after-own number [] wide neither = refl
+  items_after-own number (fields ∷ records) wide neither =
       let no_more : RestOfFeed FeedEnd = record { items = []; end = TooManyRecords } in
-      ap₂ (λ (plain : List (List ℕ)) (rest : RestOfFeed FeedEnd). if nat_lt number s.max_records
-      then (if is_read s plain then item_then (record { number = number + 1; what = change_of s plain }) rest else rest)
-      else no_more)
-      (plain_by_name-own (number + 1) fields wide.0) (items_after-own (number + 1) records wide.1)
+      let same = plain_by_name-own (number + 1) fields wide.0 in
+      let plain : List (List ℕ) = plain_in_order (in_order s) fields in
+      let first : field_at plain 0 ≡ field_at fields 0 = first-plain fields (omega (arith, wide.0)) in
+      let none : puts_or_removes plain ≡ false =
+      ap (λ (op : List ℕ). bytes_eq op (codes "P") || bytes_eq op (codes "R")) first ∙ neither.0 in
+      let what = ap (change_of named) same ∙ change_of-own plain none in
+      let rest = items_after-own (number + 1) records wide.1 neither.1 in
+      λ i. if nat_lt number s.max_records
+      then (if is_read s (same i) then item_then (record { number = number + 1; what = what i }) (rest i) else rest i)
+      else no_more
 
 pub items_of-own : (s : Layout) (records : List (List (List ℕ))) → IsSchema s
     → AllByRecursion (λ fields. length fields ≡ width_of s) records
+    → AllByRecursion (λ fields. puts_or_removes fields ≡ false) records
     → items_of (by_names (own_columns s) s) (header_for s ∷ records)
     ≡ items_of (in_order s) (header_for s ∷ records)
-items_of-own s records is wide =
+items_of-own s records is wide neither =
     let columns = own_columns s in
     let once : list_all (stands_once (header_for s)) (names_read (own_columns s)) ≡ true =
     subst (λ names. list_all (stands_once (header_for s)) names ≡ true) (sym (names_read-own s))
     (stands_once-own (header_for s) (header_for-distinct s is)) in
     items_of-found (by_names columns s) (header_for s) records (ByName (places_by columns (header_for s)))
     (found_columns-once (by_names columns s) columns (header_for s) refl once)
-    ∙ items_after-own s is 0 records (each records wide)
+    ∙ items_after-own s is 0 records (each records wide) neither
     ∙ sym (items_of-found (in_order s) (header_for s) records InOrder
     (ap (λ (b : Bool). if b then Some InOrder else None) (is_header-header_for s)))
   where

@@ -14,7 +14,7 @@ use Rattle.cube_core.specs.Refusals.{present_code, absent_code, shape_code, code
 use Rattle.cube_core.specs.Refusals.{refusal_of}
 use Rattle.cube_core.specs.Takes.{takes, may_amend}
 use Rattle.cube_core.specs.declared.change.Change.{Change}
-use Rattle.cube_core.specs.declared.change.Change.TheVariants.{Insert, Update, Amend, Delete}
+use Rattle.cube_core.specs.declared.change.Change.TheVariants.{Insert, Update, Amend, Upsert, Delete, Remove}
 use Rattle.cube_core.specs.declared.change.Item.{Item}
 use Rattle.cube_core.specs.declared.change.LineFault.{LineFault}
 use Rattle.cube_core.specs.declared.change.LineFault.TheVariants as fault
@@ -34,8 +34,10 @@ life_after-refused s (Update id fact) None code refused = refl
 life_after-refused s (Update id fact) (Some old) code refused = cc
 life_after-refused s (Amend id part) None code refused = refl
 life_after-refused s (Amend id part) (Some old) code refused = cc
+life_after-refused s (Upsert id fact) life code refused = cc
 life_after-refused s (Delete id) None code refused = refl
 life_after-refused s (Delete id) (Some old) code refused = cc
+life_after-refused s (Remove id) life code refused = cc
 
 life_after-Makes : (s : Layout) (change : Change) (life : Option Fact)
     → code_by_presence s change (is_some life) ≡ None → Makes change life (life_after change life)
@@ -45,8 +47,12 @@ life_after-Makes s (Update id fact) None accepted = cc
 life_after-Makes s (Update id fact) (Some old) accepted = (refl, refl)
 life_after-Makes s (Amend id part) None accepted = cc
 life_after-Makes s (Amend id part) (Some old) accepted = (old, refl, refl)
+life_after-Makes s (Upsert id fact) None accepted = refl
+life_after-Makes s (Upsert id fact) (Some old) accepted = refl
 life_after-Makes s (Delete id) None accepted = cc
 life_after-Makes s (Delete id) (Some old) accepted = (refl, refl)
+life_after-Makes s (Remove id) None accepted = refl
+life_after-Makes s (Remove id) (Some old) accepted = refl
 
 -- the code of a change that is taken, and that of one that isn't
 abbrev code_if : Layout → List Change → Change → Bool → Option ℕ
@@ -227,8 +233,10 @@ life-cases (Update id fact) None code s before is taken told = (StillAbsent, upd
 life-cases (Update id fact) (Some old) code s before is taken told = cc
 life-cases (Amend id part) None code s before is taken told = (StillAbsent, amendment_of_absent id part taken is)
 life-cases (Amend id part) (Some old) code s before is taken told = cc
+life-cases (Upsert id fact) life code s before is taken told = cc
 life-cases (Delete id) None code s before is taken told = (StillAbsent, delete_of_absent id taken is)
 life-cases (Delete id) (Some old) code s before is taken told = cc
+life-cases (Remove id) life code s before is taken told = cc
 
 why-what : (s : Layout) (before : List Item) (what : Result Change LineFault) (code : ℕ)
     → code_of s before what ≡ Some code → (reason : Reason) × WhyRefused s before what reason

@@ -20,7 +20,7 @@ use Rattle.cube_core.specs.declared.key.Coord.{Coord}
 use Rattle.cube_core.specs.declared.key.Coord.TheVariants as coord
 use Rattle.cube_core.specs.declared.key.Key.{Key}
 use Rattle.cube_core.specs.declared.key.Row.{Row}
-use Rattle.cube_laws.proofs.RowOrderLaws.{Reordered}
+use Rattle.cube_core.proofs.ReorderedLaws.{Reordered}
 use Rattle.cube_laws.proofs.CountLaws.{AreRows-covers}
 use Rattle.cube_laws.proofs.GroupCountLaws.{count_by-one, SharedOut, joined_groups, joined_groups-filter}
 use Rattle.cube_core.proofs.AncestorLaws.{coord_of, coord_of-stands_for, stands_for-coord_of, is_all_coord-coord_of}

@@ -19,7 +19,8 @@ use Rattle.cube_core.specs.declared.aggregate.Answer.{Answer}
 use Rattle.cube_core.specs.declared.aggregate.Answer.TheVariants as answer
 use Rattle.cube_core.specs.declared.fact.Fact.{Fact}
 use Rattle.cube_core.specs.declared.key.Row.{Row}
-use Rattle.cube_laws.proofs.RowOrderLaws.{Reordered, Reordered-sym, length-Reordered, values_of-Reordered}
+use Rattle.cube_core.proofs.ReorderedLaws.{Reordered, Reordered-sym}
+use Rattle.cube_laws.proofs.RowOrderLaws.{length-Reordered, values_of-Reordered}
 use Rattle.cube_laws.proofs.RowOrderLaws.{IsSum-Reordered, IsBest-Reordered}
 use Rattle.cube_laws.proofs.CountLaws.{AreRows-answer_at}
 use Rattle.cube_laws.proofs.GroupCountLaws.{joined_groups}

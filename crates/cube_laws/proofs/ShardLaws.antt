@@ -3,7 +3,7 @@ use Rattle.std.proofs.Common.{◌≡◌, ℕ, zero, suc, ◌+◌, ◌<◌, ◌�
 use Rattle.std.proofs.Common.{length, map, filter, filter_map, drop, get_or, if◌then◌else◌, Option, Some, None, IsSome}
 use Rattle.std.proofs.Common.{IfSome, Result, Ok, Err, IfOk, Contains, option_map, ◌≢◌, refl, sym, ap, ◌∙◌, subst, inl}
 use Rattle.std.proofs.Common.{inr, arith, append_assoc, length-append, codes}
-use Rattle.std.specs.Prelude.{◌==◌, ◌||◌, ◌%◌, is_some}
+use Rattle.std.specs.Prelude.{◌==◌, ◌||◌, ◌&&◌, ◌%◌, is_some}
 use Rattle.std.specs.Option.{option_map_or, option_to_list}
 use Rattle.std.specs.List.{AllByRecursion, AllZip, IsDistinct, list_all, cons_option, range_with_len}
 use Rattle.std.specs.Str.{bytes_eq, is_utf8}
@@ -17,13 +17,14 @@ use Rattle.std.proofs.lemmas.Slice.Eq.{bytes_eq-Decides}
 use Rattle.cube_core.specs.FeedRecords.{RestOfFeed, FeedEnd, Good, TooManyRecords, WrongHeader, item_then}
 use Rattle.cube_core.specs.FeedRecords.{found_columns, is_read, items_after, items_of, plain_of}
 use Rattle.cube_core.specs.Items.{change_of, field_at, insert_of, is_measure, keeps_any, measure_fields}
-use Rattle.cube_core.specs.Items.{unless_at_fault, update_of, width_of}
+use Rattle.cube_core.specs.Items.{unless_at_fault, update_of, upsert_of, width_of}
+use Rattle.cube_core.specs.declared.change.Change.TheVariants.{Delete, Remove}
 use Rattle.cube_core.specs.Layout.{Layout}
 use Rattle.cube_core.specs.Life.{changes_of, from_insert, id_of, life_of, since_delete, taken_change}
 use Rattle.cube_core.specs.Refusals.{code_by_presence, code_of, refusal_of, refusals_of, shape_code}
 use Rattle.cube_core.specs.Shard.{fnv_hash, is_in_shard, shard_of, whole_feed}
 use Rattle.cube_core.specs.Surviving.{AreSurviving, Survive}
-use Rattle.cube_core.specs.Takes.{takes}
+use Rattle.cube_core.specs.Takes.{takes, may_upsert}
 use Rattle.cube_core.specs.declared.change.Change.{Change}
 use Rattle.cube_core.specs.declared.change.Item.{Item}
 use Rattle.cube_core.specs.declared.change.LineFault.{LineFault}
@@ -31,7 +32,7 @@ use Rattle.cube_core.specs.declared.change.Refusal.{Refusal}
 use Rattle.cube_core.specs.declared.fact.Fact.{Fact}
 use Rattle.cube_core.specs.declared.feed_columns.FoundColumns.{FoundColumns}
 use Rattle.cube_core.specs.declared.feed_columns.FoundColumns.TheVariants.{InOrder, ByName}
-use Rattle.cube_core.proofs.ItemLaws.{IfOk-if}
+use Rattle.cube_core.proofs.ItemLaws.{IfOk-if, unless_id_at_fault-IfOk}
 use Rattle.cube_core.proofs.ListLaws.{AllByRecursion-Contains, Contains-AllByRecursion, Contains-head, Contains-nil}
 use Rattle.cube_core.proofs.ListLaws.{Contains-tail, filter-failed, filter-passed}
 use Rattle.cube_core.proofs.RefusalLaws.{refusals_of-more}
@@ -141,11 +142,13 @@ change_of-Names s fields =
     (λ letter. unless_at_fault-Names s fields (update_of s fields)
     (IfOk-if (Names fields) (keeps_any s fields) _ _ (λ keeps. refl) (λ none. refl)))
     (λ neither. IfOk-if (Names fields) (bytes_eq (field_at fields 0) (codes "D")) _ _
-    (λ letter.
-    IfOk-if (Names fields) (not ((length fields == 2) || (length fields == width_of s))) _ _ (λ wrong. tt) (λ right.
-    IfOk-if (Names fields) (not (is_utf8 (field_at fields 1))) _ _ (λ bad. tt) (λ text.
-    IfOk-if (Names fields) (length (field_at fields 1) == 0) _ _ (λ empty. tt) (λ named. refl))))
-    (λ none. tt)))
+    (λ letter. unless_id_at_fault-IfOk (Names fields) s fields (Delete (field_at fields 1)) (λ named. refl))
+    (λ not_delete. IfOk-if (Names fields) (may_upsert s && bytes_eq (field_at fields 0) (codes "P")) _ _
+    (λ letter. unless_at_fault-Names s fields (upsert_of s fields)
+    (IfOk-if (Names fields) (keeps_any s fields) _ _ (λ keeps. tt) (λ none. refl)))
+    (λ not_upsert. IfOk-if (Names fields) (may_upsert s && bytes_eq (field_at fields 0) (codes "R")) _ _
+    (λ letter. unless_id_at_fault-IfOk (Names fields) s fields (Remove (field_at fields 1)) (λ named. refl))
+    (λ none. tt)))))
 
 -- ---- the life of an id in the changes of a shard
 -- whether a change is of this shard among so many

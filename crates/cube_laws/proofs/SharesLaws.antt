@@ -20,7 +20,8 @@ use Rattle.cube_core.proofs.ListLaws.{AllByRecursion-Contains, Contains-AllByRec
 use Rattle.cube_laws.specs.Cells.{answer_at}
 use Rattle.cube_laws.specs.Merging.{CanBeMadeOf}
 use Rattle.cube_laws.proofs.CountLaws.{AreAnswers-slice_get}
-use Rattle.cube_laws.proofs.RowOrderLaws.{Reordered, IsPermutation-Reordered, filter_map-Reordered, total_of-Reordered}
+use Rattle.cube_core.proofs.ReorderedLaws.{Reordered, IsPermutation-Reordered}
+use Rattle.cube_laws.proofs.RowOrderLaws.{filter_map-Reordered, total_of-Reordered}
 use Rattle.cube_laws.proofs.RowOrderLaws.{IsSum-Reordered, IsBest-Reordered}
 use Rattle.cube_laws.proofs.RollupBestLaws.{Says, IsSum-Says, numbers_among, numbers_among-none, numbers_among-total_of}
 use Rattle.cube_laws.proofs.RollupBestLaws.{IsBest-numbers_among, IsBest-values_under, IsSum-total_of}

@@ -16,7 +16,7 @@ use Rattle.cube_core.specs.Sources.{SurviveTogether, IsPrintedOf, items_of_sourc
 use Rattle.cube_core.specs.Surviving.{AreSurviving, Survive}
 use Rattle.cube_core.specs.Takes.{takes}
 use Rattle.cube_core.specs.declared.change.Change.{Change}
-use Rattle.cube_core.specs.declared.change.Change.TheVariants.{Insert, Update, Amend, Delete}
+use Rattle.cube_core.specs.declared.change.Change.TheVariants.{Insert, Update, Amend, Upsert, Delete, Remove}
 use Rattle.cube_core.specs.declared.change.Item.{Item}
 use Rattle.cube_core.specs.declared.change.LineFault.{LineFault}
 use Rattle.cube_core.specs.declared.fact.Fact.{Fact}
@@ -58,7 +58,9 @@ takes-partial : (s : Layout) (change : Change) → takes (partial_form s) change
 takes-partial s (Insert id fact) = refl
 takes-partial s (Update id fact) = refl
 takes-partial s (Amend id part) = refl
+takes-partial s (Upsert id fact) = refl
 takes-partial s (Delete id) = refl
+takes-partial s (Remove id) = refl
 
 taken_change-partial : (s : Layout) (what : Result Change LineFault)
     → taken_change (partial_form s) what ≡ taken_change s what

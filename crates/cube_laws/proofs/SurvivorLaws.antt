@@ -18,8 +18,9 @@ use Rattle.cube_core.specs.declared.change.Item.{Item}
 use Rattle.cube_core.specs.Sources.{SurviveTogether, IsPrintedOf}
 use Rattle.cube_core.proofs.LifeLaws.{bytes_eq-itself}
 use Rattle.cube_laws.proofs.RowLaws.{IsPrinted-unique}
-use Rattle.cube_laws.proofs.RowOrderLaws.{Reordered, none, next, both, Reordered-sym, IsPermutation-Reordered}
-use Rattle.cube_laws.proofs.RowOrderLaws.{Reordered-IsPermutation, filter_map-Reordered, IsPrinted-IsPermutation}
+use Rattle.cube_core.proofs.ReorderedLaws.{Reordered, none, next, both, Reordered-sym, IsPermutation-Reordered}
+use Rattle.cube_core.proofs.ReorderedLaws.{Reordered-IsPermutation}
+use Rattle.cube_laws.proofs.RowOrderLaws.{filter_map-Reordered, IsPrinted-IsPermutation}
 use Rattle.cube_core.proofs.ListLaws.{AllByRecursion-Contains, Contains-cases, Contains-head, Contains-nil}
 use Rattle.cube_core.proofs.ListLaws.{Contains-tail}
 

@@ -17,7 +17,7 @@ use Rattle.std.proofs.lemmas.Map.Keys.{IsDistinct-tail}
 use Rattle.std.proofs.lemmas.Slice.Eq.{bytes_eq-Decides}
 use Rattle.cube_core.specs.Amendment.{over, fields_over}
 use Rattle.cube_core.specs.Items.{change_of, fact_of, fits_i64, insert_of, is_keep, is_measure, is_null, is_number}
-use Rattle.cube_core.specs.Items.{keeps_any, measure_field_of, measure_fields}
+use Rattle.cube_core.specs.Items.{keeps_any, measure_field_of, measure_fields, upsert_of}
 use Rattle.cube_core.specs.FeedRecords.{WrongHeader, RestOfFeed, feed_records, found_columns, is_read, items_after}
 use Rattle.cube_core.specs.FeedRecords.{FeedEnd, items_of, plain_of}
 use Rattle.cube_core.specs.Items.{measure_of, number_of, unless_at_fault, update_of, width_of, field_at}
@@ -26,9 +26,10 @@ use Rattle.cube_core.specs.Life.{id_of, naming, is_delete, since_delete, updated
 use Rattle.cube_core.specs.Life.{changes_of}
 use Rattle.cube_core.specs.Sources.{SurviveTogether, items_of_sources}
 use Rattle.cube_core.specs.Surviving.{AreSurviving, Survive}
-use Rattle.cube_core.specs.Takes.{fits, fits_part, is_dimension_value, is_id, may_amend, puts_dimension_value, takes}
+use Rattle.cube_core.specs.Takes.{fits, fits_part, is_dimension_value, is_id, may_amend, may_upsert, takes}
+use Rattle.cube_core.specs.Takes.{puts_dimension_value}
 use Rattle.cube_core.specs.declared.change.Change.{Change}
-use Rattle.cube_core.specs.declared.change.Change.TheVariants.{Insert, Update, Amend, Delete}
+use Rattle.cube_core.specs.declared.change.Change.TheVariants.{Insert, Update, Amend, Upsert, Delete, Remove}
 use Rattle.cube_core.specs.declared.change.Item.{Item}
 use Rattle.cube_core.specs.declared.change.LineFault.{LineFault}
 use Rattle.cube_core.specs.declared.fact.Fact.{Fact}
@@ -37,7 +38,7 @@ use Rattle.cube_core.specs.declared.partial.Field.{Field}
 use Rattle.cube_core.specs.declared.partial.Field.TheVariants.{Keep, Put}
 use Rattle.cube_core.specs.declared.partial.Partial.{Partial}
 use Rattle.cube_core.proofs.AmendmentLaws.{length-fields_over}
-use Rattle.cube_core.proofs.ItemLaws.{IfOk-if}
+use Rattle.cube_core.proofs.ItemLaws.{IfOk-if, unless_id_at_fault-IfOk}
 use Rattle.cube_core.proofs.ListLaws.{AllByRecursion-Contains, Contains-AllByRecursion, Contains-cases, Contains-head}
 use Rattle.cube_core.proofs.ListLaws.{Contains-tail, list_any-Contains, map-Contains}
 use Rattle.cube_laws.specs.Merging.{joined}
@@ -45,7 +46,8 @@ use Rattle.cube_laws.specs.Told.{CanBePrinted, HasSmallValues}
 use Rattle.cube_laws.proofs.MergedLaws.{filter-none}
 use Rattle.cube_merge.proofs.MergedLaws.{AllByRecursion-append}
 use Rattle.cube_laws.proofs.RangeLaws.{AllByRecursion-cons_option, length-cons_option-le}
-use Rattle.cube_laws.proofs.RowOrderLaws.{IsPermutation-Reordered, length-Reordered}
+use Rattle.cube_core.proofs.ReorderedLaws.{IsPermutation-Reordered}
+use Rattle.cube_laws.proofs.RowOrderLaws.{length-Reordered}
 use Rattle.cube_laws.proofs.SurvivorLaws.{filter_map-map, head-once}
 
 -- ---- amendments of facts that fit
@@ -114,7 +116,9 @@ abbrev IsFitChange : Layout → Change → Type 0
 IsFitChange s (Insert id fact) = IsFitFact s fact
 IsFitChange s (Update id fact) = IsFitFact s fact
 IsFitChange s (Amend id part) = IsFitPart s part
+IsFitChange s (Upsert id fact) = IsFitFact s fact
 IsFitChange s (Delete id) = Unit {0}
+IsFitChange s (Remove id) = Unit {0}
 
 updated-fit : (s : Layout) (changes : List Change) (fact : Fact) → AllByRecursion (IsFitChange s) changes
     → IsFitFact s fact → IsFitFact s (updated fact changes)
@@ -123,7 +127,9 @@ updated-fit s (Insert id other ∷ changes) fact all fit = updated-fit s changes
 updated-fit s (Update id other ∷ changes) fact all fit = updated-fit s changes other all.1 all.0
 updated-fit s (Amend id part ∷ changes) fact all fit =
     updated-fit s changes (over part fact) all.1 (IsFitFact-over s part fact all.0 fit)
+updated-fit s (Upsert id other ∷ changes) fact all fit = updated-fit s changes other all.1 all.0
 updated-fit s (Delete id ∷ changes) fact all fit = updated-fit s changes fact all.1 fit
+updated-fit s (Remove id ∷ changes) fact all fit = updated-fit s changes fact all.1 fit
 
 from_insert-fit : (s : Layout) (changes : List Change) → AllByRecursion (IsFitChange s) changes
     → IfSome (from_insert changes) (IsFitFact s)
@@ -131,7 +137,9 @@ from_insert-fit s [] all = tt
 from_insert-fit s (Insert id fact ∷ changes) all = updated-fit s changes fact all.1 all.0
 from_insert-fit s (Update id fact ∷ changes) all = from_insert-fit s changes all.1
 from_insert-fit s (Amend id part ∷ changes) all = from_insert-fit s changes all.1
+from_insert-fit s (Upsert id fact ∷ changes) all = updated-fit s changes fact all.1 all.0
 from_insert-fit s (Delete id ∷ changes) all = from_insert-fit s changes all.1
+from_insert-fit s (Remove id ∷ changes) all = from_insert-fit s changes all.1
 
 since_delete-all : (P : Change → Type 0) (changes : List Change) → AllByRecursion P changes
     → AllByRecursion P (since_delete changes)
@@ -272,7 +280,9 @@ abbrev IsSmallChange : Change → Type 0
 IsSmallChange (Insert id fact) = HasSmallValues fact
 IsSmallChange (Update id fact) = HasSmallValues fact
 IsSmallChange (Amend id part) = AllByRecursion IsSmallField part.measures
+IsSmallChange (Upsert id fact) = HasSmallValues fact
 IsSmallChange (Delete id) = Unit {0}
+IsSmallChange (Remove id) = Unit {0}
 
 fact_of-small : (s : Layout) (fields : List (List ℕ)) → HasSmallValues (fact_of s fields)
 fact_of-small s fields = filter_map-all IsSmall measure_of (measure_fields s fields) measure_of-small
@@ -297,11 +307,13 @@ change_of-small s fields =
     (λ keeps. filter_map-all IsSmallField (measure_field_of s) (measure_fields s fields) (measure_field_of-small s))
     (λ none. fact_of-small s fields)))
     (λ neither. IfOk-if IsSmallChange (bytes_eq (field_at fields 0) (codes "D")) _ _
-    (λ letter.
-    IfOk-if IsSmallChange (not ((length fields == 2) || (length fields == width_of s))) _ _ (λ wrong. tt) (λ right.
-    IfOk-if IsSmallChange (not (is_utf8 (field_at fields 1))) _ _ (λ bad. tt) (λ text.
-    IfOk-if IsSmallChange (length (field_at fields 1) == 0) _ _ (λ empty. tt) (λ named. tt))))
-    (λ none. tt)))
+    (λ letter. unless_id_at_fault-IfOk IsSmallChange s fields (Delete (field_at fields 1)) (λ named. tt))
+    (λ not_delete. IfOk-if IsSmallChange (may_upsert s && bytes_eq (field_at fields 0) (codes "P")) _ _
+    (λ letter. unless_at_fault-small s fields (upsert_of s fields)
+    (IfOk-if IsSmallChange (keeps_any s fields) _ _ (λ keeps. tt) (λ none. fact_of-small s fields)))
+    (λ not_upsert. IfOk-if IsSmallChange (may_upsert s && bytes_eq (field_at fields 0) (codes "R")) _ _
+    (λ letter. unless_id_at_fault-IfOk IsSmallChange s fields (Remove (field_at fields 1)) (λ named. tt))
+    (λ none. tt)))))
 
 -- an item of a feed
 abbrev IsSmallItem : Item → Type 0
@@ -363,7 +375,10 @@ takes-fit s (Insert id fact) taken small = record { fit = (and_parts (is_id id) 
 takes-fit s (Update id fact) taken small = record { fit = (and_parts (is_id id) (fits s fact) taken).1; small = small }
 takes-fit s (Amend id part) taken small =
     record { fit = (and_parts (may_amend s && is_id id) (fits_part s part) taken).1; small = small }
+takes-fit s (Upsert id fact) taken small =
+    record { fit = (and_parts (may_upsert s && is_id id) (fits s fact) taken).1; small = small }
 takes-fit s (Delete id) taken small = tt
+takes-fit s (Remove id) taken small = tt
 
 taken_change-fit : (s : Layout) (what : Result Change LineFault) → IfOk what IsSmallChange
     → IfSome (taken_change s what) (IsFitChange s)

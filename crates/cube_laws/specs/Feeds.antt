@@ -8,7 +8,7 @@ use Rattle.std.specs.Str.{is_utf8}
 use Rattle.cube_core.specs.Layout.{Layout}
 use Rattle.cube_core.specs.Takes.{takes}
 use Rattle.cube_core.specs.declared.change.Change.{Change}
-use Rattle.cube_core.specs.declared.change.Change.TheVariants.{Insert, Update, Amend, Delete}
+use Rattle.cube_core.specs.declared.change.Change.TheVariants.{Insert, Update, Amend, Upsert, Delete, Remove}
 use Rattle.cube_core.specs.declared.change.Item.{Item}
 use Rattle.cube_core.specs.declared.partial.Field.{Field}
 use Rattle.cube_core.specs.declared.partial.Field.TheVariants.{Keep, Put}
@@ -32,7 +32,7 @@ put_text text (Put value) = text value
 abbrev pub record_with : List ℕ → List ℕ → List (List ℕ) → List (List ℕ) → List (List ℕ)
 record_with operation id dimensions measures = operation ∷ id ∷ dimensions ++ measures
 
--- the record that spells a change: `I`, `U` or `D`, the id, and the fields of its fact or its amendment
+-- the record that spells a change: `I`, `U`, `D`, `P` or `R`, the id, and the fields of its fact or its amendment
 abbrev pub record_for : Change → List (List ℕ)
 record_for (Insert id fact) =
     record_with (codes "I") id (map dimension_text fact.dims) (map measure_text fact.measures)
@@ -40,7 +40,10 @@ record_for (Update id fact) =
     record_with (codes "U") id (map dimension_text fact.dims) (map measure_text fact.measures)
 record_for (Amend id part) =
     record_with (codes "U") id (map (put_text dimension_text) part.dims) (map (put_text measure_text) part.measures)
+record_for (Upsert id fact) =
+    record_with (codes "P") id (map dimension_text fact.dims) (map measure_text fact.measures)
 record_for (Delete id) = codes "D" ∷ id ∷ []
+record_for (Remove id) = codes "R" ∷ id ∷ []
 
 -- the header of a schema's feeds
 abbrev pub header_for : Layout → List (List ℕ)
@@ -76,7 +79,10 @@ HasRecord s (Amend id part) =
     (is_utf8 id ≡ true) × AllByRecursion (Puts (HasField s)) part.dims
     × AllByRecursion (Puts HasNumber) part.measures
     × (list_any is_kept part.dims || list_any is_kept part.measures ≡ true)
+HasRecord s (Upsert id fact) =
+    (is_utf8 id ≡ true) × AllByRecursion (HasField s) fact.dims × AllByRecursion HasNumber fact.measures
 HasRecord s (Delete id) = is_utf8 id ≡ true
+HasRecord s (Remove id) = is_utf8 id ≡ true
 
 -- a change that a schema takes and its feeds can write
 pub record CanBeSpelled (s : Layout) (change : Change) : Type 0 where

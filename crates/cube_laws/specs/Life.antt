@@ -7,19 +7,21 @@ use Rattle.std.specs.List.{list_any, filter_map, cons_option, fold}
 use Rattle.cube_core.specs.Life.{life_of}
 use Rattle.cube_core.specs.declared.fact.Fact.{Fact}
 use Rattle.cube_core.specs.declared.change.Change.{Change}
-use Rattle.cube_core.specs.declared.change.Change.TheVariants.{Insert, Update, Amend, Delete}
+use Rattle.cube_core.specs.declared.change.Change.TheVariants.{Insert, Update, Amend, Upsert, Delete, Remove}
 use Rattle.cube_core.specs.declared.partial.Field.{Field}
 use Rattle.cube_core.specs.declared.partial.Field.TheVariants.{Keep, Put}
 use Rattle.cube_core.specs.declared.partial.Partial.{Partial}
 
--- whether a change inserts an id
+-- whether a change inserts an id, or upserts it
 abbrev pub is_insert_of : List ℕ → Change → Bool
 is_insert_of id (Insert named fact) = bytes_eq id named
 is_insert_of id (Update named fact) = false
 is_insert_of id (Amend named part) = false
+is_insert_of id (Upsert named fact) = bytes_eq id named
 is_insert_of id (Delete named) = false
+is_insert_of id (Remove named) = false
 
--- whether a list of changes inserts an id
+-- whether a list of changes inserts an id, or upserts it
 abbrev pub inserts : List ℕ → List Change → Bool
 inserts id changes = list_any (is_insert_of id) changes
 
@@ -49,16 +51,21 @@ abbrev pub put_at : {A : Type 0} → (Fact → List A) → (Partial → List (Fi
 put_at values fields place (Insert id fact) = None
 put_at values fields place (Update id fact) = slice_get (values fact) place
 put_at values fields place (Amend id part) = option_and_then value_put (slice_get (fields part) place)
+put_at values fields place (Upsert id fact) = slice_get (values fact) place
 put_at values fields place (Delete id) = None
+put_at values fields place (Remove id) = None
 
--- what is put at a place from the first insert on, later inserts excepted
+-- what is put at a place from the first insert or upsert on, later inserts excepted
 abbrev pub puts_at : {A : Type 0} → (Fact → List A) → (Partial → List (Field A)) → ℕ → List Change → List A
 puts_at values fields place [] = []
 puts_at values fields place (Insert id fact ∷ changes) =
     cons_option (slice_get (values fact) place) (filter_map (put_at values fields place) changes)
 puts_at values fields place (Update id fact ∷ changes) = puts_at values fields place changes
 puts_at values fields place (Amend id part ∷ changes) = puts_at values fields place changes
+puts_at values fields place (Upsert id fact ∷ changes) =
+    cons_option (slice_get (values fact) place) (filter_map (put_at values fields place) changes)
 puts_at values fields place (Delete id ∷ changes) = puts_at values fields place changes
+puts_at values fields place (Remove id ∷ changes) = puts_at values fields place changes
 
 -- what is put in a dimension, and in a measure
 abbrev pub dimension_puts : ℕ → List Change → List (Option (List ℕ))

@@ -1,6 +1,7 @@
 -- The words of the laws on feeds whose columns are known by their names (this project's choice).
-use Rattle.std.specs.Prelude.{◌≡◌, ℕ, List, [], ◌∷◌, length, map, codes, Some, None}
+use Rattle.std.specs.Prelude.{◌≡◌, ◌||◌, ℕ, Bool, List, [], ◌∷◌, length, map, codes, Some, None}
 use Rattle.std.specs.List.{AllByRecursion}
+use Rattle.std.specs.Str.{bytes_eq}
 use Rattle.cube_core.specs.FeedRecords.{names_read, place_in}
 use Rattle.cube_core.specs.Items.{field_at}
 use Rattle.cube_core.specs.Layout.{Layout}
@@ -44,6 +45,10 @@ by_names columns s = record s { columns = Some columns }
 
 abbrev pub in_order : Layout → Layout
 in_order s = record s { columns = None }
+
+-- whether the operation of a record is one that feeds by names alone have
+abbrev pub puts_or_removes : List (List ℕ) → Bool
+puts_or_removes fields = bytes_eq (field_at fields 0) (codes "P") || bytes_eq (field_at fields 0) (codes "R")
 
 -- two records are read alike: each is as wide as its header, and they have the same fields in the columns that are read
 pub record AreReadAlike (columns : FeedColumns) (header other fields others : List (List ℕ)) : Type 0 where

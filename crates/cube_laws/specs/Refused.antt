@@ -6,7 +6,7 @@ use Rattle.cube_core.specs.Layout.{Layout}
 use Rattle.cube_core.specs.Life.{id_of, life_of, changes_of}
 use Rattle.cube_core.specs.Takes.{takes}
 use Rattle.cube_core.specs.declared.change.Change.{Change}
-use Rattle.cube_core.specs.declared.change.Change.TheVariants.{Insert, Update, Amend, Delete}
+use Rattle.cube_core.specs.declared.change.Change.TheVariants.{Insert, Update, Amend, Upsert, Delete, Remove}
 use Rattle.cube_core.specs.declared.change.Item.{Item}
 use Rattle.cube_core.specs.declared.change.LineFault.{LineFault}
 use Rattle.cube_core.specs.declared.change.LineFault.TheVariants as fault
@@ -18,7 +18,9 @@ abbrev pub Makes : Change → Option Fact → Option Fact → Type 0
 Makes (Insert id fact) old new = (old ≡ None) × (new ≡ Some fact)
 Makes (Update id fact) old new = IsSome old × (new ≡ Some fact)
 Makes (Amend id part) old new = (fact : Fact) × (old ≡ Some fact) × (new ≡ Some (over part fact))
+Makes (Upsert id fact) old new = new ≡ Some fact
 Makes (Delete id) old new = IsSome old × (new ≡ None)
+Makes (Remove id) old new = new ≡ None
 
 -- an item after others is made: it says a change that the schema takes, which is made of its id and of no other
 pub record IsMade (s : Layout) (before : List Item) (item : Item) : Type 0 where

@@ -9,7 +9,7 @@ ghost use Rattle.std.specs.List.{list_all};
 ghost use Rattle.cube_laws.specs.Life.{inserts, IsAbsent, IsPresentWith, keeping, putting, dimension_puts, measure_puts, last_of};
 ghost use Rattle.cube_core.specs.declared.fact.Fact.{Fact};
 ghost use Rattle.cube_core.specs.declared.change.Change.{Change};
-ghost use Rattle.cube_core.specs.declared.change.Change.TheVariants.{Insert, Update, Amend, Delete};
+ghost use Rattle.cube_core.specs.declared.change.Change.TheVariants.{Insert, Update, Amend, Upsert, Delete, Remove};
 ghost use Rattle.cube_core.specs.declared.partial.Field.TheVariants.{Keep, Put};
 ghost use Rattle.cube_core.specs.declared.partial.Partial.{Partial};
 
@@ -121,12 +121,27 @@ pub fn each_field_is_the_one_put_last()
         ≡ last_of (measure_puts place (since_delete (naming id changes))) }
 {}
 
+/// After an upsert an id is present with its fact, whatever it was before, so a second one like it changes nothing
+/// (this project's choice).
+pub fn upsert_puts_in_any_case()
+    ensures present { (id : List ℕ) (changes : List Change) (fact : Fact) →
+        IsPresentWith id (changes ++ Upsert id fact ∷ []) fact }
+    ensures twice { (id : List ℕ) (changes : List Change) (fact : Fact) →
+        life_of id ((changes ++ Upsert id fact ∷ []) ++ Upsert id fact ∷ [])
+        ≡ life_of id (changes ++ Upsert id fact ∷ []) }
+{}
+
+/// After a removal an id is absent, whether or not it was present (this project's choice).
+pub fn is_absent_after_removal()
+    ensures { (id : List ℕ) (changes : List Change) → IsAbsent id (changes ++ Remove id ∷ []) }
+{}
+
 /// After a delete an id is absent, whether or not it was present (this project's choice).
 pub fn is_absent_after_delete()
     ensures { (id : List ℕ) (changes : List Change) → IsAbsent id (changes ++ Delete id ∷ []) }
 {}
 
-/// An absent id stays absent until it is inserted, whatever else happens (this project's choice).
+/// An absent id stays absent until it is inserted or upserted, whatever else happens (this project's choice).
 pub fn stays_absent_until_insert()
     ensures { (id : List ℕ) (changes later : List Change) →
         IsAbsent id changes → inserts id later ≡ false → IsAbsent id (changes ++ later) }

@@ -1,5 +1,5 @@
 //! What feeds give whose columns are known by their names.
-ghost use Rattle.std.specs.Prelude.{◌≡◌, ℕ, true, List, ◌∷◌, length, map, Some, IsPermutation};
+ghost use Rattle.std.specs.Prelude.{◌≡◌, ℕ, true, List, ◌∷◌, length, map, Some, IsPermutation, false};
 ghost use Rattle.std.specs.List.{AllByRecursion, AllZip, list_all, range_with_len};
 ghost use Rattle.toml.specs.Data.{no_members, table};
 ghost use Rattle.cube_core.specs.FeedDocument.{columns_of_feed};
@@ -7,15 +7,16 @@ ghost use Rattle.cube_core.specs.FeedRecords.{items_of, names_read, stands_once}
 ghost use Rattle.cube_core.specs.Items.{width_of};
 ghost use Rattle.cube_core.specs.Layout.{IsSchema, Layout};
 ghost use Rattle.cube_laws.specs.Feeds.{header_for};
-ghost use Rattle.cube_laws.specs.Named.{AreReadAlike, bare_columns, by_names, in_order, own_columns, picked};
+ghost use Rattle.cube_laws.specs.Named.{AreReadAlike, bare_columns, by_names, in_order, own_columns, picked, puts_or_removes};
 ghost use Rattle.cube_core.specs.declared.feed_columns.FeedColumns.{FeedColumns};
 
-/// A feed in the order of the schema, each record as wide as the header, gives the same where its columns are read by their
-/// names: `op`, `id`, and each dimension and measure under its own name, with `\N` alone for null, with commas, and with the
-/// point before decimals (this project's choice).
+/// A feed in the order of the schema, each record as wide as the header and none of them an upsert or a removal, gives the
+/// same where its columns are read by their names: `op`, `id`, and each dimension and measure under its own name, with `\N`
+/// alone for null, with commas, and with the point before decimals (this project's choice).
 pub fn own_columns_give_what_the_order_gives()
     ensures { (s : Layout) (records : List (List (List ℕ))) →
         IsSchema s → AllByRecursion (λ fields. length fields ≡ width_of s) records →
+        AllByRecursion (λ fields. puts_or_removes fields ≡ false) records →
         items_of (by_names (own_columns s) s) (header_for s ∷ records)
         ≡ items_of (in_order s) (header_for s ∷ records) }
 {}

@@ -13,7 +13,7 @@ use Rattle.cube_core.specs.Amendment.{over}
 use Rattle.cube_core.specs.Life.{id_of}
 use Rattle.cube_core.specs.declared.fact.Fact.{Fact}
 use Rattle.cube_core.specs.declared.change.Change.{Change}
-use Rattle.cube_core.specs.declared.change.Change.TheVariants.{Insert, Update, Amend, Delete}
+use Rattle.cube_core.specs.declared.change.Change.TheVariants.{Insert, Update, Amend, Upsert, Delete, Remove}
 use Rattle.cube_core.specs.declared.partial.Partial.{Partial}
 use Rattle.cube_ledger.specs.Book.{Entries, GainsEntry, IsBook, Makes, Replaces, Takes, fact_at, fact_put, facts_of}
 use Rattle.cube_ledger.specs.Book.{refused_by}
@@ -133,6 +133,16 @@ pub Makes-amend : (old new : Entries) (id : List ℕ) (part : Partial) (put befo
 Makes-amend old new id part put before gone present was puts facts same each_once =
     Makes-replace old new (Amend id part) put before gone (rw present refl) present was
     (ap Some puts ∙ sym (ap (option_map (over part)) present)) facts same each_once
+
+-- an upsert, whether or not the id was present
+pub Makes-upsert : (old new : Entries) (id : List ℕ) (fact : Fact) (gone : Option Fact)
+    → Replaces old id gone (Some fact) new → Makes old (Upsert id fact) gone new
+Makes-upsert old new id fact gone replaces = record { lawful = refl; replaces = replaces }
+
+-- a removal likewise
+pub Makes-remove : (old new : Entries) (id : List ℕ) (gone : Option Fact)
+    → Replaces old id gone None new → Makes old (Remove id) gone new
+Makes-remove old new id gone replaces = record { lawful = refl; replaces = replaces }
 
 -- a delete, where the id was present
 pub Makes-delete : (old new : Entries) (id : List ℕ) (gone : Fact) → Replaces old id (Some gone) None new

@@ -9,10 +9,11 @@ use Rattle.std.proofs.lemmas.Map.Views.{IfSome-lookup_from_All}
 use Rattle.cube_core.specs.Amendment.{over, fields_over}
 use Rattle.cube_core.specs.Layout.{Layout}
 use Rattle.cube_core.specs.Life.{id_of}
-use Rattle.cube_core.specs.Takes.{takes, fits, fits_part, is_id, may_amend, is_dimension_value, puts_dimension_value}
+use Rattle.cube_core.specs.Takes.{takes, fits, fits_part, is_id, may_amend, may_upsert, is_dimension_value}
+use Rattle.cube_core.specs.Takes.{puts_dimension_value}
 use Rattle.cube_core.specs.declared.fact.Fact.{Fact}
 use Rattle.cube_core.specs.declared.change.Change.{Change}
-use Rattle.cube_core.specs.declared.change.Change.TheVariants.{Insert, Update, Amend, Delete}
+use Rattle.cube_core.specs.declared.change.Change.TheVariants.{Insert, Update, Amend, Upsert, Delete, Remove}
 use Rattle.cube_core.specs.declared.partial.Field.{Field}
 use Rattle.cube_core.specs.declared.partial.Field.TheVariants.{Keep, Put}
 use Rattle.cube_core.specs.declared.partial.Partial.{Partial}
@@ -108,7 +109,9 @@ pub AmendsAlike-takes : (s : Layout) (book : Entries) (change : Change) → take
     → AllFit s (facts_of book) → AmendsAlike book change
 AmendsAlike-takes s book (Insert id fact) taken all = tt
 AmendsAlike-takes s book (Update id fact) taken all = tt
+AmendsAlike-takes s book (Upsert id fact) taken all = tt
 AmendsAlike-takes s book (Delete id) taken all = tt
+AmendsAlike-takes s book (Remove id) taken all = tt
 AmendsAlike-takes s book (Amend id part) taken all =
     let p = fits_part-parts s part (amend-fits s id part taken) in
     IfSome_then (fact_at book id) (fact_at-fits s book id all)
@@ -130,7 +133,10 @@ fact_put-fits s book (Insert id f) fact taken all put =
     ap (fits s) (sym (same_Some f fact put)) ∙ (and_parts (is_id id) (fits s f) taken).1
 fact_put-fits s book (Update id f) fact taken all put =
     ap (fits s) (sym (same_Some f fact put)) ∙ (and_parts (is_id id) (fits s f) taken).1
+fact_put-fits s book (Upsert id f) fact taken all put =
+    ap (fits s) (sym (same_Some f fact put)) ∙ (and-three (may_upsert s) (is_id id) (fits s f) taken).2
 fact_put-fits s book (Delete id) fact taken all put = cc
+fact_put-fits s book (Remove id) fact taken all put = cc
 fact_put-fits s book (Amend id part) fact taken all put =
     amended-fits s part (fact_at book id) fact (amend-fits s id part taken) (fact_at-fits s book id all) put
 

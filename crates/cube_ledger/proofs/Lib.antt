@@ -7,3 +7,4 @@ mod FeedLaws
 mod BuildLaws
 pub mod RulingLaws
 mod TakingLaws
+pub mod InterestLaws

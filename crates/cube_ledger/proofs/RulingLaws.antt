@@ -9,7 +9,7 @@ use Rattle.cube_core.specs.Refusals.{present_code, absent_code, code_by_presence
 use Rattle.cube_core.specs.Takes.{takes}
 use Rattle.cube_core.specs.declared.fact.Fact.{Fact}
 use Rattle.cube_core.specs.declared.change.Change.{Change}
-use Rattle.cube_core.specs.declared.change.Change.TheVariants.{Insert, Update, Amend, Delete}
+use Rattle.cube_core.specs.declared.change.Change.TheVariants.{Insert, Update, Amend, Upsert, Delete, Remove}
 use Rattle.cube_core.specs.declared.change.Item.{Item}
 use Rattle.cube_core.specs.declared.change.LineFault.{LineFault}
 use Rattle.cube_ledger.specs.Book.{Entries, Makes, fact_at, fact_put, refused_by, refused_by_presence}
@@ -66,8 +66,12 @@ code_by_presence-refused_by s (Update id fact) true = refl
 code_by_presence-refused_by s (Update id fact) false = refl
 code_by_presence-refused_by s (Amend id part) true = refl
 code_by_presence-refused_by s (Amend id part) false = refl
+code_by_presence-refused_by s (Upsert id fact) true = refl
+code_by_presence-refused_by s (Upsert id fact) false = refl
 code_by_presence-refused_by s (Delete id) true = refl
 code_by_presence-refused_by s (Delete id) false = refl
+code_by_presence-refused_by s (Remove id) true = refl
+code_by_presence-refused_by s (Remove id) false = refl
 
 -- a change that the schema takes is refused where the book refuses it, with the code of the book's fault
 pub code_in-refused_by : (s : Layout) (book : Entries) (what : Result Change LineFault) (change : Change)

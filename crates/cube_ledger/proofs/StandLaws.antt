@@ -20,7 +20,7 @@ use Rattle.cube_core.proofs.LifeLaws.{life_after, life_of-naming, life_of-other}
 use Rattle.cube_core.proofs.RefusalLaws.{refusals_of-more}
 use Rattle.cube_core.specs.declared.fact.Fact.{Fact}
 use Rattle.cube_core.specs.declared.change.Change.{Change}
-use Rattle.cube_core.specs.declared.change.Change.TheVariants.{Insert, Update, Amend, Delete}
+use Rattle.cube_core.specs.declared.change.Change.TheVariants.{Insert, Update, Amend, Upsert, Delete, Remove}
 use Rattle.cube_core.specs.declared.change.LineFault.{LineFault}
 use Rattle.cube_core.specs.declared.change.Item.{Item}
 use Rattle.cube_ledger.specs.Book.{Entries, fact_at, fact_put}
@@ -39,8 +39,10 @@ life_after-refused s (Update id fact) None code is = refl
 life_after-refused s (Update id fact) (Some present) code is = cc
 life_after-refused s (Amend id part) None code is = refl
 life_after-refused s (Amend id part) (Some present) code is = cc
+life_after-refused s (Upsert id fact) life code is = cc
 life_after-refused s (Delete id) None code is = refl
 life_after-refused s (Delete id) (Some present) code is = cc
+life_after-refused s (Remove id) life code is = cc
 
 -- a change that isn't puts its fact or none
 life_after-put : (s : Layout) (change : Change) (life : Option Fact) → code_by_presence s change (is_some life) ≡ None
@@ -51,8 +53,12 @@ life_after-put s (Update id fact) None is = cc
 life_after-put s (Update id fact) (Some present) is = refl
 life_after-put s (Amend id part) None is = cc
 life_after-put s (Amend id part) (Some present) is = refl
+life_after-put s (Upsert id fact) None is = refl
+life_after-put s (Upsert id fact) (Some present) is = refl
 life_after-put s (Delete id) None is = cc
 life_after-put s (Delete id) (Some present) is = refl
+life_after-put s (Remove id) None is = refl
+life_after-put s (Remove id) (Some present) is = refl
 
 -- the lives after a change that is refused by presence
 life_of-refused : (s : Layout) (changes : List Change) (change : Change) (code : ℕ)

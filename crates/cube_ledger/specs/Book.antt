@@ -10,7 +10,7 @@ use Rattle.cube_core.specs.Amendment.{over}
 use Rattle.cube_core.specs.Life.{id_of, is_delete}
 use Rattle.cube_core.specs.declared.fact.Fact.{Fact}
 use Rattle.cube_core.specs.declared.change.Change.{Change}
-use Rattle.cube_core.specs.declared.change.Change.TheVariants.{Insert, Update, Amend, Delete}
+use Rattle.cube_core.specs.declared.change.Change.TheVariants.{Insert, Update, Amend, Upsert, Delete, Remove}
 use Rattle.cube_ledger.specs.declared.book.Delta.{Delta}
 use Rattle.cube_ledger.specs.declared.book.BookFault.{BookFault}
 use Rattle.cube_ledger.specs.declared.book.BookFault.TheVariants.{Present, Absent, Memory}
@@ -51,19 +51,23 @@ pub record GainsEntry (old : Entries) (id : List ℕ) (fact : Fact) (new : Entri
   pub each_once : IsBook new
 
 -- the fact that a change puts under its id, given the one that is there:
--- none where it is a delete, or an amendment of nothing
+-- none where it is a delete or a removal, or an amendment of nothing
 abbrev pub fact_put : Change → Option Fact → Option Fact
 fact_put (Insert id fact) old = Some fact
 fact_put (Update id fact) old = Some fact
 fact_put (Amend id part) old = option_map (over part) old
+fact_put (Upsert id fact) old = Some fact
 fact_put (Delete id) old = None
+fact_put (Remove id) old = None
 
 -- why a book refuses a change of an id that is present or absent, if it does
 abbrev pub refused_by_presence : Change → Bool → Option BookFault
 refused_by_presence (Insert id fact) present = if present then Some Present else None
 refused_by_presence (Update id fact) present = if present then None else Some Absent
 refused_by_presence (Amend id part) present = if present then None else Some Absent
+refused_by_presence (Upsert id fact) present = None
 refused_by_presence (Delete id) present = if present then None else Some Absent
+refused_by_presence (Remove id) present = None
 
 -- why a book refuses a change, if it does
 abbrev pub refused_by : Entries → Change → Option BookFault
@@ -76,7 +80,9 @@ AmendsAlike book (Update id fact) = ⊤
 AmendsAlike book (Amend id part) =
     IfSome (fact_at book id)
     (λ fact. (length part.dims ≡ length fact.dims) × (length part.measures ≡ length fact.measures))
+AmendsAlike book (Upsert id fact) = ⊤
 AmendsAlike book (Delete id) = ⊤
+AmendsAlike book (Remove id) = ⊤
 
 -- a book made a change: it isn't refused, and its fact or none stands under its id in place of what is gone
 pub record Makes (old : Entries) (change : Change) (gone : Option Fact) (new : Entries) : Type 0 where
@@ -89,7 +95,7 @@ pub record Takes (old : Entries) (change : Change) (delta : Delta) (new : Entrie
   pub come : delta.come ≡ fact_put change (fact_at old (id_of change))
   pub replaces : Replaces old (id_of change) delta.gone delta.come new
 
--- a fault tells why a book refused a change; memory may run out for a change that isn't refused and is no delete
+-- a fault tells why a book refused a change; memory may run out for a change that isn't refused and takes no fact away
 abbrev pub Explains : Entries → Change → BookFault → Type 0
 Explains book change Present = refused_by book change ≡ Some Present
 Explains book change Absent = refused_by book change ≡ Some Absent

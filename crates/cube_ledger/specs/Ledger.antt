@@ -9,7 +9,7 @@ use Rattle.cube_core.specs.Refusals.{code_of_fault, shape_code, code_by_presence
 use Rattle.cube_core.specs.Takes.{takes, fits}
 use Rattle.cube_core.specs.declared.fact.Fact.{Fact}
 use Rattle.cube_core.specs.declared.change.Change.{Change}
-use Rattle.cube_core.specs.declared.change.Change.TheVariants.{Insert, Update, Amend, Delete}
+use Rattle.cube_core.specs.declared.change.Change.TheVariants.{Insert, Update, Amend, Upsert, Delete, Remove}
 use Rattle.cube_core.specs.declared.change.LineFault.{LineFault}
 use Rattle.cube_core.specs.declared.change.Item.{Item}
 use Rattle.cube_core.specs.declared.change.Refusal.{Refusal}
@@ -40,7 +40,9 @@ abbrev pub is_amendment : Change → Bool
 is_amendment (Insert id fact) = false
 is_amendment (Update id fact) = false
 is_amendment (Amend id part) = true
+is_amendment (Upsert id fact) = false
 is_amendment (Delete id) = false
+is_amendment (Remove id) = false
 
 -- whether an item says an amendment
 abbrev pub says_amendment : Result Change LineFault → Bool

@@ -5,11 +5,14 @@ ghost use Rattle.cube_core.specs.Refusals.{code_by_presence};
 ghost use Rattle.cube_core.specs.Takes.{takes};
 ghost use Rattle.cube_ledger.specs.Book.{AmendsAlike, fact_at, facts_of, refused_by};
 ghost use Rattle.cube_ledger.specs.Ledger.{AllFit, Enters, Exchanges, IsRuling, RulingFits, ComesTo, is_amendment, says_amendment, says_taken, new_account, with_refusal};
+ghost use Rattle.cube_ledger.specs.Interest.{account_of_interest};
 
 use crate::book::{Book, BookFault};
 use crate::code::{absent_code, code_by_presence, code_of_fault, id_of, present_code};
 use crate::ruling::Ruling;
-use cube_core::{Change, Fact, HashKey, Item, LineFault, Partial, Refusal, Schema, Text};
+use cube_core::{
+    Change, Condition, Fact, HashKey, Item, LineFault, Partial, Refusal, Schema, Text,
+};
 use std::alloc::{AllocError, Global};
 use std::marker::Model;
 
@@ -37,6 +40,13 @@ impl Account {
             book: Book::new(alloc, key),
             refusals: Vec::new(alloc),
         }
+    }
+
+    /// Keeps the facts of the book of which all conditions hold; the refusals stay. It takes no memory.
+    pub(crate) fn keep(&mut self, conditions: &[Condition])
+        ensures { self.new ≡ account_of_interest conditions.now self.old }
+    {
+        self.book.keep(conditions);
     }
 
     /// What an item comes to whose change, where it says one, the schema takes: its refusal, a fact that is put under
@@ -100,7 +110,9 @@ impl Account {
             Change::Insert { id, fact } => Ok(Ruling::Put { id, fact }),
             Change::Update { id, fact } => Ok(Ruling::Put { id, fact }),
             Change::Amend { id, part } => self.amended(alloc, id, part),
+            Change::Upsert { id, fact } => Ok(Ruling::Put { id, fact }),
             Change::Delete { id } => Ok(Ruling::Take { id }),
+            Change::Remove { id } => Ok(Ruling::Take { id }),
         }
     }
 

@@ -3,8 +3,9 @@ ghost use Rattle.std.specs.Prelude.{◌≡◌, [], Some, None, true, false, leng
 ghost use Rattle.std.specs.Option.{option_map};
 ghost use Rattle.cube_core.specs.Life.{id_of};
 ghost use Rattle.cube_ledger.specs.Book.{AmendsAlike, GainsEntry, IsBook, Makes, Replaces, Takes, Explains, fact_at, fact_put, facts_of};
+ghost use Rattle.cube_ledger.specs.Interest.{entries_of_interest};
 
-use cube_core::{Change, Fact, HashKey, Partial, Text};
+use cube_core::{Change, Condition, Fact, HashKey, Partial, Text, hold};
 use std::alloc::{AllocError, Global};
 use std::collections::HashMap;
 use std::collections::hash_map::{Entry, Values};
@@ -30,7 +31,7 @@ pub enum BookFault {
     /// The id of an update, an amendment or a delete is absent.
     #[error("Absent")]
     Absent,
-    /// A growth was refused; never in a delete.
+    /// A growth was refused; never in a delete or a removal.
     #[error("Memory")]
     Memory,
 }
@@ -109,11 +110,12 @@ impl Book {
     }
 
     /// Takes a change: an insert of an absent id or an update of a present one puts its fact, an amendment of a
-    /// present id puts the fact with some fields changed, a delete of a present id takes the fact away. The answer is
-    /// what went out, and a copy of what came in.
+    /// present id puts the fact with some fields changed, an upsert puts its fact in any case, a delete of a present id
+    /// takes the fact away, and so does a removal, where there is one. The answer is what went out, and a copy of what
+    /// came in.
     ///
-    /// An amendment has as many fields as the fact that it amends. On a fault the book is as it was. A delete takes no
-    /// memory.
+    /// An amendment has as many fields as the fact that it amends. On a fault the book is as it was. A delete and a
+    /// removal take no memory.
     pub fn apply(&mut self, change: Change) -> Result<Delta, BookFault>
         requires { AmendsAlike self.old change }
         ensures taken { IfOk result (λ delta. Takes self.old change delta self.new) }
@@ -167,7 +169,9 @@ impl Book {
                 copy_fact(self.alloc, fact)
             }
             Change::Amend { id, part } => self.copy_amended(id, part),
+            Change::Upsert { fact, .. } => copy_fact(self.alloc, fact),
             Change::Delete { .. } => Ok(None),
+            Change::Remove { .. } => Ok(None),
         }
     }
 
@@ -199,7 +203,9 @@ impl Book {
             Change::Insert { id, fact } => self.insert(id, fact),
             Change::Update { id, fact } => self.update(&id, fact),
             Change::Amend { id, part } => self.amend(&id, &part),
+            Change::Upsert { id, fact } => self.upsert(id, fact),
             Change::Delete { id } => self.delete(&id),
+            Change::Remove { id } => Ok(self.take(&id)),
         }
     }
 
@@ -245,6 +251,21 @@ impl Book {
         }
     }
 
+    fn upsert(&mut self, id: Text, fact: Fact) -> Result<Option<Fact>, BookFault>
+        ensures made { IfOk result
+            (λ gone. Makes self.old (Change.Upsert id fact) gone self.new) }
+        ensures refused { IfErr result (Explains self.old (Change.Upsert id fact)) }
+        ensures unchanged { OnErr result (self.new ≡ self.old) }
+    {
+        match self.put(id, fact) {
+            Ok(gone) => Ok(gone),
+            Err(back) => {
+                drop(back);
+                Err(BookFault::Memory)
+            }
+        }
+    }
+
     fn delete(&mut self, id: &Text) -> Result<Option<Fact>, BookFault>
         ensures made { IfOk result
             (λ gone. Makes self.old (Change.Delete id.now) gone self.new) }
@@ -255,6 +276,13 @@ impl Book {
             Some(gone) => Ok(Some(gone)),
             None => Err(BookFault::Absent),
         }
+    }
+
+    /// Keeps the facts of which all conditions hold, and lets go of the others. It takes no memory.
+    pub(crate) fn keep(&mut self, conditions: &[Condition])
+        ensures { self.new ≡ entries_of_interest conditions.now self.old }
+    {
+        keep_of_interest(&mut self.facts, conditions);
     }
 
     /// Whether an id is present.
@@ -281,6 +309,14 @@ fn put_new(facts: &mut Facts, id: Text, fact: Fact) -> Result<bool, AllocError>
     }
     drop(fact);
     Ok(false)
+}
+
+// Keeps the entries whose facts are of interest.
+fn keep_of_interest(facts: &mut Facts, conditions: &[Condition])
+    ensures kept { facts.new.entries ≡ entries_of_interest conditions.now facts.old.entries }
+    ensures each_once { IsBook facts.new.entries }
+{
+    facts.retain(|_, fact| hold(conditions, fact));
 }
 
 // A copy of a fact.

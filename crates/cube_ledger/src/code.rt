@@ -27,7 +27,7 @@ pub fn says_taken(schema: &Schema, what: &Result<Change, LineFault>) -> bool
 }
 
 /// The same of an item whose texts are lawful, since some schema takes its change: only its numbers of fields are looked
-/// at, and whether it amends.
+/// at, and whether it amends, upserts or removes.
 pub fn has_shape(schema: &Schema, what: &Result<Change, LineFault>) -> bool
     requires { SomeSchemaTakes what.now }
     ensures { result ≡ says_taken schema.now what.now }
@@ -49,7 +49,11 @@ fn is_of_shape(schema: &Schema, change: &Change) -> bool
         Change::Amend { id: _, part } => {
             may_amend(schema) && has_fields(schema, part.dims.len(), part.measures.len())
         }
+        Change::Upsert { id: _, fact } => {
+            schema.may_upsert() && has_fields(schema, fact.dims.len(), fact.measures.len())
+        }
         Change::Delete { id: _ } => true,
+        Change::Remove { id: _ } => schema.may_upsert(),
     }
 }
 
@@ -81,6 +85,8 @@ pub fn code_by_presence(schema: &Schema, change: &Change, present: bool) -> Opti
     match (change, present) {
         (Change::Insert { .. }, false) => None,
         (Change::Insert { .. }, true) => Some(present_code(schema)),
+        (Change::Upsert { .. }, _) => None,
+        (Change::Remove { .. }, _) => None,
         (_, true) => None,
         (_, false) => Some(absent_code(schema)),
     }
@@ -94,7 +100,9 @@ pub fn id_of(change: &Change) -> &Text
         Change::Insert { id, .. } => id,
         Change::Update { id, .. } => id,
         Change::Amend { id, .. } => id,
+        Change::Upsert { id, .. } => id,
         Change::Delete { id } => id,
+        Change::Remove { id } => id,
     }
 }
 

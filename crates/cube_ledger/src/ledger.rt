@@ -4,12 +4,13 @@ ghost use Rattle.cube_core.specs.Arrival.{Arrivals};
 ghost use Rattle.cube_core.specs.Takes.{fits};
 ghost use Rattle.cube_ledger.specs.Book.{facts_of};
 ghost use Rattle.cube_ledger.specs.Ledger.{AllFit, AtSource, Enters, Exchanges, IsRuling, LedgerStandsAt, RulingFits, account_of, all_facts, new_account, says_amendment, says_taken, with_refusal};
+ghost use Rattle.cube_ledger.specs.Interest.{account_of_interest, ledger_of_interest};
 
 use crate::account::Account;
 use crate::book::Book;
 use crate::code::{has_shape, says_taken, shape_code};
 use crate::ruling::Ruling;
-use cube_core::{Change, Fact, HashKey, Item, LineFault, Refusal, Schema, Text};
+use cube_core::{Change, Condition, Fact, HashKey, Item, LineFault, Refusal, Schema, Text};
 use cube_feed::FeedItem;
 use std::alloc::{AllocError, Global};
 use std::marker::Model;
@@ -190,6 +191,18 @@ impl Ledger {
         self.accounts.append(&mut accounts)
     }
 
+    /// Keeps the facts of interest of every book, those of which all conditions hold, and lets go of the others; schema,
+    /// sources and refusals stay. With no condition nothing is looked at. It takes no memory.
+    ///
+    /// The ledger stands at no feeds' items any more: what comes later finds the ids of the others absent.
+    pub fn keep(&mut self, conditions: &[Condition])
+        ensures { self.new ≡ ledger_of_interest conditions.now self.old }
+    {
+        if !conditions.is_empty() {
+            keep_of_interest(self.accounts.as_mut_slice(), conditions);
+        }
+    }
+
     // What an item does to the account of its source, where it was seen whether the schema takes its change.
     fn enter(&mut self, source: u32, item: Item, is_taken: bool) -> Result<(), AllocError>
         requires first { 1 ≤ source }
@@ -251,6 +264,15 @@ fn new_accounts(alloc: Global, key: HashKey, sources: u32) -> Result<Vec<Account
         accounts.push(Account::new(alloc, key))?;
     }
     Ok(accounts)
+}
+
+// Keeps the facts of interest of every account.
+fn keep_of_interest(accounts: &mut [Account], conditions: &[Condition])
+    ensures { accounts.new ≡ map (account_of_interest conditions.now) accounts.old }
+{
+    for account in accounts.iter_mut() {
+        account.keep(conditions);
+    }
 }
 
 // Puts the facts of a book behind others. The only error is that memory ran out.

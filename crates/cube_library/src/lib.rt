@@ -5,19 +5,23 @@
 //! - A cube that is kept right: a [`Builder`] takes [`Item`]s, each a [`Change`] of a source, and has the [`Cube`] of the facts
 //!   that there are after each of them, for look-ups, slices, roll-ups and drill-downs; `crates/sales_example` is a program on it.
 //! - Whole feeds: a [`Feed`] reads the items of one; [`build_plain`] and [`build`] take the feeds of all sources, the first on
-//!   the caller's thread, the second on threads, as [`Settings`] say.
+//!   the caller's thread, the second on threads, as [`Settings`] say; [`build_where`] counts the facts of interest alone, of which
+//!   each [`Condition`] holds.
 //! - Texts: [`run`] prints the cube of feeds, and [`run_plain`] does so on the caller's thread; [`answer`] writes the answer to
 //!   a [`Question`] over what was [`Built`], [`print_rows`] and [`print_cells`] make the text of rows and of cells, and
 //!   [`merge`] makes one printed cube of several.
 #![tactic(auto)]
 
-pub use cube_build::{Builder, Built, FeedingFault, Gate, OpenGate, Settings, build, build_plain};
+pub use cube_build::{
+    Builder, Built, FeedingFault, Gate, OpenGate, Settings, build, build_plain, build_where,
+};
 pub use cube_cells::{Cell, Cube, KeyedCell, OrderedCells};
 pub use cube_core::{
-    Agg, Answer, Change, Coord, CoordRef, Fact, Field, HashKey, Item, Key, LineFault, Partial,
-    Pattern, QueryFault, Refusal, Row, Schema, SchemaFault, Shard, Text,
+    Agg, Answer, Change, Comparison, Condition, Coord, CoordRef, Fact, Field, HashKey, Item, Key,
+    LineFault, Partial, Pattern, QueryFault, Refusal, Row, Schema, SchemaFault, Shard, Test, Text,
+    hold,
 };
-pub use cube_feed::{Feed, FeedFault};
+pub use cube_feed::{Feed, FeedFault, read_condition};
 pub use cube_ledger::{BuildFault, Ledger};
 pub use cube_merge::{InputFault, MergeFault, merge};
 pub use cube_text::{print_cells, print_rows};

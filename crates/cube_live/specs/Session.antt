@@ -23,6 +23,7 @@ query_code query.NotRolled = codes "P4"
 query_code query.UnknownDimension = codes "P5"
 query_code query.Memory = codes "P6"
 query_code query.NotGrouped = codes "P7"
+query_code query.Condition = codes "P8"
 
 -- the code of what is wrong with a record
 abbrev pub code_text : RequestFault → List ℕ

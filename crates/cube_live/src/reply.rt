@@ -30,6 +30,7 @@ fn query_code(fault: QueryFault) -> &'static str
         QueryFault::UnknownDimension => "P5",
         QueryFault::Memory => "P6",
         QueryFault::NotGrouped => "P7",
+        QueryFault::Condition => "P8",
     }
 }
 

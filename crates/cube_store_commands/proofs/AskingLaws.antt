@@ -31,7 +31,7 @@ use Rattle.cube_tool.specs.declared.command.failure.Failure.{Failure}
 use Rattle.cube_tool.specs.declared.command.failure.Failure.TheVariants.{Unreadable, Schema, TooManyFeeds, InputTaken}
 use Rattle.cube_tool.specs.declared.command.failure.Failure.TheVariants.{NoRandomKey, FeedUnreadable, Query}
 use Rattle.cube_tool.specs.declared.command.failure.Failure.TheVariants.{UnknownCode, Run, Session, TooManyCubes}
-use Rattle.cube_tool.specs.declared.command.failure.Failure.TheVariants.{SamePath, Merge}
+use Rattle.cube_tool.specs.declared.command.failure.Failure.TheVariants.{SamePath, Merge, LineRefused}
 use Rattle.cube_tool.specs.declared.command.status.Status.{Status}
 use Rattle.cube_tool.specs.declared.fault.RunFault.TheVariants as run_fault
 use Rattle.cube_tool.specs.declared.fault.TextFault.{TextFault}
@@ -190,6 +190,7 @@ module _ (s : Layout) (sources : SourceBytes) (was : View) (before after : LiveV
   leaves-of question (Run (run_fault.Unsealed source)) old new fails = absurd fails
   leaves-of question (Run (run_fault.Write sent)) old new fails =
       after-feeds (λ arrivals. WroteFirst (ShowsAt question s arrivals) sent old new) fails
+  leaves-of question (LineRefused source number code) old new fails = absurd fails
   leaves-of question (Session fault) old new fails = absurd fails
   leaves-of question TooManyCubes old new fails = absurd fails
   leaves-of question (SamePath input) old new fails = absurd fails

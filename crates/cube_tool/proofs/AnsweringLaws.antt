@@ -8,6 +8,7 @@ use Rattle.cube_core.specs.Query.{AreRowsWhere, drill_fault, drills_down}
 use Rattle.cube_core.specs.Run.{SourceBytes}
 use Rattle.cube_core.specs.Takes.{fits}
 use Rattle.cube_core.specs.Text.{text_of_rows}
+use Rattle.cube_core.specs.declared.change.Item.{Item}
 use Rattle.cube_core.specs.declared.change.Refusal.{Refusal}
 use Rattle.cube_core.specs.declared.fact.Fact.{Fact}
 use Rattle.cube_core.specs.declared.key.Key.{Key}
@@ -15,6 +16,7 @@ use Rattle.cube_core.specs.declared.key.Row.{Row}
 use Rattle.cube_core.specs.declared.query.QueryFault.{QueryFault}
 use Rattle.cube_cells.specs.Rows.{GivesUnless}
 use Rattle.cube_build.specs.Build.{BuildsWhole}
+use Rattle.cube_build.specs.Interest.{BuildsWhere}
 use Rattle.cube_ledger.specs.Build.{ExplainsBuild}
 use Rattle.cube_build.specs.Builder.{BuilderView}
 use Rattle.cube_ledger.specs.Ledger.{AllFit, all_facts}
@@ -30,15 +32,18 @@ use Rattle.cube_live.proofs.RefusalLaws.{refusals_of_accounts}
 use Rattle.cube_live.proofs.RowLaws.{AreRowsWhere-IsRowOver, AreRowsWhere-none}
 use Rattle.cube_text.specs.Shape.{HasShapeOf}
 use Rattle.cube_text.proofs.RowShapeLaws.{HasShapeOf-AreRowsWhere}
-use Rattle.cube_tool.specs.Answering.{Answers, FailsToAnswer, IsToldOf, Writes, question_fault, refusals_of_run}
+use Rattle.cube_tool.specs.Answering.{Answers, FailsOnTerms, FailsToAnswer, IsFirstRefusal, IsToldOf, Writes}
+use Rattle.cube_tool.specs.Answering.{question_fault, refusals_of_run}
 use Rattle.cube_tool.specs.Faults.{fault_of_build, fault_of_feeding, fault_of_text}
-use Rattle.cube_tool.specs.Run.{ExplainsPlainRun, ExplainsRun, Leaves, Tells}
+use Rattle.cube_tool.specs.Run.{ExplainsPlainRun, ExplainsRun, IsTextOf, Leaves, LeavesOf, Tells}
 use Rattle.cube_tool.specs.declared.fault.TextFault.{TextFault}
 use Rattle.cube_tool.specs.declared.fault.TextFault.TheVariants as text_fault
 use Rattle.cube_tool.specs.declared.question.Question.{Question}
 use Rattle.cube_tool.specs.declared.command.failure.Failure.{Failure}
 use Rattle.cube_tool.specs.declared.command.failure.Failure.TheVariants as failure
-use Rattle.cube_tool.proofs.RunLaws.{OfFeeds-first, OfFeeds-whole_first, Wrote-weaker, WroteFirst-weaker}
+use Rattle.cube_tool.specs.declared.command.terms.Terms.{Terms}
+use Rattle.cube_tool.proofs.RunLaws.{OfFeeds-first, OfFeeds-first_refusal, OfFeeds-where_first, OfFeeds-whole_first}
+use Rattle.cube_tool.proofs.RunLaws.{Wrote-weaker, WroteFirst-weaker}
 
 -- ---- what writing a text comes to
 
@@ -52,19 +57,25 @@ Writes-weaker (Err (text_fault.Write sent)) old new to wrote = WroteFirst-weaker
 
 -- ---- what a fault of the build leaves
 
+pub LeavesOf-feeding : (Has : List (List Item) → List ℕ → Type 0) (s : Layout) (sources : SourceBytes)
+    (why : FeedingFault) (old new : Option (List ℕ)) → new ≡ old → ExplainsFeeding s sources why
+    → LeavesOf (ExplainsRun s sources) Has s sources (fault_of_feeding why) old new
+LeavesOf-feeding Has s sources feeding_fault.Memory old new same explains =
+    (same, record { why = feeding_fault.Memory; is = refl; explains = explains })
+LeavesOf-feeding Has s sources feeding_fault.NoThread old new same explains =
+    (same, record { why = feeding_fault.NoThread; is = refl; explains = explains })
+LeavesOf-feeding Has s sources (feeding_fault.Feed source fault) old new same explains =
+    (same, record { why = feeding_fault.Feed source fault; is = refl; explains = explains })
+LeavesOf-feeding Has s sources feeding_fault.Full old new same explains =
+    (same, record { why = feeding_fault.Full; is = refl; explains = explains })
+LeavesOf-feeding Has s sources (feeding_fault.Unsealed source) old new same explains =
+    (same, record { why = feeding_fault.Unsealed source; is = refl; explains = explains })
+
 pub Leaves-feeding : (question : Question) (s : Layout) (sources : SourceBytes) (why : FeedingFault)
     (old new : Option (List ℕ)) → new ≡ old → ExplainsFeeding s sources why
     → Leaves (ExplainsRun s sources) question s sources (fault_of_feeding why) old new
-Leaves-feeding question s sources feeding_fault.Memory old new same explains =
-    (same, record { why = feeding_fault.Memory; is = refl; explains = explains })
-Leaves-feeding question s sources feeding_fault.NoThread old new same explains =
-    (same, record { why = feeding_fault.NoThread; is = refl; explains = explains })
-Leaves-feeding question s sources (feeding_fault.Feed source fault) old new same explains =
-    (same, record { why = feeding_fault.Feed source fault; is = refl; explains = explains })
-Leaves-feeding question s sources feeding_fault.Full old new same explains =
-    (same, record { why = feeding_fault.Full; is = refl; explains = explains })
-Leaves-feeding question s sources (feeding_fault.Unsealed source) old new same explains =
-    (same, record { why = feeding_fault.Unsealed source; is = refl; explains = explains })
+Leaves-feeding question s sources why old new same explains =
+    LeavesOf-feeding (IsTextOf question s) s sources why old new same explains
 
 pub Leaves-build : (question : Question) (s : Layout) (sources : SourceBytes) (why : BuildFault)
     (old new : Option (List ℕ))
@@ -201,7 +212,56 @@ FailsToAnswer-Answers question failure.InputTaken old new some builds answers = 
 FailsToAnswer-Answers question failure.NoRandomKey old new some builds answers = absurd answers
 FailsToAnswer-Answers question (failure.FeedUnreadable source) old new some builds answers = absurd answers
 FailsToAnswer-Answers question failure.UnknownCode old new some builds answers = absurd answers
+FailsToAnswer-Answers question (failure.LineRefused source number code) old new some builds answers = absurd answers
 FailsToAnswer-Answers question (failure.Session fault) old new some builds answers = absurd answers
 FailsToAnswer-Answers question failure.TooManyCubes old new some builds answers = absurd answers
 FailsToAnswer-Answers question (failure.SamePath input) old new some builds answers = absurd answers
 FailsToAnswer-Answers question (failure.Merge fault) old new some builds answers = absurd answers
+
+-- the same of a question that is asked on terms
+pub FailsOnTerms-Answers : {s : Layout} {sources : SourceBytes} {parts : ℕ} {built : BuiltView} (terms : Terms)
+    (question : Question) (why : Failure) (old new : Option (List ℕ))
+    → BuildsWhere s terms.conditions.items sources parts built
+    → Answers {T = Unit {0}} question s (facts_of_run built) (refusals_of_run built) (Err why) old new
+    → FailsOnTerms terms question s sources why old new
+FailsOnTerms-Answers terms question (failure.Query fault) old new builds answers = (answers.0, builds.good, answers.1)
+FailsOnTerms-Answers terms question (failure.Run run_fault.Full) old new builds answers =
+    (answers.0, record { why = feeding_fault.Full; is = refl; explains = builds.good })
+FailsOnTerms-Answers terms question (failure.Run (run_fault.Write sent)) old new builds answers = OfFeeds-where_first builds answers
+FailsOnTerms-Answers terms question (failure.Run run_fault.Memory) old new builds answers = absurd answers
+FailsOnTerms-Answers terms question (failure.Run run_fault.NoThread) old new builds answers = absurd answers
+FailsOnTerms-Answers terms question (failure.Run (run_fault.Feed source fault)) old new builds answers = absurd answers
+FailsOnTerms-Answers terms question (failure.Run (run_fault.Unsealed source)) old new builds answers = absurd answers
+FailsOnTerms-Answers terms question failure.Unreadable old new builds answers = absurd answers
+FailsOnTerms-Answers terms question (failure.Schema fault) old new builds answers = absurd answers
+FailsOnTerms-Answers terms question failure.TooManyFeeds old new builds answers = absurd answers
+FailsOnTerms-Answers terms question failure.InputTaken old new builds answers = absurd answers
+FailsOnTerms-Answers terms question failure.NoRandomKey old new builds answers = absurd answers
+FailsOnTerms-Answers terms question (failure.FeedUnreadable source) old new builds answers = absurd answers
+FailsOnTerms-Answers terms question failure.UnknownCode old new builds answers = absurd answers
+FailsOnTerms-Answers terms question (failure.LineRefused source number code) old new builds answers = absurd answers
+FailsOnTerms-Answers terms question (failure.Session fault) old new builds answers = absurd answers
+FailsOnTerms-Answers terms question failure.TooManyCubes old new builds answers = absurd answers
+FailsOnTerms-Answers terms question (failure.SamePath input) old new builds answers = absurd answers
+FailsOnTerms-Answers terms question (failure.Merge fault) old new builds answers = absurd answers
+
+-- and of the first refusal, where no line may be refused
+pub FailsOnTerms-first : {s : Layout} {sources : SourceBytes} {parts : ℕ} {built : BuiltView} (terms : Terms)
+    (question : Question) (why : Failure) (old new : Option (List ℕ))
+    → BuildsWhere s terms.conditions.items sources parts built → new ≡ old
+    → IsFirstRefusal terms.is_strict (refusals_of_run built) why → FailsOnTerms terms question s sources why old new
+FailsOnTerms-first terms question (failure.LineRefused source number code) old new builds same is =
+    (same, is.0, OfFeeds-first_refusal builds is.1)
+FailsOnTerms-first terms question (failure.Query fault) old new builds same is = absurd is
+FailsOnTerms-first terms question (failure.Run fault) old new builds same is = absurd is
+FailsOnTerms-first terms question failure.Unreadable old new builds same is = absurd is
+FailsOnTerms-first terms question (failure.Schema fault) old new builds same is = absurd is
+FailsOnTerms-first terms question failure.TooManyFeeds old new builds same is = absurd is
+FailsOnTerms-first terms question failure.InputTaken old new builds same is = absurd is
+FailsOnTerms-first terms question failure.NoRandomKey old new builds same is = absurd is
+FailsOnTerms-first terms question (failure.FeedUnreadable source) old new builds same is = absurd is
+FailsOnTerms-first terms question failure.UnknownCode old new builds same is = absurd is
+FailsOnTerms-first terms question (failure.Session fault) old new builds same is = absurd is
+FailsOnTerms-first terms question failure.TooManyCubes old new builds same is = absurd is
+FailsOnTerms-first terms question (failure.SamePath input) old new builds same is = absurd is
+FailsOnTerms-first terms question (failure.Merge fault) old new builds same is = absurd is

@@ -1,29 +1,36 @@
 -- From ledgers that have taken good feeds to what a question over feeds promises.
 use Rattle.std.proofs.Common.{◌≡◌, ◌≤◌, ◌∙◌, ℕ, List, [], ◌∷◌, length, map, get_or, sym, ap, subst, arith}
-use Rattle.std.specs.Prelude.{Option}
+use Rattle.std.specs.Prelude.{Bool, true, Option, Some, None}
 use Rattle.std.specs.List.{AllZip}
 use Rattle.std.proofs.lemmas.List.FromFn.{length-map-range_with_len}
 use Rattle.cube_core.specs.Arrival.{Arrivals, of_source, of_sources}
 use Rattle.cube_core.proofs.ListLaws.{AllZip-length}
+use Rattle.cube_core.specs.Conditions.{of_interest}
 use Rattle.cube_core.specs.Layout.{Layout}
 use Rattle.cube_core.specs.Refusals.{refusals_of}
 use Rattle.cube_core.specs.Run.{SourceBytes, AreItemsOf}
 use Rattle.cube_core.specs.Sources.{SurviveTogether}
 use Rattle.cube_core.specs.declared.change.Item.{Item}
 use Rattle.cube_core.specs.declared.change.Refusal.{Refusal}
+use Rattle.cube_core.specs.declared.condition.Condition.{Condition}
+use Rattle.cube_core.specs.declared.fact.Fact.{Fact}
 use Rattle.cube_build.specs.Build.{BuildsWhole}
 use Rattle.cube_build.specs.Builder.{BuilderView, StandsAt}
 use Rattle.cube_ledger.specs.Ledger.{AccountStandsAt, LedgerView, LedgerStandsAt, all_facts}
+use Rattle.cube_ledger.proofs.InterestLaws.{all_facts-of_interest, refusals-of_interest}
 use Rattle.cube_ledger.proofs.SurvivorLaws.{SurviveTogether-stands}
+use Rattle.cube_build.specs.Interest.{BuildsWhere}
 use Rattle.cube_rings.specs.Link.{Receiving}
 use Rattle.cube_live.proofs.RefusalLaws.{refusals_of_accounts}
 use Rattle.cube_live.proofs.ShowsLaws.{refusals-each}
 use Rattle.cube_build.specs.Parts.{BuiltView, BuildsParts, PartStandsAt, StandsInParts, first_ledger, facts_of_run}
 use Rattle.cube_rings.specs.declared.parcel.Parcel.{Parcel}
-use Rattle.cube_tool.specs.Answering.{HasTaken, refusals_of_run, status_over}
+use Rattle.cube_tool.specs.Answering.{HasTaken, first_refusal, refusals_of_run, status_over}
 use Rattle.cube_tool.specs.Command.{status_after}
-use Rattle.cube_tool.specs.Run.{IsTextOf, OfFeeds, StandsOver, Tells, Wrote, WroteFirst}
+use Rattle.cube_tool.specs.Run.{IsTextOf, IsTextOn, OfFeeds, StandsOver, Tells, Wrote, WroteFirst}
+use Rattle.cube_tool.proofs.RefusalLaws.{status_after-first_refusal}
 use Rattle.cube_tool.specs.declared.command.status.Status.{Status}
+use Rattle.cube_tool.specs.declared.command.status.Status.TheVariants.{Done}
 use Rattle.cube_tool.specs.declared.question.Question.{Question}
 
 -- ---- what a ledger says of the feeds at which it stands
@@ -164,6 +171,87 @@ OfFeeds-status {sources = sources} {question = question} some builds status_is w
         HasTaken-BuildsParts builds,
       );
     }
+
+-- ---- the build of the facts of interest
+
+-- the whole ledger stands where the feeds end
+under-where : {s : Layout} {conditions : List Condition} {sources : SourceBytes} {parts : ℕ} {built : BuiltView}
+    → (builds : BuildsWhere s conditions sources parts built)
+    → StandsUnder s (length sources) builds.arrivals builds.whole
+under-where builds = record { schema = builds.schema; all = builds.all; stands = builds.stands }
+
+-- what was built has its facts of interest, and its refusals
+facts-where : {s : Layout} {conditions : List Condition} {sources : SourceBytes} {parts : ℕ} {built : BuiltView}
+    → (builds : BuildsWhere s conditions sources parts built)
+    → facts_of_run built ≡ of_interest conditions (all_facts builds.whole.accounts)
+facts-where {conditions = conditions} builds =
+    ap (λ (l : LedgerView). all_facts l.accounts) builds.kept
+    ∙ all_facts-of_interest conditions builds.whole.accounts
+
+refused-where : {s : Layout} {conditions : List Condition} {sources : SourceBytes} {parts : ℕ} {built : BuiltView}
+    → (builds : BuildsWhere s conditions sources parts built)
+    → refusals_of_run built ≡ map (refusals_of s) (of_sources (length sources) builds.arrivals)
+refused-where {conditions = conditions} builds =
+    ap (λ (l : LedgerView). refusals_of_accounts l.accounts) builds.kept
+    ∙ refusals-of_interest conditions builds.whole.accounts ∙ refused-under (under-where builds)
+
+-- a text that tells what is asked of what was built is that of the question about the facts of interest
+IsTextOn-Tells : {s : Layout} {conditions : List Condition} {sources : SourceBytes} {parts : ℕ} {built : BuiltView}
+    → (builds : BuildsWhere s conditions sources parts built) (question : Question) (text : List ℕ)
+    → Tells question s (facts_of_run built) (refusals_of_run built) text
+    → IsTextOn conditions question s (of_sources (length sources) builds.arrivals) text
+IsTextOn-Tells {s = s} {conditions = conditions} {built = built} builds question text tells = record {
+  facts = all_facts builds.whole.accounts;
+  survive = survives (under-where builds);
+  tells =
+      subst
+      (λ (r : List (List Refusal)). Tells question s (of_interest conditions (all_facts builds.whole.accounts)) r text)
+      (refused-where builds)
+      (subst (λ (f : List Fact). Tells question s f (refusals_of_run built) text) (facts-where builds) tells);
+}
+
+-- of a text that was written, and of the first bytes of one
+pub OfFeeds-where : {s : Layout} {conditions : List Condition} {sources : SourceBytes} {parts : ℕ} {built : BuiltView}
+    {question : Question} {status : Status} {is_strict : Bool} {old new : Option (List ℕ)}
+    → BuildsWhere s conditions sources parts built → status ≡ status_after (refusals_of_run built)
+    → (is_strict ≡ true → first_refusal 1 (refusals_of_run built) ≡ None)
+    → Wrote (Tells question s (facts_of_run built) (refusals_of_run built)) old new
+    → OfFeeds s sources (λ feeds. Wrote (IsTextOn conditions question s feeds) old new
+    × (status ≡ status_over s feeds) × (is_strict ≡ true → status ≡ Done))
+OfFeeds-where {sources = sources} {built = built} {question = question} builds status_is none wrote = record {
+  feeds = of_sources (length sources) builds.arrivals;
+  good = builds.good;
+  items = builds.taken;
+  holds = (
+    Wrote-weaker (IsTextOn-Tells builds question) wrote,
+    status_is ∙ ap status_after (refused-where builds),
+    λ strict. status_is ∙ status_after-first_refusal 1 (refusals_of_run built) (none strict),
+  );
+}
+
+pub OfFeeds-where_first : {s : Layout} {conditions : List Condition} {sources : SourceBytes} {parts : ℕ}
+    {built : BuiltView} {question : Question} {sent : ℕ} {old new : Option (List ℕ)}
+    → BuildsWhere s conditions sources parts built
+    → WroteFirst (Tells question s (facts_of_run built) (refusals_of_run built)) sent old new
+    → OfFeeds s sources (λ feeds. WroteFirst (IsTextOn conditions question s feeds) sent old new)
+OfFeeds-where_first {sources = sources} {question = question} builds wrote = record {
+  feeds = of_sources (length sources) builds.arrivals;
+  good = builds.good;
+  items = builds.taken;
+  holds = WroteFirst-weaker (IsTextOn-Tells builds question) wrote;
+}
+
+-- of the first refusal
+pub OfFeeds-first_refusal : {s : Layout} {conditions : List Condition} {sources : SourceBytes} {parts : ℕ}
+    {built : BuiltView} {first : ℕ × Refusal}
+    → BuildsWhere s conditions sources parts built → first_refusal 1 (refusals_of_run built) ≡ Some first
+    → OfFeeds s sources (λ feeds. first_refusal 1 (map (refusals_of s) feeds) ≡ Some first)
+OfFeeds-first_refusal {sources = sources} builds is = record {
+  feeds = of_sources (length sources) builds.arrivals;
+  good = builds.good;
+  items = builds.taken;
+  holds = ap (first_refusal 1) (sym (refused-where builds)) ∙ is;
+}
 
 -- ---- the build on one thread
 

@@ -1,5 +1,5 @@
 -- What a question over what was built answers, and how a command over feeds ends (this project's choice).
-use Rattle.std.specs.Prelude.{◌≡◌, ◌<◌, ⊤, ℕ, List, length, map, Option, Some, None, Result, Ok, Err}
+use Rattle.std.specs.Prelude.{◌≡◌, ◌<◌, ◌+◌, ⊤, ℕ, Bool, true, List, [], ◌∷◌, length, map, Option, Some, None, Result, Ok, Err}
 use Rattle.cube_core.specs.Layout.{Layout}
 use Rattle.cube_core.specs.Query.{drill_fault}
 use Rattle.cube_core.specs.Refusals.{refusals_of}
@@ -13,7 +13,9 @@ use Rattle.cube_core.specs.declared.schema_fault.SchemaFault.TheVariants as sche
 use Rattle.cube_tool.specs.declared.fault.RunFault.TheVariants as run_fault
 use Rattle.cube_build.specs.Parts.{BuiltView, StandsInParts, first_ledger}
 use Rattle.cube_tool.specs.Command.{status_after}
-use Rattle.cube_tool.specs.Run.{ExplainsPlainRun, ExplainsRun, Leaves, StandsOver, Tells, Wrote, WroteFirst}
+use Rattle.cube_ledger.specs.Ledger.{refusal}
+use Rattle.cube_tool.specs.Run.{ExplainsPlainRun, ExplainsRun, IsTextOn, Leaves, LeavesOf, OfFeeds, StandsOver, Tells}
+use Rattle.cube_tool.specs.Run.{Wrote, WroteFirst}
 use Rattle.cube_tool.specs.declared.question.Question.{Question}
 use Rattle.cube_tool.specs.declared.question.Question.TheVariants.{Cube, Slice, Drill, RollUp, Refusals}
 use Rattle.cube_tool.specs.declared.fault.TextFault.{TextFault}
@@ -21,7 +23,8 @@ use Rattle.cube_tool.specs.declared.fault.TextFault.TheVariants as text_fault
 use Rattle.cube_tool.specs.declared.command.status.Status.{Status}
 use Rattle.cube_tool.specs.declared.command.status.Status.TheVariants.{Done}
 use Rattle.cube_tool.specs.declared.command.failure.Failure.{Failure}
-use Rattle.cube_tool.specs.declared.command.failure.Failure.TheVariants.{Query, Run, Schema}
+use Rattle.cube_tool.specs.declared.command.failure.Failure.TheVariants.{Query, Run, Schema, LineRefused}
+use Rattle.cube_tool.specs.declared.command.terms.Terms.{Terms}
 
 -- the refusals of each source of a run
 abbrev pub refusals_of_run : BuiltView → List (List Refusal)
@@ -86,6 +89,30 @@ abbrev pub FailsToAnswer : Question → Layout → SourceBytes → Failure → O
 FailsToAnswer question s sources (Run fault) old new = Leaves (ExplainsRun s sources) question s sources fault old new
 FailsToAnswer question s sources (Query fault) old new = (new ≡ old) × AreGood s sources × IsQueryFault s question fault
 FailsToAnswer question s sources _ old new = ⊥
+
+-- the first refusal of feeds, with its source, which is counted from this number on: of the lowest source that has one
+abbrev pub first_refusal : ℕ → List (List Refusal) → Option (ℕ × Refusal)
+first_refusal source [] = None
+first_refusal source ([] ∷ others) = first_refusal (source + 1) others
+first_refusal source ((refusal ∷ refusals) ∷ others) = Some (source, refusal)
+
+-- a failure tells the first refusal of these, where no line may be refused
+abbrev pub IsFirstRefusal : Bool → List (List Refusal) → Failure → Type 0
+IsFirstRefusal is_strict refusals (LineRefused source number code) =
+    (is_strict ≡ true) × (first_refusal 1 refusals ≡ Some (source, refusal number code))
+IsFirstRefusal is_strict refusals _ = ⊥
+
+-- what a failure of a question leaves that is asked of feeds on terms: as of any question, and where no line may be
+-- refused the first refusal may be told, once all feeds were taken, when nothing was written
+abbrev pub FailsOnTerms : Terms → Question → Layout → SourceBytes → Failure → Option (List ℕ) → Option (List ℕ) → Type 0
+FailsOnTerms terms question s sources (LineRefused source number code) old new =
+    (new ≡ old) × (terms.is_strict ≡ true)
+    × OfFeeds s sources (λ feeds. first_refusal 1 (map (refusals_of s) feeds) ≡ Some (source, refusal number code))
+FailsOnTerms terms question s sources (Run fault) old new =
+    LeavesOf (ExplainsRun s sources) (IsTextOn terms.conditions.items question s) s sources fault old new
+FailsOnTerms terms question s sources (Query fault) old new =
+    (new ≡ old) × AreGood s sources × IsQueryFault s question fault
+FailsOnTerms terms question s sources _ old new = ⊥
 
 -- what a failure of the program without words leaves; of its schema nothing but memory can fail
 abbrev pub SampleLeaves : Layout → SourceBytes → Failure → Option (List ℕ) → Option (List ℕ) → Type 0

@@ -4,6 +4,7 @@ use Rattle.std.specs.Prelude.{◌≡◌, ◌≤◌, ℕ, List, length, map, take
 use Rattle.std.specs.Io.KnownBytes.{Appends}
 use Rattle.std.specs.List.{AllZip}
 use Rattle.cube_core.specs.Arrival.{Arrivals, of_sources}
+use Rattle.cube_core.specs.Conditions.{of_interest}
 use Rattle.cube_core.specs.Layout.{Layout}
 use Rattle.cube_core.specs.Printed.{IsPrinted}
 use Rattle.cube_core.specs.Query.{drills_down, matches, rolled_up}
@@ -13,6 +14,7 @@ use Rattle.cube_core.specs.Sources.{SurviveTogether}
 use Rattle.cube_core.specs.Text.{text_of_refusals}
 use Rattle.cube_core.specs.declared.change.Item.{Item}
 use Rattle.cube_core.specs.declared.change.Refusal.{Refusal}
+use Rattle.cube_core.specs.declared.condition.Condition.{Condition}
 use Rattle.cube_core.specs.declared.fact.Fact.{Fact}
 use Rattle.cube_ledger.specs.Build.{ExplainsBuild}
 use Rattle.cube_ledger.specs.declared.fault.BuildFault.{BuildFault}
@@ -67,13 +69,26 @@ pub record StandsOver (Stands : Arrivals → Type 0) (feeds : List (List Item)) 
   pub same : of_sources (length feeds) arrivals ≡ feeds
   pub stands : Stands arrivals
 
--- what a fault of a question over feeds leaves, where this explains why it may come:
+-- what a fault leaves of a text that these feeds have, where this explains why the fault may come:
 -- of a failed write the first bytes of the text, so many of them, and of any other nothing
+abbrev pub LeavesOf : (RunFault → Type 0) → (List (List Item) → List ℕ → Type 0) → Layout → SourceBytes → RunFault
+    → Option (List ℕ) → Option (List ℕ) → Type 0
+LeavesOf Explains Has s sources (run_fault.Write sent) old new =
+    OfFeeds s sources (λ feeds. WroteFirst (Has feeds) sent old new)
+LeavesOf Explains Has s sources fault old new = (new ≡ old) × Explains fault
+
+-- what a fault of a question over feeds leaves
 abbrev pub Leaves : (RunFault → Type 0) → Question → Layout → SourceBytes → RunFault → Option (List ℕ) → Option (List ℕ)
     → Type 0
-Leaves Explains question s sources (run_fault.Write sent) old new =
-    OfFeeds s sources (λ feeds. WroteFirst (IsTextOf question s feeds) sent old new)
-Leaves Explains question s sources fault old new = (new ≡ old) × Explains fault
+Leaves Explains question s sources fault old new = LeavesOf Explains (IsTextOf question s) s sources fault old new
+
+-- the text of a question over feeds about the facts of interest: it tells what is asked of those of the facts that
+-- survive in all feeds of which all conditions hold, and of the refusals of each
+pub record IsTextOn (conditions : List Condition) (question : Question) (s : Layout) (feeds : List (List Item))
+    (text : List ℕ) : Type 0 where
+  pub facts : List Fact
+  pub survive : SurviveTogether s feeds facts
+  pub tells : Tells question s (of_interest conditions facts) (map (refusals_of s) feeds) text
 
 -- why a run over feeds wrote nothing: that for which they weren't taken;
 -- out of memory only before a record was read, or where all feeds are good

@@ -11,15 +11,19 @@ mod kept;
 mod named;
 mod own_files;
 mod pauses;
+mod terms;
 mod views;
 mod watch;
+mod why;
 
 use crate::kept::{ask_kept, serve_kept};
 use crate::named::named_cubes;
 use crate::own_files::{explain_own_file, print_table, write_schema};
+use crate::terms::terms_of;
 use crate::views::{mixes_views, refuse_views, told_of, view_of};
 use crate::watch::Watch;
-use cube_build::Settings;
+use crate::why::{say_refused, say_repeated, say_why, says_why, wants_why};
+use cube_build::{Built, Settings};
 use cube_console::{
     Counts, CubeReader, FeedReader, LiveWords, MergeWords, Output, Phase, Progress, Request,
     RunWords, clashing_words, read_words, unlawful_shard, unreadable_words,
@@ -28,10 +32,11 @@ use cube_core::{HashKey, Schema, Shard};
 use cube_store_commands::StoredFailure;
 use cube_tool::command::{
     FEED_NOTES, Failure, LATER_NOTES, Question, RUN_NOTES, SCHEMA_NOTES, STORE_NOTES, Status,
-    answer_words, ask, check, check_cubes, explain, first_repeated, live, merge_cubes, read_cell,
-    read_dimension, read_pattern, read_schema, read_shard, run_sample,
+    answer_words, ask_on, check, check_cubes, explain, first_repeated, live, merge_cubes,
+    read_cell, read_dimension, read_pattern, read_schema, read_shard, run_sample,
 };
 use cube_tool::{InputFault, MergeFault, RunFault};
+use cube_why::code_words;
 use std::fs::File;
 use std::io::{IsTerminal, Stderr};
 use std::process::ExitCode;
@@ -81,7 +86,7 @@ fn run<T: Threads + Wait + Clock + Copy + Send + Sync + 'static>(
         }
     };
     match read_words(alloc, words.as_slice()) {
-        Ok(request) => watched(rt, threads, &request),
+        Ok(request) => explained(rt, threads, &request),
         Err(answer) => told(answer_words(alloc, &answer, &mut rt.stdout(), &mut rt.stderr())),
     }
 }
@@ -94,6 +99,28 @@ fn told(ended: Result<Status, Failure>) -> Result<Status, StoredFailure> {
 /// The words of the command line, of which the first is the program's name.
 fn words_of(rt: &HostRuntime) -> io::Result<Vec<String>> {
     Ok(env::args(rt)?.collect(rt.alloc())?)
+}
+
+/// Does what is asked for, and says more of why it failed, where that is wanted.
+fn explained<T: Threads + Wait + Clock + Copy + Send + Sync + 'static>(
+    rt: &HostRuntime,
+    threads: &T,
+    request: &Request,
+) -> Result<Status, StoredFailure>
+    requires { IsInBounds request.now }
+{
+    if !wants_why(rt, request) {
+        return watched(rt, threads, request);
+    }
+    say_repeated(rt, request);
+    match watched(rt, threads, request) {
+        Ok(status) => Ok(status),
+        Err(failure) => {
+            let _ = rt.eprintln(failure);
+            say_why(rt, request, &failure);
+            Ok(failure.status())
+        }
+    }
 }
 
 /// Does what is asked for, and shows how far it is, where that is wanted.
@@ -184,8 +211,8 @@ fn obey_words<T: Threads + Wait + Clock + Copy + Send + Sync + 'static>(
 {
     match request {
         Request::Sample => told(print_sample(rt)),
-        Request::Check { schema } => told(check_file(rt, schema)),
-        Request::Explain { code } => told(explain_code(rt, *code)),
+        Request::Check { schema, .. } => told(check_file(rt, schema)),
+        Request::Explain { code, .. } => told(explain_words(rt, code)),
         Request::Print { run, partial } => {
             let is_partial = *partial;
             answer(
@@ -247,6 +274,20 @@ fn drawn_key(rt: &HostRuntime) -> Result<HashKey, Failure> {
         Ok(key) => Ok(key),
         Err(_) => Err(Failure::NoRandomKey),
     }
+}
+
+/// Says what the codes mean that words name, as a person may have copied them, or what all mean where there are none.
+fn explain_words(rt: &HostRuntime, words: &[&str]) -> Result<Status, Failure> {
+    if words.is_empty() {
+        return explain_code(rt, None);
+    }
+    let Ok(codes) = code_words(rt.alloc(), words) else {
+        return Err(Failure::Run(RunFault::Full));
+    };
+    for code in &codes {
+        explain_code(rt, Some(code.as_str()))?;
+    }
+    Ok(Status::Done)
 }
 
 /// Says what a code means, or what all mean: the tables of notes one after the other, up to one that has the code.
@@ -369,16 +410,22 @@ fn refuse_shard(rt: &HostRuntime) -> Result<Status, Failure> {
     answer_words(alloc, &refusal, &mut rt.stdout(), &mut rt.stderr())
 }
 
-/// Whether the words name a store, and an option that works on the feeds alone: the partial form, or several builders.
+/// Whether the words name a store, and an option that works on the feeds alone: the partial form, several builders,
+/// conditions, or that no line may be refused.
 fn has_clash(request: &Request) -> bool {
     match request {
-        Request::Print { run, partial } => run.store.is_some() && (*partial || run.builders != 1),
+        Request::Print { run, partial } => run.store.is_some() && (*partial || works_on_feeds(run)),
         Request::Refusals { run }
         | Request::Slice { run, .. }
         | Request::Drill { run, .. }
-        | Request::RollUp { run, .. } => run.store.is_some() && run.builders != 1,
+        | Request::RollUp { run, .. } => run.store.is_some() && works_on_feeds(run),
         _ => false,
     }
+}
+
+/// Whether words have an option that works on the feeds alone, whatever the command.
+fn works_on_feeds(run: &RunWords) -> bool {
+    run.builders != 1 || !run.conditions.is_empty() || run.strict
 }
 
 /// Says that a store and such an option don't go together.
@@ -402,20 +449,39 @@ fn answer_under<T: Threads + Wait + Clock + Sync>(
 {
     let alloc = rt.alloc();
     let question = question_of(rt, schema, asked)?;
+    let terms = terms_of(rt, schema, &words.conditions, words.strict)?;
     let feeds = open_feeds(rt, &words.feeds, progress.counts())?;
     let settings = settings_of(threads, words.ring, words.builders, words.threads);
     progress.begin(Phase::Reading { feeds: feeds.len() });
     let watch = Watch { progress };
     let out = &mut view_of(rt, words.view, schema, progress)?;
-    match ask(
-        threads, alloc, schema, feeds, &settings, &question, &watch, out,
+    match ask_on(
+        threads, alloc, schema, feeds, &settings, &question, &terms, &watch, out,
     ) {
         Ok((status, built)) => {
+            if status == Status::LinesRefused && !matches!(question, Question::Refusals) {
+                tell_refused(rt, words.why, schema, &words.feeds, &built, progress);
+            }
             // The process ends after this, so what was built isn't taken apart.
             mem::forget(built);
             Ok(status)
         }
         Err(failure) => Err(told_of(failure, out)),
+    }
+}
+
+/// Says how many lines were refused, and why the first one was, where that is wanted; the line of the progress is gone then.
+pub(crate) fn tell_refused<T: Wait + Clock>(
+    rt: &HostRuntime,
+    is_wanted: bool,
+    schema: &Schema,
+    feeds: &[&str],
+    built: &Built,
+    progress: &Progress<'_, T, Stderr>,
+) {
+    if is_wanted || says_why(rt) {
+        progress.end();
+        say_refused(rt, schema, feeds, built);
     }
 }
 

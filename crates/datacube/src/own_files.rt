@@ -3,14 +3,16 @@ ghost use Rattle.std.specs.Prelude.{◌≡◌, ◌≤◌, length, vec_len, IfOk}
 ghost use Rattle.cube_core.specs.Shard.{IsShard};
 ghost use Rattle.cube_console.specs.CommandLine.{TableHasRoom};
 
+use crate::terms::terms_of;
 use crate::views::{told_of, view_of};
 use crate::watch::Watch;
-use crate::{drawn_key, inputs_among, open_feed, settings_of};
+use crate::why::{say_advice, says_why};
+use crate::{drawn_key, inputs_among, open_feed, settings_of, tell_refused};
 use cube_console::{Counts, FeedReader, Phase, Progress, SchemaWords, TableWords};
 use cube_core::{Schema, SchemaFault, Shard};
 use cube_files::{Asked, GuessFault, SAMPLE_BYTES, schema_text};
 use cube_tool::RunFault;
-use cube_tool::command::{Failure, Note, Question, Status, ask, explain, read_schema};
+use cube_tool::command::{Failure, Note, Question, Status, ask_on, explain, read_schema};
 use cube_writing::write_whole;
 use std::alloc::Global;
 use std::fs::File;
@@ -51,7 +53,7 @@ pub(crate) fn write_schema(rt: &HostRuntime, words: &SchemaWords) -> Result<Stat
             write_whole(&mut rt.stdout(), text.as_bytes())?;
             Ok(Status::Done)
         }
-        Err(fault) => told(rt, fault),
+        Err(fault) => told(rt, fault, words.why),
     }
 }
 
@@ -88,8 +90,19 @@ pub(crate) fn print_table<T: Threads + Wait + Clock + Sync>(
             let schema = schema.with_shard(shard).with_hash_key(drawn_key(rt)?);
             print_under(rt, threads, words, &schema, begun, progress)
         }
-        Err(fault) => told(rt, fault),
+        Err(fault) => told(rt, fault, words.why),
     }
+}
+
+/// The schema of the files of `table`, made again of the first one.
+pub(crate) fn own_schema(rt: &HostRuntime, words: &TableWords) -> Option<Schema> {
+    let begun = begin(rt, words.files.first()?).ok()?;
+    let asked = Asked {
+        by: words.by,
+        of: words.of,
+    };
+    let text = made_text(rt.alloc(), &begun.bytes, asked).ok()?;
+    read_schema(rt.alloc(), text.as_bytes()).ok()
 }
 
 /// Prints the cube of files under a schema; the first one is begun.
@@ -104,16 +117,20 @@ fn print_under<T: Threads + Wait + Clock + Sync>(
     requires room { TableHasRoom words.now }
     requires files { length words.now.files.items ≤ 64 }
 {
+    let terms = terms_of(rt, schema, &words.conditions, words.strict)?;
     let feeds = open_files(rt, &words.files, begun, progress.counts())?;
     let settings = settings_of(threads, words.ring, words.builders, words.threads);
     progress.begin(Phase::Reading { feeds: feeds.len() });
     let watch = Watch { progress };
     let out = &mut view_of(rt, words.view, schema, progress)?;
     let (alloc, question) = (rt.alloc(), Question::Cube);
-    match ask(
-        threads, alloc, schema, feeds, &settings, &question, &watch, out,
+    match ask_on(
+        threads, alloc, schema, feeds, &settings, &question, &terms, &watch, out,
     ) {
         Ok((status, built)) => {
+            if status == Status::LinesRefused {
+                tell_refused(rt, true, schema, &words.files, &built, progress);
+            }
             // The process ends after this, so what was built isn't taken apart.
             mem::forget(built);
             Ok(status)
@@ -175,12 +192,15 @@ fn made_text(alloc: Global, bytes: &[u8], asked: Asked) -> Result<String, GuessF
     }
 }
 
-/// Tells why there is no schema of a file.
-fn told(rt: &HostRuntime, fault: GuessFault) -> Result<Status, Failure> {
+/// Tells why there is no schema of a file, and what there is to do, where that is wanted.
+fn told(rt: &HostRuntime, fault: GuessFault, is_wanted: bool) -> Result<Status, Failure> {
     match fault {
         GuessFault::Memory => Err(Failure::Schema(SchemaFault::Memory)),
         fault => {
             let _ = rt.eprintln(fault);
+            if is_wanted || says_why(rt) {
+                say_advice(rt, "no columns");
+            }
             Ok(Status::WrongWords)
         }
     }

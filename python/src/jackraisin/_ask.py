@@ -5,13 +5,14 @@ import os
 import tempfile
 from typing import Iterable, List, Optional, Sequence, Tuple, Union
 
-from ._cells import Cell, Pattern, fields_of, word_of
+from ._cells import Cell, Pattern, fields_of, text_of, word_of
 from ._cube import Cube, Refusal, refusals_of
 from ._program import Limits, Path, Paths, Word, paths_of, run, words_of
 from ._schema import Schema, schema_of
 
 Given = Union[Schema, Path]
 Shard = Tuple[int, int]
+Conditions = Union[str, Iterable[str]]
 
 
 def cube(
@@ -23,15 +24,19 @@ def cube(
     partial: bool = False,
     store: Optional[Path] = None,
     wary: bool = False,
+    where: Conditions = (),
+    strict: bool = False,
     timeout: Optional[float] = None,
     max_memory: Optional[int] = None,
 ) -> Cube:
     """The whole cube of 1 to 64 feeds, or of one shard of them: the J-th of N, as (J, N). With `partial` each mean has its
     sum and count beside it, so that `merge` makes one cube of several. With a store, the path of the SQLite file of sessions,
-    the changes that it keeps come after the feeds, of which there may be none then; `partial` doesn't go with it. A program
-    that takes more seconds than `timeout` is killed (`TimedOut`); one that wants more bytes of memory than `max_memory` ends
-    by a code (`Failure`)."""
-    options = options_of(threads, shard, store, wary)
+    the changes that it keeps come after the feeds, of which there may be none then. With conditions it is the
+    cube of the facts of which all of them hold: one as a text, or several, each as `city=York,Leeds` or `cents>=100`
+    (docs/FORMATS.md). Where it is strict, a refused line is a `Failure`, `G7`. `partial`, conditions and `strict` don't go with
+    a store. A program that takes more seconds than `timeout` is killed (`TimedOut`); one that wants more bytes of memory than
+    `max_memory` ends by a code (`Failure`)."""
+    options = options_of(threads, shard, store, wary) + chosen(where, strict)
     return asked("print", schema, feeds, [], options + ["--partial"] * partial, Limits(timeout, max_memory))
 
 
@@ -44,13 +49,15 @@ def slice(
     shard: Optional[Shard] = None,
     store: Optional[Path] = None,
     wary: bool = False,
+    where: Conditions = (),
+    strict: bool = False,
     timeout: Optional[float] = None,
     max_memory: Optional[int] = None,
 ) -> Cube:
     """The rows that a pattern matches. A dimension that a mapping doesn't name is ALL: `{"city": ANY}` are the totals of
-    each city, and of all. Feeds, shard, store and limits are those of `cube`, here and below."""
+    each city, and of all. Feeds, shard, store, conditions and limits are those of `cube`, here and below."""
     schema = schema_of(schema)
-    options = options_of(threads, shard, store, wary)
+    options = options_of(threads, shard, store, wary) + chosen(where, strict)
     return asked("slice", schema, feeds, [word_of(fields_of(schema.dimensions, pattern))], options, Limits(timeout, max_memory))
 
 
@@ -64,13 +71,15 @@ def drill(
     shard: Optional[Shard] = None,
     store: Optional[Path] = None,
     wary: bool = False,
+    where: Conditions = (),
+    strict: bool = False,
     timeout: Optional[float] = None,
     max_memory: Optional[int] = None,
 ) -> Cube:
     """The rows one step below a cell: those with each value of a dimension that is ALL in it."""
     schema = schema_of(schema)
     words = [word_of(fields_of(schema.dimensions, cell)), dimension.encode("utf-8")]
-    options = options_of(threads, shard, store, wary)
+    options = options_of(threads, shard, store, wary) + chosen(where, strict)
     return asked("drill", schema, feeds, words, options, Limits(timeout, max_memory))
 
 
@@ -84,13 +93,15 @@ def rollup(
     shard: Optional[Shard] = None,
     store: Optional[Path] = None,
     wary: bool = False,
+    where: Conditions = (),
+    strict: bool = False,
     timeout: Optional[float] = None,
     max_memory: Optional[int] = None,
 ) -> Cube:
     """The row one step above a cell: the one with ALL at a dimension, or none where that is no cell of the cube."""
     schema = schema_of(schema)
     words = [word_of(fields_of(schema.dimensions, cell)), dimension.encode("utf-8")]
-    options = options_of(threads, shard, store, wary)
+    options = options_of(threads, shard, store, wary) + chosen(where, strict)
     return asked("rollup", schema, feeds, words, options, Limits(timeout, max_memory))
 
 
@@ -132,20 +143,27 @@ def written(cube: Union[Cube, Path], path: str) -> str:
     return path
 
 
-def options_of(threads: Optional[int], shard: Optional[Shard], store: Optional[Path], wary: bool) -> List[str]:
+def options_of(threads: Optional[int], shard: Optional[Shard], store: Optional[Path], wary: bool) -> List[Word]:
     """The options of a command with feeds, spelled so that the path of a store isn't taken for one."""
-    options = [] if threads is None else ["--threads", str(threads)]
+    options: List[Word] = [] if threads is None else ["--threads", str(threads)]
     options += [] if shard is None else ["--shard", f"{shard[0]}/{shard[1]}"]
     return options if store is None else [*options, f"--store={os.fspath(store)}"] + ["--wary"] * wary
 
 
-def asked(command: str, schema: Given, feeds: Paths, words: Sequence[Word], options: Sequence[str], limits: Limits) -> Cube:
+def chosen(where: Conditions, strict: bool) -> List[Word]:
+    """The options for conditions, of which one may stand alone, and for a strict run; each word is UTF-8 whatever the locale."""
+    conditions = [text_of(it, "a condition") for it in ([where] if isinstance(where, str) else where)]
+    options: List[Word] = [b"--where=" + it.encode("utf-8") for it in conditions]
+    return [*options, "--strict"] if strict else options
+
+
+def asked(command: str, schema: Given, feeds: Paths, words: Sequence[Word], options: Sequence[Word], limits: Limits) -> Cube:
     status, text = answer(command, schema, feeds, words, options, limits)
     return Cube(text, status == 4)
 
 
 def answer(
-    command: str, schema: Given, feeds: Paths, words: Sequence[Word], options: Sequence[str], limits: Limits
+    command: str, schema: Given, feeds: Paths, words: Sequence[Word], options: Sequence[Word], limits: Limits
 ) -> Tuple[int, str]:
     """The status and the text of a command over feeds."""
     with schema_of(schema).file() as path:

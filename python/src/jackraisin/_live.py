@@ -125,9 +125,24 @@ class Live(Questions):
         numbers: List[Union[Measure, Keep]] = in_order(self.schema.measures, measures, rest, "measure")
         self._change(source, "U", id, texts, numbers)
 
+    def put(self, source: int, id: str, dims: Named[Optional[str]], measures: Named[Measure]) -> None:
+        """Puts a fact under an id, whether or not it is present, where the schema has `feed`."""
+        self._may_put()
+        dimensions, numbers = self.schema.dimensions, self.schema.measures
+        self._change(source, "P", id, in_order(dimensions, dims, (), "dimension"), in_order(numbers, measures, (), "measure"))
+
     def delete(self, source: int, id: str) -> None:
         """Takes the fact of an id that is present away."""
         self._change(source, "D", id, [], [])
+
+    def remove(self, source: int, id: str) -> None:
+        """Takes the fact of an id away, if it is present, where the schema has `feed`."""
+        self._may_put()
+        self._change(source, "R", id, [], [])
+
+    def _may_put(self) -> None:
+        if self.schema.feed is None:
+            raise Unsayable("what is put or removed whether or not its id is present is for a schema with `feed`")
 
     def _change(
         self, source: int, op: str, id: str, dims: Sequence[Union[str, None, Keep]], measures: Sequence[Union[Measure, Keep]]

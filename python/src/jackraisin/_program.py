@@ -127,11 +127,13 @@ def explain(code: str) -> str:
 
 
 def meaning_of(line: str) -> str:
-    """What the codes of a line mean, as far as the program knows them: of `G3 2 F3` G3 and F3, of `feed 2 unreadable` that."""
+    """What the codes of a line mean, as far as the program knows them: of `G3 2 F3` G3 and F3, of `G7 1 8 5` G7 and 5, of
+    `feed 2 unreadable` that."""
     if not line or line.startswith("error:"):
         return ""
     first, *rest = line.split()
     codes = [it for it in [first, *rest] if it[0].isupper()] if CODE.fullmatch(first) else [re.sub(r" \d+ ", " ", line)]
+    codes += rest[-1:] if first == "G7" else []
     meanings = []
     for code in codes:
         try:

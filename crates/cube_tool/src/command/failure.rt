@@ -32,6 +32,9 @@ pub enum Failure {
     UnknownCode,
     /// The run failed, or its text couldn't be written.
     Run(RunFault),
+    /// A line of a feed was refused, where none may be: the lowest source, counted from 1, of which one is, the number of
+    /// its first such record, and the code of the refusal.
+    LineRefused { source: u32, number: u32, code: u8 },
     /// The session ended before its input did.
     Session(SessionFault),
     /// There are more than 64 cubes to merge.
@@ -58,6 +61,7 @@ impl Failure {
             Failure::NoRandomKey
             | Failure::FeedUnreadable { source: _ }
             | Failure::Run(_)
+            | Failure::LineRefused { .. }
             | Failure::Session(_)
             | Failure::Merge(_) => Status::Failed,
         }
@@ -157,6 +161,11 @@ impl fmt::Display for Failure {
             Failure::Query(fault) => write!(f, "{fault}"),
             Failure::UnknownCode => f.write_str("unknown code"),
             Failure::Run(fault) => write_run_fault(*fault, f),
+            Failure::LineRefused {
+                source,
+                number,
+                code,
+            } => write!(f, "G7 {source} {number} {code}"),
             Failure::Session(fault) => write_session_fault(*fault, f),
             Failure::TooManyCubes => f.write_str("too many cubes"),
             Failure::SamePath { input } => write!(f, "M2 {input}"),

@@ -104,25 +104,25 @@ pub const SCHEMA_NOTES: [Note; 12] = [
 ];
 
 /// The codes of lines, feeds, patterns and cells.
-pub const FEED_NOTES: [Note; 17] = [
+pub const FEED_NOTES: [Note; 18] = [
     Note {
         code: "L1",
         about: "line of a feed",
-        means: "The operation isn't `I`, `U` or `D`: the first field, or that in the column that `op` of `[feed]` names.",
-        mend: "Begin each line with `I` to insert, `U` to update or `D` to delete, a capital without spaces.",
+        means: "The operation isn't `I`, `U` or `D`, nor with `[feed]` `P` or `R`: the first field, or that in the column that `op` of `[feed]` names.",
+        mend: "Begin each line with `I` to insert, `U` to update or `D` to delete, a capital without spaces; with `[feed]` `P` puts and `R` removes, whatever is present.",
         example: "I,1,west,a,5",
     },
     Note {
         code: "L2",
         about: "line of a feed",
-        means: "An `I` or a `U` doesn't have the full number of fields, or a `D` has neither 2 nor the full number; with `[feed]`, a line of a feed has another number of fields than the header.",
+        means: "An `I`, a `U` or a `P` doesn't have the full number of fields, or a `D` or an `R` has neither 2 nor the full number; with `[feed]`, a line of a feed has another number of fields than the header.",
         mend: "Count the fields: the operation, the id, one for each dimension, one for each measure. Quote a field that holds a comma.",
         example: "D,1",
     },
     Note {
         code: "L3",
         about: "line of a feed",
-        means: "A field that is used isn't UTF-8: the id, a dimension or a measure of an `I` or a `U`, the id of a `D`.",
+        means: "A field that is used isn't UTF-8: the id, a dimension or a measure of an `I`, a `U` or a `P`, the id of a `D` or an `R`.",
         mend: "Write the feed in UTF-8.",
         example: "",
     },
@@ -136,14 +136,14 @@ pub const FEED_NOTES: [Note; 17] = [
     Note {
         code: "L5",
         about: "line of a feed",
-        means: "A measure of an `I` or a `U` is neither null nor a number; in a `U` of feed version 2 it may also be `\\=`. Only a measure of `[decimals]` takes a point, with digits behind it, and no more than that says but for zeros.",
+        means: "A measure of an `I`, a `U` or a `P` is neither null nor a number; in a `U` of feed version 2 it may also be `\\=`. Only a measure of `[decimals]` takes a point, with digits behind it, and no more than that says but for zeros.",
         mend: "Write a whole number from -9223372036854775808 to 9223372036854775807 in digits alone (of a measure with decimals: so many units of its last digit), or null where there is no value: `\\N`, or with `[feed]` what its `null` has.",
         example: "I,1,west,a,\\N",
     },
     Note {
         code: "L6",
         about: "line of a feed",
-        means: "A field of an `I` of feed version 2 is `\\=`, which keeps a value, and there is none yet.",
+        means: "A field of an `I` or a `P` of feed version 2 is `\\=`, which keeps a value, and these put a whole fact.",
         mend: "Write the value. Only a `U` can keep one.",
         example: "U,1,\\=,b,\\=",
     },
@@ -224,11 +224,18 @@ pub const FEED_NOTES: [Note; 17] = [
         mend: "Add the set to `grouping` in the schema, or leave the key out.",
         example: "",
     },
+    Note {
+        code: "P8",
+        about: "word",
+        means: "A word of `--where` is no condition: it doesn't begin with a name of the schema and one of `=`, `!=`, `<`, `<=`, `>` and `>=`, or what follows is no value that goes with them.",
+        mend: "Write a name, an operator and a value, in quotes for the shell. With `=` and `!=` there may be several values, with commas between them, and `\\N` for null; the empty text is `\"\"`.",
+        example: "datacube print --where city=York,Leeds --where 'price>=10.00' shop.toml feed.csv",
+    },
 ];
 
 /// The codes of runs over feeds, of refused lines and of the program's files. A refused line's number may stand for one
 /// thing under each version of feeds.
-pub const RUN_NOTES: [Note; 22] = [
+pub const RUN_NOTES: [Note; 23] = [
     Note {
         code: "G1",
         about: "run",
@@ -272,9 +279,16 @@ pub const RUN_NOTES: [Note; 22] = [
         example: "",
     },
     Note {
+        code: "G7",
+        about: "run",
+        means: "With `--strict` a line was refused, and nothing was written: the source that follows, counted from 1, the number of the record, and the code by which it was refused.",
+        mend: "Look the last code up, and mend the line, or leave `--strict` out. `datacube refusals` shows all.",
+        example: "",
+    },
+    Note {
         code: "1",
         about: "refused line",
-        means: "The line fault L1: the operation isn't `I`, `U` or `D`.",
+        means: "The line fault L1: the operation isn't one of those that there are.",
         mend: "As for L1.",
         example: "",
     },
@@ -323,14 +337,14 @@ pub const RUN_NOTES: [Note; 22] = [
     Note {
         code: "8",
         about: "refused line, feed version 1",
-        means: "The schema doesn't take the change: another number of fields, the dimension text `\\N`, an empty id, or an amendment.",
+        means: "The schema doesn't take the change: another number of fields, the dimension text `\\N`, an empty id, an amendment, or without `[feed]` a `P` or an `R`.",
         mend: "A feed can't say such a change: only a caller of the library can.",
         example: "",
     },
     Note {
         code: "6",
         about: "refused line, feed version 2",
-        means: "The line fault L6: an insert with a field `\\=`.",
+        means: "The line fault L6: an `I` or a `P` with a field `\\=`.",
         mend: "As for L6.",
         example: "",
     },
@@ -351,7 +365,7 @@ pub const RUN_NOTES: [Note; 22] = [
     Note {
         code: "9",
         about: "refused line, feed version 2",
-        means: "The schema doesn't take the change: another number of fields, the dimension text `\\N`, or an empty id.",
+        means: "The schema doesn't take the change: another number of fields, the dimension text `\\N`, an empty id, or without `[feed]` a `P` or an `R`.",
         mend: "A feed can't say such a change: only a caller of the library can.",
         example: "",
     },

@@ -1,10 +1,11 @@
 //! The statuses that the program ends with.
 ghost use Rattle.std.specs.Prelude.{◌≡◌, map};
-ghost use Rattle.cube_tool.specs.Answering.{refusals_of_run};
+ghost use Rattle.cube_tool.specs.Answering.{first_refusal, refusals_of_run};
 ghost use Rattle.cube_tool.specs.Command.{status_after, status_code};
 
 use crate::answers::first_builder;
 use cube_build::Built;
+use cube_core::Refusal;
 use cube_ledger::Ledger;
 
 /// What the program ends with.
@@ -42,6 +43,18 @@ pub(crate) fn status_of_run(built: &Built) -> Status
     ensures { result ≡ status_after (refusals_of_run built.now) }
 {
     status_after(first_builder(built).ledger())
+}
+
+/// The first refusal of a ledger, with its source, counted from 1: of the lowest source that has one.
+pub(crate) fn first_refusal(ledger: &Ledger) -> Option<(u32, Refusal)>
+    ensures { result ≡ first_refusal 1 (map (λ account. account.refusals) ledger.now.accounts) }
+{
+    for place in 0..ledger.sources() {
+        if let Some(refusal) = ledger.refusals(place + 1).first() {
+            return Some((place + 1, *refusal));
+        }
+    }
+    None
 }
 
 /// The status of a session that was served to its end, by the refusals of its ledger.

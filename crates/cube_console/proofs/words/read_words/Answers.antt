@@ -36,7 +36,7 @@ returns-clause-no_words g c few =
     let words = map g.S.AsStr.text c.args.words.now in
     let done =
     request-no_words words c.in_ok-matches.matches c.in_ok-request_of.field-0 c.complete.result (rw length-map few)
-    c.in_ok-matches.ensures.ok c.in_ok-request_of.ensures c.complete.ensures.some in
+    c.in_ok-matches.ensures.ok c.in_ok-request_of.ensures.makes c.complete.ensures.some in
     rw done
 
 pub returns-clause-asked : goal.returns-clause-asked
@@ -45,34 +45,34 @@ returns-clause-asked g c =
     (λ request is. IsRequest-HasMatchesOf (map g.S.AsStr.text c.args.words.now)
     c.in_ok-matches.matches request c.in_ok-matches.ensures.ok
     (subst (λ (asked : Option Request). IsRequest (subcommand_rows_of c.in_ok-matches.matches) asked)
-    is c.in_ok-request_of.ensures))
+    is c.in_ok-request_of.ensures.makes))
     c.complete.ensures.ok
 
 pub returns-clause-check : goal.returns-clause-check
 returns-clause-check g c name path plain are =
     request-check _ name path _ c.in_ok-matches.matches c.in_ok-request_of.field-0 c.complete.result plain are
-    c.in_ok-matches.ensures.ok c.in_ok-request_of.ensures c.complete.ensures.some
+    c.in_ok-matches.ensures.ok c.in_ok-request_of.ensures.makes c.complete.ensures.some
 
 pub returns-clause-explain : goal.returns-clause-explain
 returns-clause-explain g c name are =
     request-explain _ name _ c.in_ok-matches.matches c.in_ok-request_of.field-0 c.complete.result are
-    c.in_ok-matches.ensures.ok c.in_ok-request_of.ensures c.complete.ensures.some
+    c.in_ok-matches.ensures.ok c.in_ok-request_of.ensures.makes c.in_ok-request_of.ensures.explain c.complete.ensures.some
 
 pub returns-clause-explain_code : goal.returns-clause-explain_code
 returns-clause-explain_code g c name code plain are =
     request-explain_code _ name code _ c.in_ok-matches.matches c.in_ok-request_of.field-0 c.complete.result plain are
-    c.in_ok-matches.ensures.ok c.in_ok-request_of.ensures c.complete.ensures.some
+    c.in_ok-matches.ensures.ok c.in_ok-request_of.ensures.makes c.in_ok-request_of.ensures.explain c.complete.ensures.some
 
 pub returns-clause-bounds : goal.returns-clause-bounds
 returns-clause-bounds g c =
     IfOk-weaker c.complete.result _ _
     (λ request is. IsInBounds-IsRequest (subcommand_rows_of c.in_ok-matches.matches) request
     (subst (λ (asked : Option Request). IsRequest (subcommand_rows_of c.in_ok-matches.matches) asked)
-    is c.in_ok-request_of.ensures))
+    is c.in_ok-request_of.ensures.makes))
     c.complete.ensures.ok
 
 pub returns-clause-taken : goal.returns-clause-taken
 returns-clause-taken g c request taken makes =
     request-taken _
     (map g.S.AsStr.text c.args.words.now) c.in_ok-matches.matches request c.in_ok-request_of.field-0 c.complete.result
-    c.in_ok-matches.ensures.ok makes c.in_ok-request_of.ensures c.complete.ensures.some
+    c.in_ok-matches.ensures.ok makes c.in_ok-request_of.ensures.makes c.complete.ensures.some

@@ -1,5 +1,5 @@
 use Rattle.std.proofs.Common.{sym}
-use Rattle.cube_feed.proofs.LineLaws.{insert_of-keep, update_of-keep, change_by-keep_fault}
+use Rattle.cube_feed.proofs.LineLaws.{insert_of-keep, update_of-keep, upsert_of-keep, change_by-keep_fault}
 use Rattle.cube_feed.proofs.line.keep.Goals as goal
 
 pub returns-in-Insert : goal.returns-in-Insert
@@ -9,6 +9,10 @@ returns-in-Insert c = rw c.in-Insert.is
 pub returns-in-Update : goal.returns-in-Update
 returns-in-Update c = rw c.in-Update.is
     (update_of-keep c.args.schema.now c.args.fields.now (sym c.requires) _ (rw c.in-Ok.is at c.in_ok-id.ensures))
+
+pub returns-in-Upsert : goal.returns-in-Upsert
+returns-in-Upsert c = rw c.in-Upsert.is
+    (upsert_of-keep c.args.schema.now c.args.fields.now (sym c.requires) _ (rw c.in-Ok.is at c.in_ok-id.ensures))
 
 pub returns-in-Err : goal.returns-in-Err
 returns-in-Err c = change_by-keep_fault c.args.schema.now c.args.fields.now c.args.operation c.requires _

@@ -1,4 +1,4 @@
-use Rattle.std.proofs.Common.{◌≡◌, ◌≤◌, ◌-◌, ◌∷◌, rules, arith}
+use Rattle.std.proofs.Common.{◌≡◌, ◌-◌, ◌∷◌, rules, arith}
 use Rattle.csv.specs.Records.{fields_of, partial_of}
 use Rattle.cube_core.specs.Plain.{nulls_of, plain_measure}
 use Rattle.cube_core.specs.Takes.{null_text}
