@@ -144,10 +144,9 @@ class FactsOfInterest(unittest.TestCase):
             with self.assertRaises(jackraisin.Failure) as caught:
                 jackraisin.cube(SCHEMA, FEEDS, where=where)
             self.assertEqual((caught.exception.code, caught.exception.status), ("P8", 2))
-        for how in ({"where": "city=York"}, {"strict": True}):
-            with self.assertRaises(jackraisin.Failure) as caught:
-                jackraisin.cube(SCHEMA, FEEDS, store="nowhere.db", **how)
-            self.assertEqual((caught.exception.code, caught.exception.status), ("error:", 2))
+        with self.assertRaises(jackraisin.Failure) as caught:
+            jackraisin.cube(SCHEMA, FEEDS, store="nowhere.db", partial=True, where="city=York")
+        self.assertEqual((caught.exception.code, caught.exception.status), ("error:", 2))
         self.assertRaises(TypeError, jackraisin.cube, SCHEMA, FEEDS, where=[b"city=York"])
         self.assertRaises(jackraisin.Unsayable, jackraisin.cube, SCHEMA, FEEDS, where="city=\ud800")
 

@@ -328,6 +328,22 @@ class Ends(unittest.TestCase):
                 self.assertEqual((cube.text, total.text, jackraisin.refusals(PLAIN, [], store=store, wary=wary)), answers)
                 self.assertEqual((cube.refused, total.refused), (True, True))
 
+    def test_questions_over_a_store_on_terms(self):
+        """Conditions choose among the facts of a store too, and a refused change is a failure where none may be."""
+        with tempfile.TemporaryDirectory() as folder:
+            store = os.path.join(folder, "sales.db")
+            with Live(PLAIN, store=store) as live:
+                live.insert(1, "a", ["west", "tea"], [2])
+                live.insert(1, "b", ["east", "tea"], [3])
+            self.assertEqual(jackraisin.cube(PLAIN, [], store=store, strict=True).at({})["count(*)"], 2)
+            with Live(PLAIN, store=store) as live:
+                live.insert(1, "a", ["west", "tea"], [2])
+            east = jackraisin.slice(PLAIN, [], {}, store=store, where="region=east")[0]
+            self.assertEqual(east["count(*)"], 1)
+            with self.assertRaises(jackraisin.Failure) as caught:
+                jackraisin.cube(PLAIN, [], store=store, strict=True)
+            self.assertEqual((caught.exception.line, caught.exception.status), ("G7 1 3 6", 1))
+
     def test_faults_of_feeds_are_told_at_once(self):
         for feeds, line, status in ((["none.csv"], "feed 1 unreadable", 1), ([__file__], "G3 1 F3", 1), ([os.devnull] * 65, "too many feeds", 2)):
             with self.assertRaises(jackraisin.Ended) as caught:

@@ -1,6 +1,6 @@
 -- Builders that stand at one arrival list have the same facts, and their cubes are the parts of one.
-use Rattle.std.proofs.Common.{◌≡◌, ◌<◌, ◌≤◌, ℕ, false, List, [], ◌∷◌, length, get_or, remove, Contains, IsPermutation}
-use Rattle.std.proofs.Common.{refl, sym, ap, subst, ◌∙◌, arith, inl, inr}
+use Rattle.std.proofs.Common.{◌≡◌, ◌<◌, ℕ, false, List, [], ◌∷◌, length, get_or, remove, Contains, IsPermutation}
+use Rattle.std.proofs.Common.{refl, sym, subst, ◌∙◌, arith, inl, inr}
 use Rattle.std.specs.List.{AllZip}
 use Rattle.std.specs.Str.{bytes_eq}
 use Rattle.std.specs.Map.{keys_of}
@@ -16,16 +16,13 @@ use Rattle.cube_core.proofs.ListLaws.{AllByRecursion-Contains, Contains-cases, C
 use Rattle.cube_core.proofs.ListLaws.{Contains-tail, map-Contains}
 use Rattle.cube_core.specs.Arrival.{Arrivals, of_sources}
 use Rattle.cube_core.specs.Layout.{Layout}
-use Rattle.cube_core.specs.Run.{SourceBytes}
 use Rattle.cube_core.specs.declared.fact.Fact.{Fact}
 use Rattle.cube_core.specs.declared.change.Item.{Item}
 use Rattle.cube_ledger.specs.Book.{Entries, IsBook, fact_at, facts_of}
 use Rattle.cube_build.specs.Builder.{BuilderView}
 use Rattle.cube_build.specs.Joined.{ArePartsOfOne, EachSchema}
 use Rattle.cube_ledger.specs.Ledger.{AccountView, LedgerView, AccountStandsAt, LedgerStandsAt, all_facts}
-use Rattle.cube_build.specs.Parts.{BuiltView, first_ledger, schema_of_run, AreParts, StandsInParts, BuildsParts}
-use Rattle.cube_build.proofs.BuilderLaws.{HasFacts-permutation}
-use Rattle.cube_rings.proofs.PlaceLaws.{some_of}
+use Rattle.cube_build.specs.Parts.{first_ledger, AreParts}
 
 -- an entry of a book isn't among those after it
 entry-once : (e : List ℕ × Fact) (es : Entries) → IsBook (e ∷ es) → Contains es e → ⊥
@@ -106,35 +103,6 @@ pub first-is : (builders : List BuilderView) (d : BuilderView) → 0 < length bu
     → first_ledger builders ≡ (get_or builders 0 d).ledger
 first-is [] d some = absurd (omega arith)
 first-is (builder ∷ builders) d some = refl
-
--- builders that stand at one arrival list are the parts of one cube
-pub are-parts : (s : Layout) (sources parts : ℕ) (built : BuiltView) (arrivals : Arrivals) → 1 ≤ parts
-    → StandsInParts s sources parts built arrivals → AreParts built.builders
-are-parts s sources parts built arrivals some stands =
-    let count = stands.builders in
-    record {
-      some = omega arith;
-      each = λ part d below.
-          let own = stands.each part d (omega arith) in
-          let first = stands.each 0 d (omega arith) in
-          rw (first-is built.builders d (omega arith), first.schema, count)
-          (record {
-            over = own.over;
-            has = HasFacts-permutation _ _ (get_or built.builders part d).cube
-                (ledgers-alike s sources arrivals (get_or built.builders part d).ledger (get_or built.builders 0
-                d).ledger own.schema first.schema own.all first.all own.stands.ledger first.stands.ledger)
-                own.stands.cube;
-          });
-    }
-
--- the schema of builders that have taken the feeds of all sources
-pub schema-run : (s : Layout) (sources : SourceBytes) (parts : ℕ) (built : BuiltView) → 1 ≤ parts
-    → BuildsParts s sources parts built → schema_of_run built ≡ s
-schema-run s sources parts built some builds =
-    let count = builds.stands.builders in
-    let d = some_of built.builders 0 (omega arith) in
-    ap (λ (l : LedgerView). l.schema) (first-is built.builders d (omega arith))
-    ∙ (builds.stands.each 0 d (omega arith)).schema
 
 -- the builders of a run are the parts of one cube
 pub of-one : {builders : List BuilderView} → AreParts builders → ArePartsOfOne (λ builder. builder.cube) builders

@@ -1,15 +1,18 @@
 //! The build: builders of the feeds of all sources, in threads.
-ghost use Rattle.std.specs.Prelude.{◌≡◌, ◌≤◌, [], map, vec_len, IfOk, IfErr, OnOk};
+ghost use Rattle.std.specs.Prelude.{◌≡◌, ◌≤◌, ◌∷◌, [], length, map, vec_len, IfOk, IfErr, OnOk};
 ghost use Rattle.cube_rings.specs.FeedingAll.{ExplainsFeeding};
 ghost use Rattle.cube_build.specs.Interest.{BuildsWhere, gathered_of_interest};
-ghost use Rattle.cube_build.specs.Parts.{AreAllMade, BuildsParts, schema_of_run};
+ghost use Rattle.cube_build.specs.Parts.{AreAllMade, BuildsParts, first_ledger, schema_of_run};
 ghost use Rattle.cube_build.specs.Shares.{TakenInParts};
 
+use crate::builder::Builder;
 use crate::built::Built;
 use crate::draft::{Draft, new_drafts};
 use crate::making::{Making, make_all};
 use crate::shares::feed_in_shares;
+use cube_cells::Summary;
 use cube_core::{Condition, Schema};
+use cube_ledger::Ledger;
 use cube_rings::{FeedingFault, Gate, Gatherer, Settings, feed_all};
 use std::alloc::{AllocError, Global};
 use std::io::Read;
@@ -90,14 +93,7 @@ pub fn build<T: Threads + Wait + Sync, R: Read + Drop + Send, G: Gate + Sync>(
     ensures schema { IfOk result (λ built. schema_of_run built ≡ schema.now) }
     ensures err { IfErr result (ExplainsFeeding schema.now (map R.Read.remaining readers.items)) }
 {
-    let Ok(mut making) = Making::with_room(alloc, settings.builders() as usize) else {
-        return Err(FeedingFault::Memory);
-    };
-    let gatherers = feed_parts(rt, alloc, schema, readers, settings, gate)?;
-    match complete(rt, settings.threads(), gatherers, &mut making) {
-        Ok(()) => Ok(Built::of(making)),
-        Err(_) => Err(FeedingFault::Full),
-    }
+    build_where(rt, alloc, schema, readers, settings, gate, &[])
 }
 
 /// Builds the feeds as [`build`] does, and counts the facts of interest alone: those that survive and of which all conditions
@@ -127,6 +123,34 @@ pub fn build_where<T: Threads + Wait + Sync, R: Read + Drop + Send, G: Gate + Sy
         Ok(()) => Ok(Built::of(making)),
         Err(_) => Err(FeedingFault::Full),
     }
+}
+
+/// Builds the facts in the books of a ledger that took what it takes before: one builder over all grouping sets of its
+/// schema, whose cube is filled by so many threads. No feed was read, so there is no inlet. The only error is that memory
+/// ran out.
+pub fn build_ledger<T: Threads + Sync>(
+    rt: &T,
+    alloc: Global,
+    threads: usize,
+    ledger: Ledger,
+) -> Result<Built, AllocError>
+    ensures ledger { IfOk result (λ built. first_ledger built.builders ≡ ledger) }
+    ensures one { IfOk result (λ built. length built.builders ≡ 1) }
+    ensures no_inlets { IfOk result (λ built. built.inlets ≡ []) }
+{
+    let draft = Draft::of_ledger(alloc, ledger)?;
+    let builder = draft.finish(rt, threads)?;
+    Ok(Built::of(lone(alloc, builder)?))
+}
+
+// A builder alone, without an inlet. The only error is that memory ran out.
+fn lone(alloc: Global, builder: Builder<Summary>) -> Result<Making, AllocError>
+    ensures builders { IfOk result (λ making. making.builders.items ≡ builder ∷ []) }
+    ensures links { IfOk result (λ making. making.links.items ≡ []) }
+{
+    let mut making = Making::with_room(alloc, 1)?;
+    making.builders.push(builder)?;
+    Ok(making)
 }
 
 // Keeps the facts of interest of every draft.

@@ -4,6 +4,7 @@ ghost use Rattle.std.specs.List.{All};
 ghost use Rattle.cube_core.specs.Arrival.{Arrivals};
 ghost use Rattle.cube_build.specs.Drafts.{DraftView, StandsFrom, IsNewDraft, AreNewDrafts, IsDraftOf, IsMadeOf};
 ghost use Rattle.cube_build.specs.Interest.{draft_of_interest};
+ghost use Rattle.cube_build.specs.Parted.{IsPartOver};
 
 use crate::builder::Builder;
 use cube_cells::{Cube, Summary};
@@ -86,6 +87,15 @@ impl Draft {
     {
         let ledger = put_together(alloc, schema, ledgers)?;
         let cube = Cube::of_part(alloc, schema, 0, 1)?;
+        Ok(Draft { ledger, cube })
+    }
+
+    /// The draft of a ledger over all grouping sets of its schema. The only error is that memory ran out.
+    pub fn of_ledger(alloc: Global, ledger: Ledger) -> Result<Draft, AllocError>
+        ensures ledger { IfOk result (λ draft. draft.ledger ≡ ledger) }
+        ensures over { IfOk result (λ draft. IsPartOver ledger.schema 1 0 draft.cube) }
+    {
+        let cube = Cube::of_part(alloc, ledger.schema(), 0, 1)?;
         Ok(Draft { ledger, cube })
     }
 

@@ -2,7 +2,8 @@
 //!
 //! A [`Builder`] keeps a ledger and the cube of its facts, [`Parted`] a ledger and the cubes of parts. Cubes of parts
 //! ([`HoldsCube`]) are asked together, and answer as their whole cube. [`build`] runs a feeder for each source and gives back
-//! what the builders made of the feeds, on threads, [`build_where`] over the facts of interest alone; [`build_plain`] does so on the caller's thread.
+//! what the builders made of the feeds, on threads, [`build_where`] over the facts of interest alone; [`build_plain`] does so
+//! on the caller's thread, and [`build_ledger`] builds what a ledger has.
 #![tactic(auto)]
 
 mod builder;
@@ -18,7 +19,7 @@ mod shares;
 mod taking;
 
 pub use builder::Builder;
-pub use building::{build, build_where};
+pub use building::{build, build_ledger, build_where};
 pub use built::Built;
 pub use cube_rings::{FeedingFault, Gate, OpenGate, Parcel, Settings};
 pub use joined::{

@@ -240,6 +240,13 @@ impl Parted {
     {
         &self.ledger
     }
+
+    /// The books and the refusals alone; the cubes are let go.
+    pub fn into_ledger(self) -> Ledger
+        ensures { result ≡ self }
+    {
+        self.ledger
+    }
 }
 
 // Puts a fact, where there is one, behind others, and answers whether there was memory for it.

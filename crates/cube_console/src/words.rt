@@ -95,7 +95,7 @@ pub fn clashing_words(alloc: Global) -> Error
     refusal(
         alloc,
         ErrorKind::ArgumentConflict,
-        "the arguments '--partial', '--builders <N>', '--where <CONDITION>' and '--strict' cannot be used with '--store <FILE>'",
+        "the arguments '--partial' and '--builders <N>' cannot be used with '--store <FILE>'",
     )
 }
 

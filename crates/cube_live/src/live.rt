@@ -181,4 +181,19 @@ impl<'s> Live<'s> {
     {
         self.parted.ledger()
     }
+
+    /// The books and the refusals alone; no change follows.
+    pub fn into_ledger(self) -> Ledger
+        ensures value { result ≡ self.entry.ledger }
+        ensures live { IsLive self.entry.schema self.entry.ledger self.entry.numbers }
+    {
+        let Live {
+            alloc: _,
+            schema: _,
+            parted,
+            numbers: _numbers,
+            threads: _,
+        } = self;
+        parted.into_ledger()
+    }
 }

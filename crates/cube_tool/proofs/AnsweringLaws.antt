@@ -32,7 +32,7 @@ use Rattle.cube_live.proofs.RefusalLaws.{refusals_of_accounts}
 use Rattle.cube_live.proofs.RowLaws.{AreRowsWhere-IsRowOver, AreRowsWhere-none}
 use Rattle.cube_text.specs.Shape.{HasShapeOf}
 use Rattle.cube_text.proofs.RowShapeLaws.{HasShapeOf-AreRowsWhere}
-use Rattle.cube_tool.specs.Answering.{Answers, FailsOnTerms, FailsToAnswer, IsFirstRefusal, IsToldOf, Writes}
+use Rattle.cube_tool.specs.Answering.{Answers, FailsOn, FailsOnTerms, IsFirstRefusal, IsToldOf, MayAnswer, Writes}
 use Rattle.cube_tool.specs.Answering.{question_fault, refusals_of_run}
 use Rattle.cube_tool.specs.Faults.{fault_of_build, fault_of_feeding, fault_of_text}
 use Rattle.cube_tool.specs.Run.{ExplainsPlainRun, ExplainsRun, IsTextOf, Leaves, LeavesOf, Tells}
@@ -42,7 +42,8 @@ use Rattle.cube_tool.specs.declared.question.Question.{Question}
 use Rattle.cube_tool.specs.declared.command.failure.Failure.{Failure}
 use Rattle.cube_tool.specs.declared.command.failure.Failure.TheVariants as failure
 use Rattle.cube_tool.specs.declared.command.terms.Terms.{Terms}
-use Rattle.cube_tool.proofs.RunLaws.{OfFeeds-first, OfFeeds-first_refusal, OfFeeds-where_first, OfFeeds-whole_first}
+use Rattle.cube_tool.proofs.RunLaws.{OfFeeds-first, OfFeeds-first_refusal, OfFeeds-may, OfFeeds-where_first}
+use Rattle.cube_tool.proofs.RunLaws.{OfFeeds-whole_first}
 use Rattle.cube_tool.proofs.RunLaws.{Wrote-weaker, WroteFirst-weaker}
 
 -- ---- what writing a text comes to
@@ -189,79 +190,100 @@ DrillsDown-given dimension key s built rows schema gives =
       are_rows = given.1;
     }
 
--- ---- what a failure of a question over feeds leaves
+-- ---- what a failure of a question on terms leaves
 
-pub FailsToAnswer-Answers : {s : Layout} {sources : SourceBytes} {parts : ℕ} {built : BuiltView} (question : Question)
-    (why : Failure) (old new : Option (List ℕ)) → 1 ≤ length built.builders
-    → BuildsParts s sources parts built
-    → Answers {T = Unit {0}} question s (facts_of_run built) (refusals_of_run built) (Err why) old new
-    → FailsToAnswer question s sources why old new
-FailsToAnswer-Answers question (failure.Query fault) old new some builds answers = (answers.0, builds.good, answers.1)
-FailsToAnswer-Answers question (failure.Run run_fault.Full) old new some builds answers =
-    (answers.0, record { why = feeding_fault.Full; is = refl; explains = builds.good })
-FailsToAnswer-Answers question (failure.Run (run_fault.Write sent)) old new some builds answers =
-    OfFeeds-first some builds answers
-FailsToAnswer-Answers question (failure.Run run_fault.Memory) old new some builds answers = absurd answers
-FailsToAnswer-Answers question (failure.Run run_fault.NoThread) old new some builds answers = absurd answers
-FailsToAnswer-Answers question (failure.Run (run_fault.Feed source fault)) old new some builds answers = absurd answers
-FailsToAnswer-Answers question (failure.Run (run_fault.Unsealed source)) old new some builds answers = absurd answers
-FailsToAnswer-Answers question failure.Unreadable old new some builds answers = absurd answers
-FailsToAnswer-Answers question (failure.Schema fault) old new some builds answers = absurd answers
-FailsToAnswer-Answers question failure.TooManyFeeds old new some builds answers = absurd answers
-FailsToAnswer-Answers question failure.InputTaken old new some builds answers = absurd answers
-FailsToAnswer-Answers question failure.NoRandomKey old new some builds answers = absurd answers
-FailsToAnswer-Answers question (failure.FeedUnreadable source) old new some builds answers = absurd answers
-FailsToAnswer-Answers question failure.UnknownCode old new some builds answers = absurd answers
-FailsToAnswer-Answers question (failure.LineRefused source number code) old new some builds answers = absurd answers
-FailsToAnswer-Answers question (failure.Session fault) old new some builds answers = absurd answers
-FailsToAnswer-Answers question failure.TooManyCubes old new some builds answers = absurd answers
-FailsToAnswer-Answers question (failure.SamePath input) old new some builds answers = absurd answers
-FailsToAnswer-Answers question (failure.Merge fault) old new some builds answers = absurd answers
+-- feeds that weren't taken
+pub FailsOnTerms-feeding : (terms : Terms) (question : Question) (s : Layout) (sources : SourceBytes)
+    (why : FeedingFault) (old new : Option (List ℕ)) → new ≡ old → ExplainsFeeding s sources why
+    → FailsOnTerms terms question s sources (failure.Run (fault_of_feeding why)) old new
+FailsOnTerms-feeding terms question s sources feeding_fault.Memory old new same explains =
+    (same, record { why = feeding_fault.Memory; is = refl; explains = explains })
+FailsOnTerms-feeding terms question s sources feeding_fault.NoThread old new same explains =
+    (same, record { why = feeding_fault.NoThread; is = refl; explains = explains })
+FailsOnTerms-feeding terms question s sources (feeding_fault.Feed source fault) old new same explains =
+    (same, record { why = feeding_fault.Feed source fault; is = refl; explains = explains })
+FailsOnTerms-feeding terms question s sources feeding_fault.Full old new same explains =
+    (same, record { why = feeding_fault.Full; is = refl; explains = explains })
+FailsOnTerms-feeding terms question s sources (feeding_fault.Unsealed source) old new same explains =
+    (same, record { why = feeding_fault.Unsealed source; is = refl; explains = explains })
 
--- the same of a question that is asked on terms
-pub FailsOnTerms-Answers : {s : Layout} {sources : SourceBytes} {parts : ℕ} {built : BuiltView} (terms : Terms)
-    (question : Question) (why : Failure) (old new : Option (List ℕ))
+-- the first refusal is told
+pub FailsOn-first : (is_strict : Bool) (question : Question) (s : Layout) (facts : List Fact)
+    (refusals : List (List Refusal)) (why : Failure) (old new : Option (List ℕ)) → new ≡ old
+    → IsFirstRefusal is_strict refusals why → FailsOn is_strict question s facts refusals why old new
+FailsOn-first is_strict question s facts refusals (failure.LineRefused source number code) old new same is =
+    (same, is.0, is.1)
+FailsOn-first is_strict question s facts refusals (failure.Query fault) old new same is = absurd is
+FailsOn-first is_strict question s facts refusals (failure.Run fault) old new same is = absurd is
+FailsOn-first is_strict question s facts refusals failure.Unreadable old new same is = absurd is
+FailsOn-first is_strict question s facts refusals (failure.Schema fault) old new same is = absurd is
+FailsOn-first is_strict question s facts refusals failure.TooManyFeeds old new same is = absurd is
+FailsOn-first is_strict question s facts refusals failure.InputTaken old new same is = absurd is
+FailsOn-first is_strict question s facts refusals failure.NoRandomKey old new same is = absurd is
+FailsOn-first is_strict question s facts refusals (failure.FeedUnreadable source) old new same is = absurd is
+FailsOn-first is_strict question s facts refusals failure.UnknownCode old new same is = absurd is
+FailsOn-first is_strict question s facts refusals (failure.Session fault) old new same is = absurd is
+FailsOn-first is_strict question s facts refusals failure.TooManyCubes old new same is = absurd is
+FailsOn-first is_strict question s facts refusals (failure.SamePath input) old new same is = absurd is
+FailsOn-first is_strict question s facts refusals (failure.Merge fault) old new same is = absurd is
+
+-- the answer failed
+pub FailsOn-Answers : (is_strict : Bool) (question : Question) (s : Layout) (facts : List Fact)
+    (refusals : List (List Refusal)) (why : Failure) (old new : Option (List ℕ)) → MayAnswer is_strict refusals
+    → Answers {T = Unit {0}} question s facts refusals (Err why) old new
+    → FailsOn is_strict question s facts refusals why old new
+FailsOn-Answers is_strict question s facts refusals (failure.Query fault) old new may answers =
+    (answers.0, answers.1, may)
+FailsOn-Answers is_strict question s facts refusals (failure.Run run_fault.Full) old new may answers = answers.0
+FailsOn-Answers is_strict question s facts refusals (failure.Run (run_fault.Write sent)) old new may answers =
+    (answers, may)
+FailsOn-Answers is_strict question s facts refusals (failure.Run run_fault.Memory) old new may answers = absurd answers
+FailsOn-Answers is_strict question s facts refusals (failure.Run run_fault.NoThread) old new may answers =
+    absurd answers
+FailsOn-Answers is_strict question s facts refusals (failure.Run (run_fault.Feed source fault)) old new may answers =
+    absurd answers
+FailsOn-Answers is_strict question s facts refusals (failure.Run (run_fault.Unsealed source)) old new may answers =
+    absurd answers
+FailsOn-Answers is_strict question s facts refusals (failure.LineRefused source number code) old new may answers =
+    absurd answers
+FailsOn-Answers is_strict question s facts refusals failure.Unreadable old new may answers = absurd answers
+FailsOn-Answers is_strict question s facts refusals (failure.Schema fault) old new may answers = absurd answers
+FailsOn-Answers is_strict question s facts refusals failure.TooManyFeeds old new may answers = absurd answers
+FailsOn-Answers is_strict question s facts refusals failure.InputTaken old new may answers = absurd answers
+FailsOn-Answers is_strict question s facts refusals failure.NoRandomKey old new may answers = absurd answers
+FailsOn-Answers is_strict question s facts refusals (failure.FeedUnreadable source) old new may answers = absurd answers
+FailsOn-Answers is_strict question s facts refusals failure.UnknownCode old new may answers = absurd answers
+FailsOn-Answers is_strict question s facts refusals (failure.Session fault) old new may answers = absurd answers
+FailsOn-Answers is_strict question s facts refusals failure.TooManyCubes old new may answers = absurd answers
+FailsOn-Answers is_strict question s facts refusals (failure.SamePath input) old new may answers = absurd answers
+FailsOn-Answers is_strict question s facts refusals (failure.Merge fault) old new may answers = absurd answers
+
+-- what it leaves over feeds
+pub FailsOnTerms-built : {s : Layout} {sources : SourceBytes} {parts : ℕ} {built : BuiltView} (terms : Terms)
+    (question : Question) (why : Failure) (old new : Option (List ℕ)) → 1 ≤ length built.builders
     → BuildsWhere s terms.conditions.items sources parts built
-    → Answers {T = Unit {0}} question s (facts_of_run built) (refusals_of_run built) (Err why) old new
+    → FailsOn terms.is_strict question s (facts_of_run built) (refusals_of_run built) why old new
     → FailsOnTerms terms question s sources why old new
-FailsOnTerms-Answers terms question (failure.Query fault) old new builds answers = (answers.0, builds.good, answers.1)
-FailsOnTerms-Answers terms question (failure.Run run_fault.Full) old new builds answers =
-    (answers.0, record { why = feeding_fault.Full; is = refl; explains = builds.good })
-FailsOnTerms-Answers terms question (failure.Run (run_fault.Write sent)) old new builds answers = OfFeeds-where_first builds answers
-FailsOnTerms-Answers terms question (failure.Run run_fault.Memory) old new builds answers = absurd answers
-FailsOnTerms-Answers terms question (failure.Run run_fault.NoThread) old new builds answers = absurd answers
-FailsOnTerms-Answers terms question (failure.Run (run_fault.Feed source fault)) old new builds answers = absurd answers
-FailsOnTerms-Answers terms question (failure.Run (run_fault.Unsealed source)) old new builds answers = absurd answers
-FailsOnTerms-Answers terms question failure.Unreadable old new builds answers = absurd answers
-FailsOnTerms-Answers terms question (failure.Schema fault) old new builds answers = absurd answers
-FailsOnTerms-Answers terms question failure.TooManyFeeds old new builds answers = absurd answers
-FailsOnTerms-Answers terms question failure.InputTaken old new builds answers = absurd answers
-FailsOnTerms-Answers terms question failure.NoRandomKey old new builds answers = absurd answers
-FailsOnTerms-Answers terms question (failure.FeedUnreadable source) old new builds answers = absurd answers
-FailsOnTerms-Answers terms question failure.UnknownCode old new builds answers = absurd answers
-FailsOnTerms-Answers terms question (failure.LineRefused source number code) old new builds answers = absurd answers
-FailsOnTerms-Answers terms question (failure.Session fault) old new builds answers = absurd answers
-FailsOnTerms-Answers terms question failure.TooManyCubes old new builds answers = absurd answers
-FailsOnTerms-Answers terms question (failure.SamePath input) old new builds answers = absurd answers
-FailsOnTerms-Answers terms question (failure.Merge fault) old new builds answers = absurd answers
-
--- and of the first refusal, where no line may be refused
-pub FailsOnTerms-first : {s : Layout} {sources : SourceBytes} {parts : ℕ} {built : BuiltView} (terms : Terms)
-    (question : Question) (why : Failure) (old new : Option (List ℕ))
-    → BuildsWhere s terms.conditions.items sources parts built → new ≡ old
-    → IsFirstRefusal terms.is_strict (refusals_of_run built) why → FailsOnTerms terms question s sources why old new
-FailsOnTerms-first terms question (failure.LineRefused source number code) old new builds same is =
-    (same, is.0, OfFeeds-first_refusal builds is.1)
-FailsOnTerms-first terms question (failure.Query fault) old new builds same is = absurd is
-FailsOnTerms-first terms question (failure.Run fault) old new builds same is = absurd is
-FailsOnTerms-first terms question failure.Unreadable old new builds same is = absurd is
-FailsOnTerms-first terms question (failure.Schema fault) old new builds same is = absurd is
-FailsOnTerms-first terms question failure.TooManyFeeds old new builds same is = absurd is
-FailsOnTerms-first terms question failure.InputTaken old new builds same is = absurd is
-FailsOnTerms-first terms question failure.NoRandomKey old new builds same is = absurd is
-FailsOnTerms-first terms question (failure.FeedUnreadable source) old new builds same is = absurd is
-FailsOnTerms-first terms question failure.UnknownCode old new builds same is = absurd is
-FailsOnTerms-first terms question (failure.Session fault) old new builds same is = absurd is
-FailsOnTerms-first terms question failure.TooManyCubes old new builds same is = absurd is
-FailsOnTerms-first terms question (failure.SamePath input) old new builds same is = absurd is
-FailsOnTerms-first terms question (failure.Merge fault) old new builds same is = absurd is
+FailsOnTerms-built terms question (failure.LineRefused source number code) old new some builds fails =
+    (fails.0, fails.1, OfFeeds-first_refusal some builds _ fails.2)
+FailsOnTerms-built terms question (failure.Query fault) old new some builds fails =
+    (fails.0, fails.1, OfFeeds-may some builds terms.is_strict fails.2)
+FailsOnTerms-built terms question (failure.Run run_fault.Full) old new some builds fails =
+    (fails, record { why = feeding_fault.Full; is = refl; explains = builds.good })
+FailsOnTerms-built terms question (failure.Run (run_fault.Write sent)) old new some builds fails =
+    OfFeeds-where_first some builds fails.0 fails.1
+FailsOnTerms-built terms question (failure.Run run_fault.Memory) old new some builds fails = absurd fails
+FailsOnTerms-built terms question (failure.Run run_fault.NoThread) old new some builds fails = absurd fails
+FailsOnTerms-built terms question (failure.Run (run_fault.Feed source fault)) old new some builds fails = absurd fails
+FailsOnTerms-built terms question (failure.Run (run_fault.Unsealed source)) old new some builds fails = absurd fails
+FailsOnTerms-built terms question failure.Unreadable old new some builds fails = absurd fails
+FailsOnTerms-built terms question (failure.Schema fault) old new some builds fails = absurd fails
+FailsOnTerms-built terms question failure.TooManyFeeds old new some builds fails = absurd fails
+FailsOnTerms-built terms question failure.InputTaken old new some builds fails = absurd fails
+FailsOnTerms-built terms question failure.NoRandomKey old new some builds fails = absurd fails
+FailsOnTerms-built terms question (failure.FeedUnreadable source) old new some builds fails = absurd fails
+FailsOnTerms-built terms question failure.UnknownCode old new some builds fails = absurd fails
+FailsOnTerms-built terms question (failure.Session fault) old new some builds fails = absurd fails
+FailsOnTerms-built terms question failure.TooManyCubes old new some builds fails = absurd fails
+FailsOnTerms-built terms question (failure.SamePath input) old new some builds fails = absurd fails
+FailsOnTerms-built terms question (failure.Merge fault) old new some builds fails = absurd fails

@@ -1,6 +1,6 @@
 -- Whether there are refusals of sources one after another.
 use Rattle.std.proofs.Common.{◌≡◌, ◌<◌, ◌+◌, ℕ, zero, suc, List, [], ◌∷◌, length, get_or, take, refl, ap, ◌∙◌, arith}
-use Rattle.std.specs.Prelude.{Option, Some, None, slice_get}
+use Rattle.std.specs.Prelude.{Some, None, slice_get}
 use Rattle.cube_core.specs.declared.change.Refusal.{Refusal}
 use Rattle.cube_ledger.specs.Ledger.{AccountView, new_account}
 use Rattle.cube_live.proofs.RefusalLaws.{refusals_of_accounts}

@@ -1,6 +1,6 @@
 -- From ledgers that have taken good feeds to what a question over feeds promises.
 use Rattle.std.proofs.Common.{◌≡◌, ◌≤◌, ◌∙◌, ℕ, List, [], ◌∷◌, length, map, get_or, sym, ap, subst, arith}
-use Rattle.std.specs.Prelude.{Bool, true, Option, Some, None}
+use Rattle.std.specs.Prelude.{Bool, true, Option, Some}
 use Rattle.std.specs.List.{AllZip}
 use Rattle.std.proofs.lemmas.List.FromFn.{length-map-range_with_len}
 use Rattle.cube_core.specs.Arrival.{Arrivals, of_source, of_sources}
@@ -19,13 +19,15 @@ use Rattle.cube_build.specs.Builder.{BuilderView, StandsAt}
 use Rattle.cube_ledger.specs.Ledger.{AccountStandsAt, LedgerView, LedgerStandsAt, all_facts}
 use Rattle.cube_ledger.proofs.InterestLaws.{all_facts-of_interest, refusals-of_interest}
 use Rattle.cube_ledger.proofs.SurvivorLaws.{SurviveTogether-stands}
-use Rattle.cube_build.specs.Interest.{BuildsWhere}
+use Rattle.cube_ledger.specs.Interest.{ledger_of_interest}
+use Rattle.cube_build.specs.Interest.{BuildsWhere, PartStandsWhere, StandsWhere}
 use Rattle.cube_rings.specs.Link.{Receiving}
 use Rattle.cube_live.proofs.RefusalLaws.{refusals_of_accounts}
 use Rattle.cube_live.proofs.ShowsLaws.{refusals-each}
 use Rattle.cube_build.specs.Parts.{BuiltView, BuildsParts, PartStandsAt, StandsInParts, first_ledger, facts_of_run}
 use Rattle.cube_rings.specs.declared.parcel.Parcel.{Parcel}
-use Rattle.cube_tool.specs.Answering.{HasTaken, first_refusal, refusals_of_run, status_over}
+use Rattle.cube_tool.specs.Answering.{AnswersOn, HasTaken, HasTakenOn, MayAnswer, first_refusal, refusals_of_run}
+use Rattle.cube_tool.specs.Answering.{status_over}
 use Rattle.cube_tool.specs.Command.{status_after}
 use Rattle.cube_tool.specs.Run.{IsTextOf, IsTextOn, OfFeeds, StandsOver, Tells, Wrote, WroteFirst}
 use Rattle.cube_tool.proofs.RefusalLaws.{status_after-first_refusal}
@@ -69,6 +71,19 @@ IsTextOf-Tells {s = s} {ledger = ledger} question text under tells = record {
   facts = all_facts ledger.accounts;
   survive = survives under;
   tells = subst (λ (r : List (List Refusal)). Tells question s (all_facts ledger.accounts) r text)
+      (refused-under under) tells;
+}
+
+-- one that tells what is asked of its facts of interest and of its refusals is that of the question about these facts
+pub IsTextOn-Tells : {s : Layout} {sources : ℕ} {arrivals : Arrivals} {ledger : LedgerView}
+    (conditions : List Condition) (question : Question) (text : List ℕ) → StandsUnder s sources arrivals ledger
+    → Tells question s (of_interest conditions (all_facts ledger.accounts)) (refusals_of_accounts ledger.accounts) text
+    → IsTextOn conditions question s (of_sources sources arrivals) text
+IsTextOn-Tells {s = s} {ledger = ledger} conditions question text under tells = record {
+  facts = all_facts ledger.accounts;
+  survive = survives under;
+  tells = subst
+      (λ (r : List (List Refusal)). Tells question s (of_interest conditions (all_facts ledger.accounts)) r text)
       (refused-under under) tells;
 }
 
@@ -152,106 +167,128 @@ OfFeeds-first {sources = sources} {question = question} some builds wrote = reco
   holds = WroteFirst-weaker (λ text. IsTextOf-Tells question text (StandsUnder-BuildsParts some builds)) wrote;
 }
 
--- the same with the status by the refusals
-pub OfFeeds-status : {s : Layout} {sources : SourceBytes} {parts : ℕ} {built : BuiltView} {question : Question}
-    {status : Status} {old new : Option (List ℕ)} → 1 ≤ length built.builders
-    → BuildsParts s sources parts built → status ≡ status_after (refusals_of_run built)
-    → Wrote (Tells question s (facts_of_run built) (refusals_of_run built)) old new
-    → OfFeeds s sources
-    (λ feeds. Wrote (IsTextOf question s feeds) old new × (status ≡ status_over s feeds) × HasTaken s parts feeds built)
-OfFeeds-status {sources = sources} {question = question} some builds status_is wrote =
-    let under = StandsUnder-BuildsParts some builds in
-    record {
-      feeds = of_sources (length sources) builds.arrivals;
-      good = builds.good;
-      items = builds.taken;
-      holds = (
-        Wrote-weaker (λ text. IsTextOf-Tells question text under) wrote,
-        status_is ∙ ap status_after (refused-under under),
-        HasTaken-BuildsParts builds,
-      );
-    }
-
 -- ---- the build of the facts of interest
 
--- the whole ledger stands where the feeds end
-under-where : {s : Layout} {conditions : List Condition} {sources : SourceBytes} {parts : ℕ} {built : BuiltView}
-    → (builds : BuildsWhere s conditions sources parts built)
-    → StandsUnder s (length sources) builds.arrivals builds.whole
-under-where builds = record { schema = builds.schema; all = builds.all; stands = builds.stands }
+-- a ledger that keeps the facts of interest has these, and all refusals
+pub facts-kept : (conditions : List Condition) (whole : LedgerView) (built : BuiltView)
+    → first_ledger built.builders ≡ ledger_of_interest conditions whole
+    → facts_of_run built ≡ of_interest conditions (all_facts whole.accounts)
+facts-kept conditions whole built kept =
+    ap (λ (l : LedgerView). all_facts l.accounts) kept ∙ all_facts-of_interest conditions whole.accounts
 
--- what was built has its facts of interest, and its refusals
-facts-where : {s : Layout} {conditions : List Condition} {sources : SourceBytes} {parts : ℕ} {built : BuiltView}
-    → (builds : BuildsWhere s conditions sources parts built)
-    → facts_of_run built ≡ of_interest conditions (all_facts builds.whole.accounts)
-facts-where {conditions = conditions} builds =
-    ap (λ (l : LedgerView). all_facts l.accounts) builds.kept
-    ∙ all_facts-of_interest conditions builds.whole.accounts
+pub refusals-kept : (conditions : List Condition) (whole : LedgerView) (built : BuiltView)
+    → first_ledger built.builders ≡ ledger_of_interest conditions whole
+    → refusals_of_run built ≡ refusals_of_accounts whole.accounts
+refusals-kept conditions whole built kept =
+    ap (λ (l : LedgerView). refusals_of_accounts l.accounts) kept ∙ refusals-of_interest conditions whole.accounts
 
-refused-where : {s : Layout} {conditions : List Condition} {sources : SourceBytes} {parts : ℕ} {built : BuiltView}
-    → (builds : BuildsWhere s conditions sources parts built)
-    → refusals_of_run built ≡ map (refusals_of s) (of_sources (length sources) builds.arrivals)
-refused-where {conditions = conditions} builds =
-    ap (λ (l : LedgerView). refusals_of_accounts l.accounts) builds.kept
-    ∙ refusals-of_interest conditions builds.whole.accounts ∙ refused-under (under-where builds)
+-- so what holds of what was built holds of these
+pub over-kept : (conditions : List Condition) (whole : LedgerView) (built : BuiltView)
+    → first_ledger built.builders ≡ ledger_of_interest conditions whole
+    → (Holds : List Fact → List (List Refusal) → Type 0) → Holds (facts_of_run built) (refusals_of_run built)
+    → Holds (of_interest conditions (all_facts whole.accounts)) (refusals_of_accounts whole.accounts)
+over-kept conditions whole built kept Holds holds =
+    subst (λ (f : List Fact). Holds f (refusals_of_accounts whole.accounts)) (facts-kept conditions whole built kept)
+    (subst (λ (r : List (List Refusal)). Holds (facts_of_run built) r) (refusals-kept conditions whole built kept)
+    holds)
 
--- a text that tells what is asked of what was built is that of the question about the facts of interest
-IsTextOn-Tells : {s : Layout} {conditions : List Condition} {sources : SourceBytes} {parts : ℕ} {built : BuiltView}
-    → (builds : BuildsWhere s conditions sources parts built) (question : Question) (text : List ℕ)
-    → Tells question s (facts_of_run built) (refusals_of_run built) text
-    → IsTextOn conditions question s (of_sources (length sources) builds.arrivals) text
-IsTextOn-Tells {s = s} {conditions = conditions} {built = built} builds question text tells = record {
-  facts = all_facts builds.whole.accounts;
-  survive = survives (under-where builds);
-  tells =
-      subst
-      (λ (r : List (List Refusal)). Tells question s (of_interest conditions (all_facts builds.whole.accounts)) r text)
-      (refused-where builds)
-      (subst (λ (f : List Fact). Tells question s f (refusals_of_run built) text) (facts-where builds) tells);
-}
+-- where it might be answered, and no line may be refused, none was
+pub Done-MayAnswer : {is_strict : Bool} (refusals : List (List Refusal)) {status : Status}
+    → status ≡ status_after refusals → MayAnswer is_strict refusals → is_strict ≡ true → status ≡ Done
+Done-MayAnswer refusals status_is may strict =
+    status_is ∙ status_after-first_refusal 1 refusals (may strict)
 
--- of a text that was written, and of the first bytes of one
-pub OfFeeds-where : {s : Layout} {conditions : List Condition} {sources : SourceBytes} {parts : ℕ} {built : BuiltView}
-    {question : Question} {status : Status} {is_strict : Bool} {old new : Option (List ℕ)}
-    → BuildsWhere s conditions sources parts built → status ≡ status_after (refusals_of_run built)
-    → (is_strict ≡ true → first_refusal 1 (refusals_of_run built) ≡ None)
-    → Wrote (Tells question s (facts_of_run built) (refusals_of_run built)) old new
-    → OfFeeds s sources (λ feeds. Wrote (IsTextOn conditions question s feeds) old new
-    × (status ≡ status_over s feeds) × (is_strict ≡ true → status ≡ Done))
-OfFeeds-where {sources = sources} {built = built} {question = question} builds status_is none wrote = record {
-  feeds = of_sources (length sources) builds.arrivals;
-  good = builds.good;
-  items = builds.taken;
-  holds = (
-    Wrote-weaker (IsTextOn-Tells builds question) wrote,
-    status_is ∙ ap status_after (refused-where builds),
-    λ strict. status_is ∙ status_after-first_refusal 1 (refusals_of_run built) (none strict),
-  );
-}
+-- the ledger of builder 0 keeps the facts of interest of a whole one, which stands at what an arrival list has
+pub record KeepsUnder (s : Layout) (conditions : List Condition) (sources : ℕ) (arrivals : Arrivals)
+    (ledger : LedgerView) : Type 0 where
+  pub whole : LedgerView
+  pub under : StandsUnder s sources arrivals whole
+  pub kept : ledger ≡ ledger_of_interest conditions whole
 
-pub OfFeeds-where_first : {s : Layout} {conditions : List Condition} {sources : SourceBytes} {parts : ℕ}
-    {built : BuiltView} {question : Question} {sent : ℕ} {old new : Option (List ℕ)}
-    → BuildsWhere s conditions sources parts built
-    → WroteFirst (Tells question s (facts_of_run built) (refusals_of_run built)) sent old new
-    → OfFeeds s sources (λ feeds. WroteFirst (IsTextOn conditions question s feeds) sent old new)
-OfFeeds-where_first {sources = sources} {question = question} builds wrote = record {
-  feeds = of_sources (length sources) builds.arrivals;
-  good = builds.good;
-  items = builds.taken;
-  holds = WroteFirst-weaker (IsTextOn-Tells builds question) wrote;
-}
+first-keeps : (s : Layout) (conditions : List Condition) (sources parts : ℕ) (arrivals : Arrivals)
+    (builders : List BuilderView) (inlets : List (List (Receiving Parcel))) → 1 ≤ length builders
+    → ((d : BuilderView)
+    → PartStandsWhere s conditions sources parts 0 arrivals (get_or builders 0 d) (get_or inlets 0 []))
+    → KeepsUnder s conditions sources arrivals (first_ledger builders)
+first-keeps s conditions sources parts arrivals [] inlets some stands = absurd (omega arith)
+first-keeps s conditions sources parts arrivals (builder ∷ builders) inlets some stands =
+    let first = stands builder in
+    record {
+      whole = first.whole;
+      under = record { schema = first.schema; all = first.all; stands = first.stands };
+      kept = first.kept;
+    }
 
--- of the first refusal
-pub OfFeeds-first_refusal : {s : Layout} {conditions : List Condition} {sources : SourceBytes} {parts : ℕ}
-    {built : BuiltView} {first : ℕ × Refusal}
-    → BuildsWhere s conditions sources parts built → first_refusal 1 (refusals_of_run built) ≡ Some first
-    → OfFeeds s sources (λ feeds. first_refusal 1 (map (refusals_of s) feeds) ≡ Some first)
-OfFeeds-first_refusal {sources = sources} builds is = record {
-  feeds = of_sources (length sources) builds.arrivals;
-  good = builds.good;
-  items = builds.taken;
-  holds = ap (first_refusal 1) (sym (refused-where builds)) ∙ is;
-}
+module _ {s : Layout} {conditions : List Condition} {sources : SourceBytes} {parts : ℕ} {built : BuiltView}
+    (some : 1 ≤ length built.builders) (builds : BuildsWhere s conditions sources parts built) where
+  -- where the feeds end
+  abbrev there : List (List Item)
+  there = of_sources (length sources) builds.arrivals
+
+  keeps : KeepsUnder s conditions (length sources) builds.arrivals (first_ledger built.builders)
+  keeps =
+      let count = builds.stands.builders in
+      first-keeps s conditions (length sources) parts builds.arrivals built.builders built.inlets some
+      (λ d. builds.stands.each 0 d (omega arith))
+
+  refused-where : refusals_of_run built ≡ map (refusals_of s) there
+  refused-where = refusals-kept conditions keeps.whole built keeps.kept ∙ refused-under keeps.under
+
+  -- a text that tells what is asked of what was built is that of the question about the facts of interest
+  told-where : (question : Question) (text : List ℕ)
+      → Tells question s (facts_of_run built) (refusals_of_run built) text
+      → IsTextOn conditions question s there text
+  told-where question text tells =
+      IsTextOn-Tells conditions question text keeps.under
+      (over-kept conditions keeps.whole built keeps.kept (λ f r. Tells question s f r text) tells)
+
+  over-feeds : (Holds : List (List Item) → Type 0) → Holds there → OfFeeds s sources Holds
+  over-feeds Holds holds = record { feeds = there; good = builds.good; items = builds.taken; holds = holds }
+
+  may-where : (is_strict : Bool) → MayAnswer is_strict (refusals_of_run built)
+      → MayAnswer is_strict (map (refusals_of s) there)
+  may-where is_strict may = λ strict. ap (first_refusal 1) (sym refused-where) ∙ may strict
+
+  -- the question was answered
+  pub OfFeeds-where : {question : Question} {status : Status} {is_strict : Bool} {old new : Option (List ℕ)}
+      → AnswersOn is_strict question s (facts_of_run built) (refusals_of_run built) status old new
+      → OfFeeds s sources (λ feeds. Wrote (IsTextOn conditions question s feeds) old new
+      × (status ≡ status_over s feeds) × (is_strict ≡ true → status ≡ Done)
+      × HasTakenOn conditions s parts feeds built)
+  OfFeeds-where {question = question} {status = status} {is_strict = is_strict} {old = old} {new = new} answers =
+      over-feeds (λ feeds. Wrote (IsTextOn conditions question s feeds) old new
+      × (status ≡ status_over s feeds) × (is_strict ≡ true → status ≡ Done)
+      × HasTakenOn conditions s parts feeds built) (
+        Wrote-weaker (told-where question) answers.wrote,
+        answers.status_is ∙ ap status_after refused-where,
+        Done-MayAnswer (refusals_of_run built) answers.status_is answers.may,
+        StandsOver-arrivals (λ n. StandsWhere s conditions n parts built) (length sources) builds.arrivals
+            builds.stands,
+      )
+
+  -- the first bytes of its text were written
+  pub OfFeeds-where_first : {question : Question} {sent : ℕ} {is_strict : Bool} {old new : Option (List ℕ)}
+      → WroteFirst (Tells question s (facts_of_run built) (refusals_of_run built)) sent old new
+      → MayAnswer is_strict (refusals_of_run built)
+      → OfFeeds s sources (λ feeds. WroteFirst (IsTextOn conditions question s feeds) sent old new
+      × MayAnswer is_strict (map (refusals_of s) feeds))
+  OfFeeds-where_first {question = question} {sent = sent} {is_strict = is_strict} {old = old} {new = new} wrote may =
+      over-feeds (λ feeds. WroteFirst (IsTextOn conditions question s feeds) sent old new
+      × MayAnswer is_strict (map (refusals_of s) feeds))
+      (WroteFirst-weaker (told-where question) wrote, may-where is_strict may)
+
+  -- it might have been answered
+  pub OfFeeds-may : (is_strict : Bool) → MayAnswer is_strict (refusals_of_run built)
+      → OfFeeds s sources (λ feeds. MayAnswer is_strict (map (refusals_of s) feeds))
+  OfFeeds-may is_strict may =
+      over-feeds (λ feeds. MayAnswer is_strict (map (refusals_of s) feeds)) (may-where is_strict may)
+
+  -- the first refusal
+  pub OfFeeds-first_refusal : (first : ℕ × Refusal) → first_refusal 1 (refusals_of_run built) ≡ Some first
+      → OfFeeds s sources (λ feeds. first_refusal 1 (map (refusals_of s) feeds) ≡ Some first)
+  OfFeeds-first_refusal first is =
+      over-feeds (λ feeds. first_refusal 1 (map (refusals_of s) feeds) ≡ Some first)
+      (ap (first_refusal 1) (sym refused-where) ∙ is)
 
 -- ---- the build on one thread
 

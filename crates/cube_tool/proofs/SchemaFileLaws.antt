@@ -6,7 +6,6 @@ use Rattle.cube_core.specs.declared.schema_fault.SchemaFault.TheVariants.{Memory
 use Rattle.cube_core.specs.declared.schema_fault.SchemaFault.TheVariants.{Measures, Name, Aggregates, MaxRecords}
 use Rattle.cube_core.specs.declared.schema_fault.SchemaFault.TheVariants.{Grouping, Version, Columns, Decimals}
 use Rattle.cube_tool.specs.Command.{AnswersFile, schema_limit}
-use Rattle.cube_tool.specs.declared.command.failure.Failure.{Failure}
 use Rattle.cube_tool.specs.declared.command.failure.Failure.TheVariants.{Schema}
 
 -- a fault that is told of the bytes is told of their file

@@ -3,18 +3,20 @@ use Rattle.std.specs.Prelude.{◌≡◌, ◌<◌, ◌+◌, ⊤, ℕ, Bool, true,
 use Rattle.cube_core.specs.Layout.{Layout}
 use Rattle.cube_core.specs.Query.{drill_fault}
 use Rattle.cube_core.specs.Refusals.{refusals_of}
-use Rattle.cube_core.specs.Run.{SourceBytes, AreGood}
+use Rattle.cube_core.specs.Run.{SourceBytes}
 use Rattle.cube_core.specs.declared.change.Item.{Item}
 use Rattle.cube_core.specs.declared.change.Refusal.{Refusal}
+use Rattle.cube_core.specs.declared.condition.Condition.{Condition}
 use Rattle.cube_core.specs.declared.fact.Fact.{Fact}
 use Rattle.cube_core.specs.declared.query.QueryFault.{QueryFault}
 use Rattle.cube_core.specs.declared.query.QueryFault.TheVariants as query_fault
 use Rattle.cube_core.specs.declared.schema_fault.SchemaFault.TheVariants as schema_fault
 use Rattle.cube_tool.specs.declared.fault.RunFault.TheVariants as run_fault
+use Rattle.cube_build.specs.Interest.{StandsWhere}
 use Rattle.cube_build.specs.Parts.{BuiltView, StandsInParts, first_ledger}
 use Rattle.cube_tool.specs.Command.{status_after}
 use Rattle.cube_ledger.specs.Ledger.{refusal}
-use Rattle.cube_tool.specs.Run.{ExplainsPlainRun, ExplainsRun, IsTextOn, Leaves, LeavesOf, OfFeeds, StandsOver, Tells}
+use Rattle.cube_tool.specs.Run.{ExplainsPlainRun, ExplainsRun, IsTextOn, Leaves, OfFeeds, StandsOver, Tells}
 use Rattle.cube_tool.specs.Run.{Wrote, WroteFirst}
 use Rattle.cube_tool.specs.declared.question.Question.{Question}
 use Rattle.cube_tool.specs.declared.question.Question.TheVariants.{Cube, Slice, Drill, RollUp, Refusals}
@@ -83,12 +85,9 @@ status_over s feeds = status_after (map (refusals_of s) feeds)
 abbrev pub HasTaken : Layout → ℕ → List (List Item) → BuiltView → Type 0
 HasTaken s parts feeds built = StandsOver (StandsInParts s (length feeds) parts built) feeds
 
--- what a failure of a question over feeds leaves:
--- nothing was written where the question is refused, and that is told only after all feeds were taken
-abbrev pub FailsToAnswer : Question → Layout → SourceBytes → Failure → Option (List ℕ) → Option (List ℕ) → Type 0
-FailsToAnswer question s sources (Run fault) old new = Leaves (ExplainsRun s sources) question s sources fault old new
-FailsToAnswer question s sources (Query fault) old new = (new ≡ old) × AreGood s sources × IsQueryFault s question fault
-FailsToAnswer question s sources _ old new = ⊥
+-- so many builders have taken these feeds, and count the facts of interest alone
+abbrev pub HasTakenOn : List Condition → Layout → ℕ → List (List Item) → BuiltView → Type 0
+HasTakenOn conditions s parts feeds built = StandsOver (StandsWhere s conditions (length feeds) parts built) feeds
 
 -- the first refusal of feeds, with its source, which is counted from this number on: of the lowest source that has one
 abbrev pub first_refusal : ℕ → List (List Refusal) → Option (ℕ × Refusal)
@@ -96,22 +95,51 @@ first_refusal source [] = None
 first_refusal source ([] ∷ others) = first_refusal (source + 1) others
 first_refusal source ((refusal ∷ refusals) ∷ others) = Some (source, refusal)
 
+-- an answer may be given over these refusals: where no line may be refused, none was
+abbrev pub MayAnswer : Bool → List (List Refusal) → Type 0
+MayAnswer is_strict refusals = is_strict ≡ true → first_refusal 1 refusals ≡ None
+
 -- a failure tells the first refusal of these, where no line may be refused
 abbrev pub IsFirstRefusal : Bool → List (List Refusal) → Failure → Type 0
 IsFirstRefusal is_strict refusals (LineRefused source number code) =
     (is_strict ≡ true) × (first_refusal 1 refusals ≡ Some (source, refusal number code))
 IsFirstRefusal is_strict refusals _ = ⊥
 
+-- what answering a question over these facts and refusals on terms comes to: where it may be answered its text was
+-- written whole, and the status tells whether a line was refused
+pub record AnswersOn (is_strict : Bool) (question : Question) (s : Layout) (facts : List Fact)
+    (refusals : List (List Refusal)) (status : Status) (old new : Option (List ℕ)) : Type 0 where
+  pub wrote : Wrote (Tells question s facts refusals) old new
+  pub status_is : status ≡ status_after refusals
+  pub may : MayAnswer is_strict refusals
+
+-- what a failure to answer it leaves: nothing was written where the first refusal is told, the question is refused or
+-- memory ran out, and of a failed write the first bytes of the text, so many of them
+abbrev pub FailsOn : Bool → Question → Layout → List Fact → List (List Refusal) → Failure → Option (List ℕ)
+    → Option (List ℕ) → Type 0
+FailsOn is_strict question s facts refusals (LineRefused source number code) old new =
+    (new ≡ old) × (is_strict ≡ true) × (first_refusal 1 refusals ≡ Some (source, refusal number code))
+FailsOn is_strict question s facts refusals (Query fault) old new =
+    (new ≡ old) × IsQueryFault s question fault × MayAnswer is_strict refusals
+FailsOn is_strict question s facts refusals (Run run_fault.Full) old new = new ≡ old
+FailsOn is_strict question s facts refusals (Run (run_fault.Write sent)) old new =
+    WroteFirst (Tells question s facts refusals) sent old new × MayAnswer is_strict refusals
+FailsOn is_strict question s facts refusals _ old new = ⊥
+
 -- what a failure of a question leaves that is asked of feeds on terms: as of any question, and where no line may be
--- refused the first refusal may be told, once all feeds were taken, when nothing was written
+-- refused the first refusal may be told, once all feeds were taken, when nothing was written; where the question is
+-- refused or the writing failed there was none
 abbrev pub FailsOnTerms : Terms → Question → Layout → SourceBytes → Failure → Option (List ℕ) → Option (List ℕ) → Type 0
 FailsOnTerms terms question s sources (LineRefused source number code) old new =
     (new ≡ old) × (terms.is_strict ≡ true)
     × OfFeeds s sources (λ feeds. first_refusal 1 (map (refusals_of s) feeds) ≡ Some (source, refusal number code))
-FailsOnTerms terms question s sources (Run fault) old new =
-    LeavesOf (ExplainsRun s sources) (IsTextOn terms.conditions.items question s) s sources fault old new
 FailsOnTerms terms question s sources (Query fault) old new =
-    (new ≡ old) × AreGood s sources × IsQueryFault s question fault
+    (new ≡ old) × IsQueryFault s question fault
+    × OfFeeds s sources (λ feeds. MayAnswer terms.is_strict (map (refusals_of s) feeds))
+FailsOnTerms terms question s sources (Run (run_fault.Write sent)) old new =
+    OfFeeds s sources (λ feeds. WroteFirst (IsTextOn terms.conditions.items question s feeds) sent old new
+    × MayAnswer terms.is_strict (map (refusals_of s) feeds))
+FailsOnTerms terms question s sources (Run fault) old new = (new ≡ old) × ExplainsRun s sources fault
 FailsOnTerms terms question s sources _ old new = ⊥
 
 -- what a failure of the program without words leaves; of its schema nothing but memory can fail

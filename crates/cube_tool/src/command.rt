@@ -20,7 +20,7 @@ mod words;
 pub use crate::question::Question;
 pub use explanation::explain;
 pub use failure::Failure;
-pub use feeds::{ask, ask_on};
+pub use feeds::{ask, ask_ledger};
 pub use merging::{FileIdentity, NamedCube, check_cubes, first_repeated, merge_cubes};
 pub use notes::{FEED_NOTES, LATER_NOTES, Note, RUN_NOTES, SCHEMA_NOTES, STORE_NOTES};
 pub use query::{read_cell, read_dimension, read_pattern};

@@ -175,7 +175,9 @@ pub const CODE_ADVICE: [Advice; 22] = [
     },
     Advice {
         code: "F3",
-        lines: &[],
+        lines: &[
+            "Mend the header, or the names in the schema: each letter, space and capital of them counts.",
+        ],
     },
     Advice {
         code: "F4",
@@ -320,11 +322,11 @@ pub const STORE_ADVICE: [Advice; 9] = [
 ];
 
 /// Kinds of files and mistakes that are met often.
-pub const KIND_ADVICE: [Advice; 8] = [
+pub const KIND_ADVICE: [Advice; 10] = [
     Advice {
         code: "gzip",
         lines: &[
-            "The file is packed by gzip. Unpack it on the way: zcat FILE | datacube print SCHEMA -",
+            "The file is packed by gzip. Unpack it on the way, with - in its place: zcat FILE | datacube print SCHEMA -",
         ],
     },
     Advice {
@@ -334,8 +336,12 @@ pub const KIND_ADVICE: [Advice; 8] = [
         ],
     },
     Advice {
+        code: "old spreadsheet",
+        lines: &["The file is a spreadsheet (.xls). Save the table as CSV in UTF-8."],
+    },
+    Advice {
         code: "UTF-16",
-        lines: &["The file is in UTF-16. Write it in UTF-8: iconv -f UTF-16 -t UTF-8 FILE"],
+        lines: &["The file is in UTF-16. Write it in UTF-8: iconv -f UTF-16 -t UTF-8 FILE > NEW"],
     },
     Advice {
         code: "folder",
@@ -364,5 +370,9 @@ pub const KIND_ADVICE: [Advice; 8] = [
         lines: &[
             "The fields stand apart by bars: add [feed] to the schema, and under it delimiter = \"|\"",
         ],
+    },
+    Advice {
+        code: "comma",
+        lines: &["The fields stand apart by commas: take delimiter out of [feed] in the schema"],
     },
 ];

@@ -7,6 +7,8 @@ pub enum Kind {
     Gzip,
     /// An archive, as spreadsheets are (.xlsx, .ods).
     Archive,
+    /// A spreadsheet of the kind before that (.xls).
+    OldSpreadsheet,
     /// A text in UTF-16.
     Utf16,
     /// None of these.
@@ -19,6 +21,7 @@ impl Kind {
         match self {
             Kind::Gzip => "gzip",
             Kind::Archive => "archive",
+            Kind::OldSpreadsheet => "old spreadsheet",
             Kind::Utf16 => "UTF-16",
             Kind::Other => "",
         }
@@ -32,6 +35,9 @@ pub fn kind_of(begin: &[u8]) -> Kind {
     }
     if begins_with(begin, b"PK\x03\x04") {
         return Kind::Archive;
+    }
+    if begins_with(begin, b"\xD0\xCF\x11\xE0") {
+        return Kind::OldSpreadsheet;
     }
     if begins_with(begin, b"\xFF\xFE") || begins_with(begin, b"\xFE\xFF") {
         return Kind::Utf16;

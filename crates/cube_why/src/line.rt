@@ -1,7 +1,10 @@
 //! A line of a feed that was refused.
-use crate::measure::{Meant, is_number, meant_by};
+use crate::lines::Lines;
 use crate::report::{decimal, grouped, quoted};
-use crate::wanted::{Role, Used, advance, field_at, place_of, point_of, records_of, used_columns};
+use crate::value::measure_words;
+use crate::wanted::{
+    Role, Used, advance, delimiter_of, field_at, place_of, records_of, used_columns,
+};
 use csv::{ByteRecord, Reader};
 use cube_core::Schema;
 use std::alloc::{AllocError, Global};
@@ -11,12 +14,12 @@ use std::str;
 /// A record of a feed, and the feed's header.
 #[derive(Drop)]
 pub struct FoundLine {
-    header: ByteRecord,
-    record: ByteRecord,
+    pub(crate) header: ByteRecord,
+    pub(crate) record: ByteRecord,
     /// The number of the record, from 1.
     pub number: u64,
-    /// How many data records the feed has; at least its own number.
-    pub records: u64,
+    /// Where it stands in the file, and the last record.
+    pub lines: Lines,
 }
 
 /// What is wrong with a line.
@@ -33,69 +36,105 @@ enum Wrong {
     Other,
 }
 
-/// The data record with a number of a feed that is read again, to its end; none where it has fewer. The only error is that
-/// memory ran out.
+/// The data record with a number of a feed that is read again, where `lines` says on which line of the file it begins; none
+/// where the feed has fewer. The only error is that memory ran out.
 pub fn find_line<R: Read + Drop>(
     alloc: Global,
     schema: &Schema,
     reader: R,
     number: u64,
+    lines: Lines,
 ) -> Result<Option<FoundLine>, AllocError> {
     let mut reader = records_of(alloc, schema, reader);
     let mut line = FoundLine {
         header: ByteRecord::new(alloc),
         record: ByteRecord::new(alloc),
         number,
-        records: 0,
+        lines,
     };
-    let searched = search(alloc, &mut reader, &mut line);
+    let searched = search(&mut reader, &mut line);
     drop(reader);
     match searched {
-        Ok(()) if number <= line.records => Ok(Some(line)),
-        Ok(()) => Ok(None),
+        Ok(true) => Ok(Some(line)),
+        Ok(false) => Ok(None),
         Err(error) => Err(error),
     }
 }
 
-// Reads a feed to its end, and keeps its header and the record that is looked for, the last one else.
-fn search<R: Read>(
-    alloc: Global,
-    reader: &mut Reader<R>,
-    line: &mut FoundLine,
-) -> Result<(), AllocError> {
+// Reads a feed up to the record that is looked for, and keeps it and the header; whether it is there.
+fn search<R: Read>(reader: &mut Reader<R>, line: &mut FoundLine) -> Result<bool, AllocError> {
     if !advance(reader, &mut line.header)? {
-        return Ok(());
+        return Ok(false);
     }
     for _ in 0..line.number {
         if !advance(reader, &mut line.record)? {
-            return Ok(());
+            return Ok(false);
         }
-        line.records = line.records.saturating_add(1);
     }
-    let further = records_left(alloc, reader, line.records)?;
-    line.records = further;
-    Ok(())
+    Ok(true)
 }
 
-// How many records there are, so many with those that were read.
-fn records_left<R: Read>(
+impl FoundLine {
+    /// Whether a quote in the record is never closed, so that it is the last one.
+    pub fn is_unclosed(&self) -> bool {
+        self.lines.is_unclosed() && self.number == self.lines.records
+    }
+}
+
+/// Where a refused line stands behind the name of its file, and what is wrong with it, by the code of its refusal. The only
+/// error is that memory ran out.
+pub(crate) fn told_line(
     alloc: Global,
-    reader: &mut Reader<R>,
-    read: u64,
-) -> Result<u64, AllocError> {
-    let mut next = ByteRecord::new(alloc);
-    let mut count = read;
-    for _ in 0..u64::MAX {
-        if !advance(reader, &mut next)? {
-            break;
-        }
-        count = count.saturating_add(1);
+    schema: &Schema,
+    line: &FoundLine,
+    code: u8,
+) -> Result<Vec<u8>, AllocError> {
+    if line.is_unclosed() {
+        return unclosed_words(alloc, &line.lines);
     }
-    Ok(count)
+    let place = place_words(alloc, line.lines.line, line.number)?;
+    let words = line_words(alloc, schema, line, code)?;
+    all_of(alloc, &[b", ", &place, b": ", &words])
 }
 
-/// What is wrong with a refused line, in words, by the code of its refusal. The only error is that memory ran out.
-pub fn tell_line(
+/// Where a data record stands: its line, where that is known, and its number. The only error is that memory ran out.
+pub(crate) fn place_words(alloc: Global, line: u64, record: u64) -> Result<Vec<u8>, AllocError> {
+    let number = decimal(alloc, record)?;
+    if line == 0 {
+        return all_of(alloc, &[b"record ", &number]);
+    }
+    let line = decimal(alloc, line)?;
+    all_of(alloc, &[b"line ", &line, b" (record ", &number, b")"])
+}
+
+/// That a quote in the last record of a file is never closed, behind the name of the file. The only error is that memory ran
+/// out.
+pub(crate) fn unclosed_words(alloc: Global, lines: &Lines) -> Result<Vec<u8>, AllocError> {
+    let line = decimal(alloc, lines.last)?;
+    let record = decimal(alloc, lines.records)?;
+    let count = grouped(alloc, lines.open)?;
+    let mut text = Vec::new(alloc);
+    if lines.records == 0 {
+        text.extend_from_slice(b": the header begins at line ")?;
+        text.extend_from_slice(&line)?;
+    } else {
+        text.extend_from_slice(b": the last record begins at line ")?;
+        text.extend_from_slice(&line)?;
+        text.extend_from_slice(b" (record ")?;
+        text.extend_from_slice(&record)?;
+        text.extend_from_slice(b")")?;
+    }
+    if lines.is_unclosed() {
+        text.extend_from_slice(b" and has ")?;
+        text.extend_from_slice(&count)?;
+        text.extend_from_slice(b" lines")?;
+    }
+    text.extend_from_slice(b": a quote in it is never closed")?;
+    Ok(text)
+}
+
+// What is wrong with a refused line, in words.
+fn line_words(
     alloc: Global,
     schema: &Schema,
     line: &FoundLine,
@@ -106,25 +145,16 @@ pub fn tell_line(
         Wrong::Op => op_words(alloc, schema, line, &used),
         Wrong::Fields => field_words(alloc, schema, line, &used),
         Wrong::Text => text_words(alloc, schema, line, &used),
-        Wrong::Id => owned(alloc, b"the id is empty"),
+        Wrong::Id => empty_id_words(alloc, schema, &used),
         Wrong::Measure => measure_words(alloc, schema, line, &used),
-        Wrong::Keep => owned(
-            alloc,
-            b"a field is \\=, which keeps a value, and there is none yet",
-        ),
-        Wrong::Present => id_words(
-            alloc,
-            schema,
-            line,
-            &used,
-            b", which is inserted, is there already",
-        ),
+        Wrong::Keep => keep_words(alloc, schema, line, &used),
+        Wrong::Present => id_words(alloc, schema, line, &used, present_words(schema)),
         Wrong::Absent => id_words(
             alloc,
             schema,
             line,
             &used,
-            b", which is changed, isn't there",
+            b", which is changed, isn't there: insert it before, in the same feed",
         ),
         Wrong::Other => owned(alloc, b"the schema doesn't take the change"),
     }
@@ -158,12 +188,12 @@ fn wrong_by(code: u8) -> Wrong {
     }
 }
 
-fn owned(alloc: Global, text: &[u8]) -> Result<Vec<u8>, AllocError> {
+pub(crate) fn owned(alloc: Global, text: &[u8]) -> Result<Vec<u8>, AllocError> {
     Vec::from_slice(alloc, text)
 }
 
-// These pieces, one behind the other.
-fn all_of(alloc: Global, pieces: &[&[u8]]) -> Result<Vec<u8>, AllocError> {
+/// These pieces, one behind the other. The only error is that memory ran out.
+pub(crate) fn all_of(alloc: Global, pieces: &[&[u8]]) -> Result<Vec<u8>, AllocError> {
     let mut text = Vec::new(alloc);
     for piece in pieces {
         text.extend_from_slice(piece)?;
@@ -171,8 +201,8 @@ fn all_of(alloc: Global, pieces: &[&[u8]]) -> Result<Vec<u8>, AllocError> {
     Ok(text)
 }
 
-// The place of a column in a record.
-fn place_in(schema: &Schema, line: &FoundLine, column: &Used, order: usize) -> usize {
+/// The place of a column in a record.
+pub(crate) fn place_in(schema: &Schema, line: &FoundLine, column: &Used, order: usize) -> usize {
     if schema.columns().is_some() {
         place_of(&line.header, column.name)
     } else {
@@ -180,16 +210,17 @@ fn place_in(schema: &Schema, line: &FoundLine, column: &Used, order: usize) -> u
     }
 }
 
-// The field of the first column with a role, if there is one.
-fn field_of<'l>(
+// The column with a role, and its field, if there is one.
+fn field_of<'l, 's>(
     schema: &Schema,
     line: &'l FoundLine,
-    used: &[Used],
+    used: &[Used<'s>],
     role: Role,
-) -> Option<&'l [u8]> {
+) -> Option<(&'s str, &'l [u8])> {
     for (order, column) in used.iter().enumerate() {
         if column.role == role {
-            return Some(field_at(&line.record, place_in(schema, line, column, order)));
+            let place = place_in(schema, line, column, order);
+            return Some((column.name, field_at(&line.record, place)));
         }
     }
     None
@@ -201,18 +232,23 @@ fn op_words(
     line: &FoundLine,
     used: &[Used],
 ) -> Result<Vec<u8>, AllocError> {
-    let field = field_of(schema, line, used, Role::Op).unwrap_or(b"");
+    let field = match field_of(schema, line, used, Role::Op) {
+        Some((_, field)) => field,
+        None => b"",
+    };
     let op = quoted(alloc, field)?;
-    let wanted = operations(alloc, schema)?;
-    all_of(alloc, &[b"the operation is ", &op, &wanted])
+    let wanted = operations(schema, field);
+    all_of(alloc, &[b"the operation is ", &op, wanted])
 }
 
-// The operations that were wanted.
-fn operations(alloc: Global, schema: &Schema) -> Result<Vec<u8>, AllocError> {
+// The operations that were wanted where a field is none.
+fn operations(schema: &Schema, field: &[u8]) -> &'static [u8] {
     if schema.may_upsert() {
-        owned(alloc, b", and none of I, U, D, P and R")
+        b", and none of I, U, D, P and R"
+    } else if field == b"P".as_slice() || field == b"R".as_slice() {
+        b", and none of I, U and D: P and R go with [feed] in the schema"
     } else {
-        owned(alloc, b", and none of I, U and D")
+        b", and none of I, U and D"
     }
 }
 
@@ -222,33 +258,41 @@ fn field_words(
     line: &FoundLine,
     used: &[Used],
 ) -> Result<Vec<u8>, AllocError> {
-    let lines = line_ends(&line.record);
-    if line.number == line.records && lines > 1 {
-        let record = decimal(alloc, line.number)?;
-        let count = grouped(alloc, lines)?;
-        return all_of(
-            alloc,
-            &[
-                b"the last record begins at record ",
-                &record,
-                b" and has ",
-                &count,
-                b" lines: a quote in it is never closed",
-            ],
-        );
-    }
-    let wanted = decimal(alloc, width_of(schema, line, used) as u64)?;
+    let width = width_of(schema, line, used);
+    let wanted = decimal(alloc, width as u64)?;
     let found = decimal(alloc, line.record.len() as u64)?;
+    let fields: &[u8] = if line.record.len() == 1 {
+        b" field, where "
+    } else {
+        b" fields, where "
+    };
+    let hint: &[u8] = if line.record.len() > width {
+        quote_hint(delimiter_of(schema))
+    } else {
+        b""
+    };
     all_of(
         alloc,
         &[
             b"the record has ",
             &found,
-            b" fields, where ",
+            fields,
             &wanted,
             b" were wanted",
+            hint,
         ],
     )
+}
+
+// What to do where there are too many fields.
+fn quote_hint(delimiter: u8) -> &'static [u8] {
+    match delimiter {
+        b',' => b": a field that holds a comma stands in quotes",
+        b';' => b": a field that holds a semicolon stands in quotes",
+        b'\t' => b": a field that holds a tab stands in quotes",
+        b'|' => b": a field that holds a bar stands in quotes",
+        _ => b": a field that holds the delimiter stands in quotes",
+    }
 }
 
 // How many fields a record was to have.
@@ -260,26 +304,6 @@ fn width_of(schema: &Schema, line: &FoundLine, used: &[Used]) -> usize {
     }
 }
 
-// How many line ends the fields of a record have.
-fn line_ends(record: &ByteRecord) -> u64 {
-    let mut count = 0u64;
-    for place in 0..record.len() {
-        count = count.saturating_add(ends_in(field_at(record, place)));
-    }
-    count
-}
-
-// How many line ends a field has.
-fn ends_in(field: &[u8]) -> u64 {
-    let mut count = 0u64;
-    for byte in field {
-        if *byte == b'\n' {
-            count = count.saturating_add(1);
-        }
-    }
-    count
-}
-
 fn text_words(
     alloc: Global,
     schema: &Schema,
@@ -289,21 +313,68 @@ fn text_words(
     for (order, column) in used.iter().enumerate() {
         let field = field_at(&line.record, place_in(schema, line, column, order));
         if column.role != Role::Op && str::from_utf8(field).is_err() {
+            let what = b", which isn't UTF-8: write the file in UTF-8";
+            return column_words(alloc, column, field, what);
+        }
+    }
+    owned(alloc, b"a field isn't UTF-8")
+}
+
+// The field of a column, and what is said of it.
+fn column_words(
+    alloc: Global,
+    column: &Used,
+    field: &[u8],
+    what: &[u8],
+) -> Result<Vec<u8>, AllocError> {
+    let name = quoted(alloc, column.name.as_bytes())?;
+    let value = quoted(alloc, field)?;
+    all_of(alloc, &[b"the field of ", &name, b" is ", &value, what])
+}
+
+fn keep_words(
+    alloc: Global,
+    schema: &Schema,
+    line: &FoundLine,
+    used: &[Used],
+) -> Result<Vec<u8>, AllocError> {
+    let what = b", which keeps a value, and there is none yet: write the value";
+    for (order, column) in used.iter().enumerate() {
+        let field = field_at(&line.record, place_in(schema, line, column, order));
+        let is_value = column.role == Role::Dimension || column.role == Role::Measure;
+        if is_value && field.starts_with(b"\\=") {
+            return column_words(alloc, column, field, what);
+        }
+    }
+    all_of(alloc, &[b"a field is \\=", what])
+}
+
+fn empty_id_words(alloc: Global, schema: &Schema, used: &[Used]) -> Result<Vec<u8>, AllocError> {
+    for column in used {
+        if column.role == Role::Id && schema.columns().is_some() {
             let name = quoted(alloc, column.name.as_bytes())?;
-            let value = quoted(alloc, field)?;
             return all_of(
                 alloc,
                 &[
-                    b"the field of ",
+                    b"the id, in the column ",
                     &name,
-                    b" is ",
-                    &value,
-                    b", which isn't UTF-8",
+                    b", is empty: give each fact one",
                 ],
             );
         }
     }
-    owned(alloc, b"a field isn't UTF-8")
+    owned(alloc, b"the id is empty: give each fact one")
+}
+
+// What is said of an id that is inserted, and is there already.
+fn present_words(schema: &Schema) -> &'static [u8] {
+    match schema.columns() {
+        Some(columns) if columns.op.is_none() => {
+            b", which is inserted, is there already: without id under [feed] each line counts"
+        }
+        Some(_) => b", which is inserted, is there already: U changes it, and P puts it anyway",
+        None => b", which is inserted, is there already: U changes it",
+    }
 }
 
 fn id_words(
@@ -314,92 +385,8 @@ fn id_words(
     what: &[u8],
 ) -> Result<Vec<u8>, AllocError> {
     let id = match field_of(schema, line, used, Role::Id) {
-        Some(field) => quoted(alloc, field)?,
+        Some((_, field)) => quoted(alloc, field)?,
         None => decimal(alloc, line.number)?,
     };
     all_of(alloc, &[b"the id ", &id, what])
-}
-
-fn measure_words(
-    alloc: Global,
-    schema: &Schema,
-    line: &FoundLine,
-    used: &[Used],
-) -> Result<Vec<u8>, AllocError> {
-    for (order, column) in used.iter().enumerate() {
-        let field = field_at(&line.record, place_in(schema, line, column, order));
-        if column.role == Role::Measure && is_wrong(schema, column.place, field) {
-            return value_words(alloc, schema, column, field);
-        }
-    }
-    owned(alloc, b"a measure isn't a number that fits")
-}
-
-// Whether a field is neither null nor a number of a measure.
-fn is_wrong(schema: &Schema, measure: usize, field: &[u8]) -> bool {
-    let is_kept = schema.version() == 2 && field == b"\\=".as_slice();
-    !is_kept
-        && !is_null(schema, field)
-        && !is_number(field, schema.decimals_of(measure), point_of(schema))
-}
-
-// Whether a field is null.
-fn is_null(schema: &Schema, field: &[u8]) -> bool {
-    match schema.columns() {
-        Some(columns) => {
-            columns
-                .nulls
-                .as_slice()
-                .iter()
-                .any(|null| null.as_str().as_bytes() == field)
-        }
-        None => field == b"\\N".as_slice(),
-    }
-}
-
-// What is wrong with the value of a measure.
-fn value_words(
-    alloc: Global,
-    schema: &Schema,
-    column: &Used,
-    field: &[u8],
-) -> Result<Vec<u8>, AllocError> {
-    let value = quoted(alloc, field)?;
-    let wanted = wanted_words(alloc, schema.decimals_of(column.place))?;
-    let hint = owned(alloc, hint_of(meant_by(field, point_of(schema))))?;
-    let name = owned(alloc, column.name.as_bytes())?;
-    all_of(
-        alloc,
-        &[
-            b"the measure ",
-            &name,
-            b" is ",
-            &value,
-            b", which isn't ",
-            &wanted,
-            &hint,
-        ],
-    )
-}
-
-// What was wanted of a measure.
-fn wanted_words(alloc: Global, digits: Option<u8>) -> Result<Vec<u8>, AllocError> {
-    match digits {
-        None | Some(0) => owned(alloc, b"a whole number"),
-        Some(1) => owned(alloc, b"a number with at most 1 decimal"),
-        Some(digits) => {
-            let number = decimal(alloc, u64::from(digits))?;
-            all_of(alloc, &[b"a number with at most ", &number, b" decimals"])
-        }
-    }
-}
-
-// What a value may be meant as.
-fn hint_of(meant: Meant) -> &'static [u8] {
-    match meant {
-        Meant::Missing => b", and not null either",
-        Meant::DecimalComma => b": it may have a decimal comma",
-        Meant::Thousands => b": it may have marks between its thousands",
-        Meant::Decimals | Meant::Unknown => b"",
-    }
 }

@@ -2,8 +2,10 @@
 use crate::advice::{
     CODE_ADVICE, KIND_ADVICE, SCHEMA_ADVICE, STORE_ADVICE, WORD_ADVICE, advice_on,
 };
-use crate::line::{FoundLine, tell_line};
-use crate::report::{Report, decimal, quoted, with_commas};
+use crate::kind::{Kind, kind_of};
+use crate::line::{FoundLine, place_words, told_line, unclosed_words};
+use crate::lines::{Lines, without_mark};
+use crate::report::{Report, decimal, quoted, shown, with_commas};
 use crate::said::code_words;
 use cube_core::{Schema, Text};
 use std::alloc::{AllocError, Global};
@@ -32,19 +34,36 @@ pub fn put_kind(path: &str, kind: &str, report: &mut Report) -> Result<(), Alloc
     report.lines(advice_on(&KIND_ADVICE, kind))
 }
 
-/// Adds that a feed has more records than its schema takes. The only error is that memory ran out.
+/// Adds that a feed has more records than its schema takes, and the line on which the first that is too many begins, where it is
+/// known. The only error is that memory ran out.
 pub fn tell_limit(
     alloc: Global,
     schema: &Schema,
     path: &str,
+    line: u64,
     report: &mut Report,
 ) -> Result<(), AllocError> {
-    let most = decimal(alloc, u64::from(schema.max_records()))?;
+    let most = u64::from(schema.max_records());
+    let place = place_words(alloc, line, most.saturating_add(1))?;
+    let most = decimal(alloc, most)?;
     report.line(&[
         path.as_bytes(),
-        b" has more data records than max_records, which is ",
+        b", ",
+        &place,
+        b": one data record more than max_records, which is ",
         &most,
     ])
+}
+
+/// Adds that a quote in the last record of a file is never closed. The only error is that memory ran out.
+pub fn tell_unclosed(
+    alloc: Global,
+    path: &str,
+    lines: &Lines,
+    report: &mut Report,
+) -> Result<(), AllocError> {
+    let words = unclosed_words(alloc, lines)?;
+    report.line(&[path.as_bytes(), &words])
 }
 
 /// Adds what a word of the command line is, and the dimensions that it goes by. The only error is that memory ran out.
@@ -66,17 +85,28 @@ pub fn put_word(
     ])
 }
 
-/// Adds what the conditions of the command line are. The only error is that memory ran out.
-pub fn put_conditions(
+/// Adds what a condition of the command line is, and the names that it may begin with. The only error is that memory ran out.
+pub fn put_condition(
     alloc: Global,
-    words: &[&str],
+    schema: &Schema,
+    word: &str,
     report: &mut Report,
 ) -> Result<(), AllocError> {
-    for word in words {
-        let value = quoted(alloc, word.as_bytes())?;
-        report.line(&[b"CONDITION is ", &value])?;
-    }
-    Ok(())
+    let value = quoted(alloc, word.as_bytes())?;
+    let dimensions = names_of(alloc, schema.dimensions())?;
+    let measures = names_of(alloc, schema.measures())?;
+    report.line(&[
+        b"CONDITION is ",
+        &value,
+        b", and the names are ",
+        &dimensions,
+        if schema.measures().is_empty() {
+            b""
+        } else {
+            b","
+        },
+        &measures,
+    ])
 }
 
 /// Adds what is wrong with a refused line of a file. The only error is that memory ran out.
@@ -88,9 +118,8 @@ pub fn tell_record(
     code: u8,
     report: &mut Report,
 ) -> Result<(), AllocError> {
-    let number = decimal(alloc, line.number)?;
-    let words = tell_line(alloc, schema, line, code)?;
-    report.line(&[path.as_bytes(), b", record ", &number, b": ", &words])
+    let words = told_line(alloc, schema, line, code)?;
+    report.line(&[path.as_bytes(), &words])
 }
 
 // These names with commas between them.
@@ -117,4 +146,29 @@ pub fn tell_repeated(
         path.as_bytes(),
         b", which came before: its facts count twice",
     ])
+}
+
+/// Adds what there is to do where no schema is made of a file that begins with these bytes: about its kind, or else how its first
+/// line reads, and how columns are named. The only error is that memory ran out.
+pub fn tell_columns(
+    alloc: Global,
+    path: &str,
+    begin: &[u8],
+    report: &mut Report,
+) -> Result<(), AllocError> {
+    let kind = kind_of(begin);
+    if kind != Kind::Other {
+        return put_kind(path, kind.name(), report);
+    }
+    let mut number = 0u64;
+    for line in without_mark(begin).split(|byte| *byte == b'\n') {
+        number = number.saturating_add(1);
+        if !line.trim_ascii().is_empty() {
+            let place = decimal(alloc, number)?;
+            let text = shown(alloc, line.trim_ascii_end())?;
+            report.line(&[path.as_bytes(), b", line ", &place, b": ", &text])?;
+            break;
+        }
+    }
+    report.lines(advice_on(&WORD_ADVICE, "no columns"))
 }

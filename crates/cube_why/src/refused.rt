@@ -1,5 +1,6 @@
 //! Refused lines, in one line for people.
-use crate::line::{FoundLine, tell_line};
+use crate::line::{FoundLine, place_words, told_line, unclosed_words};
+use crate::lines::Lines;
 use crate::report::decimal;
 use cube_core::{Refusal, Schema};
 use cube_ledger::Ledger;
@@ -49,49 +50,69 @@ fn first_of(source: u32, refusals: &[Refusal], lines: u64) -> Option<Refused> {
     }
 }
 
-/// The line for people that tells of refused lines: how many of how many, and the first one, by the file that it stands in
-/// and what is wrong with it. The only error is that memory ran out.
+/// The line for people that tells of refused lines: how many of how many, where that is known, and the first one, by the file
+/// that it stands in and what is wrong with it. The only error is that memory ran out.
 pub fn refused_line(
     alloc: Global,
     schema: &Schema,
     refused: &Refused,
-    records: u64,
+    records: Option<u64>,
     path: &str,
     line: &FoundLine,
 ) -> Result<Vec<u8>, AllocError> {
-    let mut text = Vec::from_slice(alloc, b"datacube: ")?;
-    put_counts(alloc, refused.lines, records, &mut text)?;
+    let mut text = counts_of(alloc, refused.lines, records)?;
     text.extend_from_slice(path.as_bytes())?;
-    text.extend_from_slice(b", record ")?;
-    text.extend_from_slice(&decimal(alloc, u64::from(refused.first.number))?)?;
-    text.extend_from_slice(b": ")?;
-    text.extend_from_slice(&tell_line(alloc, schema, line, refused.first.code)?)?;
-    put_code(alloc, refused.first.code, &mut text)?;
+    text.extend_from_slice(&told_line(alloc, schema, line, refused.first.code)?)?;
+    text.extend_from_slice(b" (code ")?;
+    text.extend_from_slice(&decimal(alloc, u64::from(refused.first.code))?)?;
+    text.extend_from_slice(b"). datacube refusals shows all.\n")?;
     Ok(text)
 }
 
-// Adds how many of how many lines were refused.
-fn put_counts(
-    alloc: Global,
-    lines: u64,
-    records: u64,
-    text: &mut Vec<u8>,
-) -> Result<(), AllocError> {
-    text.extend_from_slice(&decimal(alloc, lines)?)?;
-    text.extend_from_slice(b" of ")?;
-    text.extend_from_slice(&decimal(alloc, records)?)?;
-    if lines == 1 {
-        text.extend_from_slice(b" lines was refused; it is ")?;
-    } else {
-        text.extend_from_slice(b" lines were refused; the first is ")?;
-    }
-    Ok(())
+/// The same of a file that can't be read again, as a pipe. The only error is that memory ran out.
+pub fn refused_unread(alloc: Global, refused: &Refused, path: &str) -> Result<Vec<u8>, AllocError> {
+    let code = decimal(alloc, u64::from(refused.first.code))?;
+    let place = place_words(alloc, 0, u64::from(refused.first.number))?;
+    let mut text = counts_of(alloc, refused.lines, None)?;
+    text.extend_from_slice(path.as_bytes())?;
+    text.extend_from_slice(b", ")?;
+    text.extend_from_slice(&place)?;
+    text.extend_from_slice(b", by code ")?;
+    text.extend_from_slice(&code)?;
+    text.extend_from_slice(b": see datacube explain ")?;
+    text.extend_from_slice(&code)?;
+    text.extend_from_slice(b". datacube refusals shows all.\n")?;
+    Ok(text)
 }
 
-// Adds the code, and where all are.
-fn put_code(alloc: Global, code: u8, text: &mut Vec<u8>) -> Result<(), AllocError> {
-    text.extend_from_slice(b" (code ")?;
-    text.extend_from_slice(&decimal(alloc, u64::from(code))?)?;
-    text.extend_from_slice(b"). datacube refusals shows all.\n")?;
-    Ok(())
+/// The line for people that tells of a file whose last record has a quote that is never closed. The only error is that memory
+/// ran out.
+pub fn unclosed_line(alloc: Global, path: &str, lines: &Lines) -> Result<Vec<u8>, AllocError> {
+    let mut text = Vec::from_slice(alloc, b"datacube: ")?;
+    text.extend_from_slice(path.as_bytes())?;
+    text.extend_from_slice(&unclosed_words(alloc, lines)?)?;
+    text.push(b'\n')?;
+    Ok(text)
+}
+
+// How many lines were refused, of how many where that is known.
+fn counts_of(alloc: Global, lines: u64, records: Option<u64>) -> Result<Vec<u8>, AllocError> {
+    let mut text = Vec::from_slice(alloc, b"datacube: ")?;
+    text.extend_from_slice(&decimal(alloc, lines)?)?;
+    if let Some(records) = records {
+        text.extend_from_slice(b" of ")?;
+        text.extend_from_slice(&decimal(alloc, records)?)?;
+    }
+    let is_one = lines == 1;
+    text.extend_from_slice(if is_one && records.is_none() {
+        b" line"
+    } else {
+        b" lines"
+    })?;
+    text.extend_from_slice(if is_one {
+        b" was refused; it is "
+    } else {
+        b" were refused; the first is "
+    })?;
+    Ok(text)
 }

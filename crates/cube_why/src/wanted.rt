@@ -1,4 +1,5 @@
 //! The columns that a schema reads in a feed, and the records of a feed that is read again.
+use crate::report::decimal;
 use csv::{ByteRecord, ErrorKind, Reader, ReaderBuilder};
 use cube_core::{FeedColumns, Schema, Text};
 use std::alloc::{AllocError, Global};
@@ -138,4 +139,54 @@ pub(crate) fn place_of(header: &ByteRecord, name: &str) -> usize {
         }
     }
     0
+}
+
+/// How many data records of a feed, which is read again, are in the schema's shard: all where it is the only one. The only error
+/// is that memory ran out.
+pub fn own_records<R: Read + Drop>(
+    alloc: Global,
+    schema: &Schema,
+    reader: R,
+) -> Result<u64, AllocError> {
+    let mut reader = records_of(alloc, schema, reader);
+    let mut record = ByteRecord::new(alloc);
+    let counted = count_own(alloc, schema, &mut reader, &mut record);
+    drop(reader);
+    counted
+}
+
+// Counts the data records that a reader still has, and that are in the shard.
+fn count_own<R: Read>(
+    alloc: Global,
+    schema: &Schema,
+    reader: &mut Reader<R>,
+    record: &mut ByteRecord,
+) -> Result<u64, AllocError> {
+    if !advance(reader, record)? {
+        return Ok(0);
+    }
+    let place = id_place(schema, record);
+    let mut count = 0u64;
+    for number in 1..u64::MAX {
+        if !advance(reader, record)? {
+            break;
+        }
+        let is_own = match place {
+            Some(place) => schema.shard().has(field_at(record, place)),
+            None => schema.shard().has(&decimal(alloc, number)?),
+        };
+        count = count.saturating_add(u64::from(is_own));
+    }
+    Ok(count)
+}
+
+// The place of the ids in a feed with a header; none where the number of a record is its id.
+fn id_place(schema: &Schema, header: &ByteRecord) -> Option<usize> {
+    match schema.columns() {
+        Some(columns) => match &columns.id {
+            Some(name) => Some(place_of(header, name.as_str())),
+            None => None,
+        },
+        None => Some(1),
+    }
 }

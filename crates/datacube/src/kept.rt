@@ -4,6 +4,7 @@ ghost use Rattle.cube_tool.specs.Answering.{Fits};
 ghost use Rattle.cube_console.specs.CommandLine.{RunHasRoom, LiveHasRoom};
 
 use crate::pauses::SessionPauses;
+use crate::terms::terms_of;
 use crate::views::{stored_told_of, view_of};
 use crate::watch::Watch;
 use crate::{Asked, open_feed, open_schema, question_of, session_threads, settings_of};
@@ -18,7 +19,7 @@ use cube_store_commands::{
     Commits, SessionInput, StoredFailure, StoredFeeds, ask_stored, live_stored,
 };
 use cube_tool::RunFault;
-use cube_tool::command::{Failure, Question, Status};
+use cube_tool::command::{Failure, Question, Status, Terms};
 use sqlite_disk::{Disk, Start};
 use sqlite_std_file::FileFrom;
 use sqlite_store::FileStore;
@@ -42,6 +43,13 @@ struct Place<'p, S: Start> {
 struct NotedFeeds<'c> {
     readers: Vec<FeedReader<'c, File>>,
     notes: Vec<FeedNote>,
+}
+
+/// A question, and on what terms it is asked.
+#[derive(Drop)]
+struct AskedOn {
+    question: Question,
+    terms: Terms,
 }
 
 impl<'c> NotedFeeds<'c> {
@@ -188,6 +196,8 @@ pub(crate) fn ask_kept<T: Threads + Wait + Clock + Sync>(
     requires feeds { length words.now.feeds.items ≤ 64 }
 {
     let question = question_of(rt, schema, asked)?;
+    let terms = terms_of(rt, schema, &words.conditions, words.strict)?;
+    let asked = &AskedOn { question, terms };
     if words.wary {
         let start = Wary;
         ask_from(
@@ -196,7 +206,7 @@ pub(crate) fn ask_kept<T: Threads + Wait + Clock + Sync>(
             words,
             Place { path, start },
             schema,
-            question,
+            asked,
             progress,
         )
     } else {
@@ -207,7 +217,7 @@ pub(crate) fn ask_kept<T: Threads + Wait + Clock + Sync>(
             words,
             Place { path, start },
             schema,
-            question,
+            asked,
             progress,
         )
     }
@@ -220,16 +230,16 @@ fn ask_from<T: Threads + Wait + Clock + Sync, S: Start>(
     words: &RunWords,
     place: Place<'_, S>,
     schema: &Schema,
-    question: Question,
+    asked: &AskedOn,
     progress: &Progress<'_, T, Stderr>,
 ) -> Result<Status, StoredFailure>
     requires room { RunHasRoom words.now }
     requires feeds { length words.now.feeds.items ≤ 64 }
-    requires question { Fits schema.now question }
+    requires question { Fits schema.now asked.now.question }
 {
     let noted = noted_feeds(rt, words.schema, &words.feeds, progress.counts())?;
     let feeds = noted.before(open_store(rt, place.path, place.start, false)?);
-    ask_and_close(rt, threads, words, schema, feeds, question, progress)
+    ask_and_close(rt, threads, words, schema, feeds, asked, progress)
 }
 
 /// The same, over the feeds and the store that were opened. The store is closed.
@@ -239,14 +249,14 @@ fn ask_and_close<T: Threads + Wait + Clock + Sync, D: Disk + Drop>(
     words: &RunWords,
     schema: &Schema,
     feeds: StoredFeeds<FeedReader<'_, File>, FileStore<D>>,
-    question: Question,
+    asked: &AskedOn,
     progress: &Progress<'_, T, Stderr>,
 ) -> Result<Status, StoredFailure>
     requires room { RunHasRoom words.now }
     requires feeds { vec_len feeds.readers ≤ 64 }
-    requires question { Fits schema.now question }
+    requires question { Fits schema.now asked.now.question }
 {
-    let (ended, store) = match ask_over(rt, threads, words, schema, feeds, question, progress) {
+    let (ended, store) = match ask_over(rt, threads, words, schema, feeds, asked, progress) {
         Ok((status, store)) => (Ok(status), store),
         Err((failure, store)) => (Err(failure), store),
     };
@@ -261,12 +271,12 @@ fn ask_over<T: Threads + Wait + Clock + Sync, S: Store>(
     words: &RunWords,
     schema: &Schema,
     feeds: StoredFeeds<FeedReader<'_, File>, S>,
-    question: Question,
+    asked: &AskedOn,
     progress: &Progress<'_, T, Stderr>,
 ) -> Result<(Status, S), (StoredFailure, S)>
     requires room { RunHasRoom words.now }
     requires feeds { vec_len feeds.readers ≤ 64 }
-    requires question { Fits schema.now question }
+    requires question { Fits schema.now asked.now.question }
 {
     let settings = settings_of(threads, words.ring, 1, words.threads);
     progress.begin(Phase::Reading {
@@ -277,9 +287,9 @@ fn ask_over<T: Threads + Wait + Clock + Sync, S: Store>(
         Ok(out) => out,
         Err(failure) => return Err((StoredFailure::Failure(failure), feeds.store)),
     };
-    let alloc = rt.alloc();
+    let (alloc, question, terms) = (rt.alloc(), &asked.question, &asked.terms);
     match ask_stored(
-        threads, alloc, schema, feeds, &settings, question, &watch, out,
+        threads, alloc, schema, feeds, &settings, question, terms, &watch, out,
     ) {
         Ok(ended) => Ok(ended),
         Err((failure, store)) => Err((stored_told_of(failure, out), store)),

@@ -32,8 +32,8 @@ use cube_core::{HashKey, Schema, Shard};
 use cube_store_commands::StoredFailure;
 use cube_tool::command::{
     FEED_NOTES, Failure, LATER_NOTES, Question, RUN_NOTES, SCHEMA_NOTES, STORE_NOTES, Status,
-    answer_words, ask_on, check, check_cubes, explain, first_repeated, live, merge_cubes,
-    read_cell, read_dimension, read_pattern, read_schema, read_shard, run_sample,
+    answer_words, ask, check, check_cubes, explain, first_repeated, live, merge_cubes, read_cell,
+    read_dimension, read_pattern, read_schema, read_shard, run_sample,
 };
 use cube_tool::{InputFault, MergeFault, RunFault};
 use cube_why::code_words;
@@ -410,22 +410,16 @@ fn refuse_shard(rt: &HostRuntime) -> Result<Status, Failure> {
     answer_words(alloc, &refusal, &mut rt.stdout(), &mut rt.stderr())
 }
 
-/// Whether the words name a store, and an option that works on the feeds alone: the partial form, several builders,
-/// conditions, or that no line may be refused.
+/// Whether the words name a store, and an option that works on the feeds alone: the partial form, or several builders.
 fn has_clash(request: &Request) -> bool {
     match request {
-        Request::Print { run, partial } => run.store.is_some() && (*partial || works_on_feeds(run)),
+        Request::Print { run, partial } => run.store.is_some() && (*partial || run.builders != 1),
         Request::Refusals { run }
         | Request::Slice { run, .. }
         | Request::Drill { run, .. }
-        | Request::RollUp { run, .. } => run.store.is_some() && works_on_feeds(run),
+        | Request::RollUp { run, .. } => run.store.is_some() && run.builders != 1,
         _ => false,
     }
-}
-
-/// Whether words have an option that works on the feeds alone, whatever the command.
-fn works_on_feeds(run: &RunWords) -> bool {
-    run.builders != 1 || !run.conditions.is_empty() || run.strict
 }
 
 /// Says that a store and such an option don't go together.
@@ -455,7 +449,7 @@ fn answer_under<T: Threads + Wait + Clock + Sync>(
     progress.begin(Phase::Reading { feeds: feeds.len() });
     let watch = Watch { progress };
     let out = &mut view_of(rt, words.view, schema, progress)?;
-    match ask_on(
+    match ask(
         threads, alloc, schema, feeds, &settings, &question, &terms, &watch, out,
     ) {
         Ok((status, built)) => {

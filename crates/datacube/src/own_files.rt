@@ -6,13 +6,13 @@ ghost use Rattle.cube_console.specs.CommandLine.{TableHasRoom};
 use crate::terms::terms_of;
 use crate::views::{told_of, view_of};
 use crate::watch::Watch;
-use crate::why::{say_advice, says_why};
+use crate::why::{say_columns, says_why};
 use crate::{drawn_key, inputs_among, open_feed, settings_of, tell_refused};
 use cube_console::{Counts, FeedReader, Phase, Progress, SchemaWords, TableWords};
 use cube_core::{Schema, SchemaFault, Shard};
 use cube_files::{Asked, GuessFault, SAMPLE_BYTES, schema_text};
 use cube_tool::RunFault;
-use cube_tool::command::{Failure, Note, Question, Status, ask_on, explain, read_schema};
+use cube_tool::command::{Failure, Note, Question, Status, ask, explain, read_schema};
 use cube_writing::write_whole;
 use std::alloc::Global;
 use std::fs::File;
@@ -53,7 +53,7 @@ pub(crate) fn write_schema(rt: &HostRuntime, words: &SchemaWords) -> Result<Stat
             write_whole(&mut rt.stdout(), text.as_bytes())?;
             Ok(Status::Done)
         }
-        Err(fault) => told(rt, fault, words.why),
+        Err(fault) => told(rt, fault, words.file, &begun.bytes, words.why),
     }
 }
 
@@ -79,7 +79,8 @@ pub(crate) fn print_table<T: Threads + Wait + Clock + Sync>(
     if inputs_among("", &words.files) > 1 {
         return Err(Failure::InputTaken);
     }
-    let begun = begin(rt, words.files[0])?;
+    let first = words.files[0];
+    let begun = begin(rt, first)?;
     let asked = Asked {
         by: words.by,
         of: words.of,
@@ -90,7 +91,7 @@ pub(crate) fn print_table<T: Threads + Wait + Clock + Sync>(
             let schema = schema.with_shard(shard).with_hash_key(drawn_key(rt)?);
             print_under(rt, threads, words, &schema, begun, progress)
         }
-        Err(fault) => told(rt, fault, words.why),
+        Err(fault) => told(rt, fault, first, &begun.bytes, words.why),
     }
 }
 
@@ -124,7 +125,7 @@ fn print_under<T: Threads + Wait + Clock + Sync>(
     let watch = Watch { progress };
     let out = &mut view_of(rt, words.view, schema, progress)?;
     let (alloc, question) = (rt.alloc(), Question::Cube);
-    match ask_on(
+    match ask(
         threads, alloc, schema, feeds, &settings, &question, &terms, &watch, out,
     ) {
         Ok((status, built)) => {
@@ -193,13 +194,19 @@ fn made_text(alloc: Global, bytes: &[u8], asked: Asked) -> Result<String, GuessF
 }
 
 /// Tells why there is no schema of a file, and what there is to do, where that is wanted.
-fn told(rt: &HostRuntime, fault: GuessFault, is_wanted: bool) -> Result<Status, Failure> {
+fn told(
+    rt: &HostRuntime,
+    fault: GuessFault,
+    path: &str,
+    begin: &[u8],
+    is_wanted: bool,
+) -> Result<Status, Failure> {
     match fault {
         GuessFault::Memory => Err(Failure::Schema(SchemaFault::Memory)),
         fault => {
             let _ = rt.eprintln(fault);
             if is_wanted || says_why(rt) {
-                say_advice(rt, "no columns");
+                say_columns(rt, path, begin);
             }
             Ok(Status::WrongWords)
         }

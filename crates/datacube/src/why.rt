@@ -6,10 +6,12 @@ use cube_build::Built;
 use cube_console::Request;
 use cube_core::Schema;
 use cube_store_commands::StoredFailure;
-use cube_tool::command::read_schema;
+use cube_tool::command::{read_condition, read_schema};
 use cube_why::{
-    FoundLine, Refused, Report, Said, find_line, kind_of, put_advice, put_conditions, put_kind,
-    put_word, refused_line, refused_of, tell_header, tell_limit, tell_record, tell_repeated,
+    FoundLine, KIND_ADVICE, Lines, Refused, Report, Said, advice_on, find_line, kind_of, lines_of,
+    own_records, put_advice, put_condition, put_kind, put_word, refused_line, refused_of,
+    refused_unread, tell_columns, tell_header, tell_limit, tell_record, tell_repeated, tell_schema,
+    tell_unclosed, unclosed_line,
 };
 use cube_writing::write_whole;
 use std::alloc::AllocError;
@@ -19,6 +21,9 @@ use std::{env, fs};
 
 /// The variable that asks for more lines where it is 1.
 const VARIABLE: &str = "DATACUBE_WHY";
+
+/// How many bytes of a schema are read again at most.
+const MOST_OF_SCHEMA: u64 = 1_048_576;
 
 /// Whether more lines say why a request failed.
 pub(crate) fn wants_why(rt: &HostRuntime, request: &Request) -> bool {
@@ -62,10 +67,10 @@ pub(crate) fn say_why(rt: &HostRuntime, request: &Request, failure: &StoredFailu
     let _ = write_whole(&mut rt.stderr(), report.as_bytes());
 }
 
-/// Says what there is to do at a code.
-pub(crate) fn say_advice(rt: &HostRuntime, code: &str) {
+/// Says what there is to do where no schema is made of a file that begins with these bytes.
+pub(crate) fn say_columns(rt: &HostRuntime, path: &str, begin: &[u8]) {
     let mut report = Report::new(rt.alloc());
-    let _ = put_advice(rt.alloc(), code, &mut report);
+    let _ = tell_columns(rt.alloc(), path, begin, &mut report);
     let _ = write_whole(&mut rt.stderr(), report.as_bytes());
 }
 
@@ -79,11 +84,26 @@ fn put_why(
     let alloc = rt.alloc();
     let line = format!(in alloc; "{failure}")?;
     let said = Said::of(line.as_str());
-    match said.source() {
-        Some(source) => put_file(rt, request, &said, source, report)?,
-        None => put_words(rt, request, &said, report)?,
+    let path = path_of_said(request, &said);
+    let kind = kind_at(rt, path);
+    if kind != "" {
+        return put_kind(path, kind, report);
+    }
+    if said.source().is_some() {
+        put_file(rt, request, &said, path, report)?;
+    } else {
+        put_words(rt, request, &said, path, report)?;
     }
     put_advice(alloc, line.as_str(), report)
+}
+
+// The path of the file that a failure is about: a feed, a cube or the schema; empty where it is about none.
+fn path_of_said<'r>(request: &'r Request, said: &Said) -> &'r str {
+    match said.source() {
+        Some(source) => path_at(request, source).unwrap_or(""),
+        None if said.is_of_schema() => schema_path(request).unwrap_or(""),
+        None => "",
+    }
 }
 
 // Adds what is wrong with the file of a source.
@@ -91,19 +111,33 @@ fn put_file(
     rt: &HostRuntime,
     request: &Request,
     said: &Said,
-    source: u64,
+    path: &str,
     report: &mut Report,
 ) -> Result<(), AllocError> {
-    let Some(path) = path_at(request, source) else {
+    if path == "" {
         return Ok(());
-    };
+    }
+    match schema_again(rt, request) {
+        Some(schema) => put_cause(rt, &schema, said, path, report),
+        None => put_kind(path, "", report),
+    }
+}
+
+// Adds what is wrong with the file of a source under a schema.
+fn put_cause(
+    rt: &HostRuntime,
+    schema: &Schema,
+    said: &Said,
+    path: &str,
+    report: &mut Report,
+) -> Result<(), AllocError> {
     if said.code == "G7" {
-        return put_line(rt, request, said, path, report);
+        return put_line(rt, schema, said, path, report);
     }
     match said.inner {
-        Some("F3") => put_header(rt, request, path, report),
-        Some("F4") => put_limit(rt, request, path, report),
-        _ => put_kind(path, kind_at(rt, path), report),
+        Some("F3") => put_header(rt, schema, path, report),
+        Some("F4") => put_limit(rt, schema, path, report),
+        _ => put_kind(path, "", report),
     }
 }
 
@@ -176,52 +210,68 @@ fn again(rt: &HostRuntime, path: &str) -> Option<File> {
     File::open(rt, path_of(path)).ok()
 }
 
-// Adds what is wrong with the header of a file, where it is a CSV file.
-fn put_header(
-    rt: &HostRuntime,
-    request: &Request,
-    path: &str,
-    report: &mut Report,
-) -> Result<(), AllocError> {
-    if kind_at(rt, path) != "" {
-        return put_kind(path, kind_at(rt, path), report);
-    }
-    match (again(rt, path), schema_again(rt, request)) {
-        (Some(file), Some(schema)) => tell_header(rt.alloc(), &schema, path, file, report),
-        _ => put_kind(path, "", report),
+// On which lines records of a file begin, among them the data record with a number, 0 being the header; none where it can't be
+// read again.
+fn lines_at(rt: &HostRuntime, schema: &Schema, path: &str, number: u64) -> Lines {
+    match again(rt, path) {
+        Some(file) => lines_of(schema, file, number),
+        None => Lines::none(),
     }
 }
 
-// Adds what is wrong with a refused line that is a failure.
+// Adds what is wrong with the header of a file.
+fn put_header(
+    rt: &HostRuntime,
+    schema: &Schema,
+    path: &str,
+    report: &mut Report,
+) -> Result<(), AllocError> {
+    let lines = lines_at(rt, schema, path, 0);
+    match again(rt, path) {
+        Some(file) => tell_header(rt.alloc(), schema, path, file, &lines, report),
+        None => put_kind(path, "", report),
+    }
+}
+
+// Adds what is wrong with a refused line that is a failure, and with the last record of its file.
 fn put_line(
     rt: &HostRuntime,
-    request: &Request,
+    schema: &Schema,
     said: &Said,
     path: &str,
     report: &mut Report,
 ) -> Result<(), AllocError> {
     let alloc = rt.alloc();
     let code = u8::try_from(said.third.unwrap_or(0)).unwrap_or(0);
-    let (Some(file), Some(schema)) = (again(rt, path), schema_again(rt, request)) else {
-        return put_kind(path, "", report);
-    };
-    match find_line(alloc, &schema, file, said.second.unwrap_or(0))? {
-        Some(line) => tell_record(alloc, &schema, path, &line, code, report),
+    match found_at(rt, schema, path, said.second.unwrap_or(0)) {
+        Some(line) => {
+            tell_record(alloc, schema, path, &line, code, report)?;
+            if line.lines.is_unclosed() && !line.is_unclosed() {
+                return tell_unclosed(alloc, path, &line.lines, report);
+            }
+            Ok(())
+        }
         None => put_kind(path, "", report),
     }
+}
+
+// The data record with a number of a file that can be read again.
+fn found_at(rt: &HostRuntime, schema: &Schema, path: &str, number: u64) -> Option<FoundLine> {
+    let lines = lines_at(rt, schema, path, number);
+    let file = again(rt, path)?;
+    find_line(rt.alloc(), schema, file, number, lines).ok()?
 }
 
 // Adds how many records the schema takes.
 fn put_limit(
     rt: &HostRuntime,
-    request: &Request,
+    schema: &Schema,
     path: &str,
     report: &mut Report,
 ) -> Result<(), AllocError> {
-    match schema_again(rt, request) {
-        Some(schema) => tell_limit(rt.alloc(), &schema, path, report),
-        None => put_kind(path, "", report),
-    }
+    let number = u64::from(schema.max_records()).saturating_add(1);
+    let lines = lines_at(rt, schema, path, number);
+    tell_limit(rt.alloc(), schema, path, lines.line, report)
 }
 
 // The name of the kind of a file, where it is one that isn't read as CSV.
@@ -247,26 +297,26 @@ fn is_folder(rt: &HostRuntime, path: &str) -> bool {
     }
 }
 
-// Adds what the words are, where one of them is refused, and which file the schema is, where that is.
+// Adds what is wrong with the schema, where that is refused, and what the words are, where one of them is.
 fn put_words(
     rt: &HostRuntime,
     request: &Request,
     said: &Said,
+    path: &str,
     report: &mut Report,
 ) -> Result<(), AllocError> {
     if said.is_of_schema() {
-        let path = schema_path(request).unwrap_or("");
-        return put_kind(path, kind_at(rt, path), report);
+        return put_schema(rt, said, path, report);
     }
     if !said.is_of_words() {
         return Ok(());
     }
-    if said.code == "P8" {
-        return put_conditions(rt.alloc(), conditions_of(request), report);
-    }
     let Some(schema) = schema_again(rt, request) else {
         return Ok(());
     };
+    if said.code == "P8" {
+        return put_conditions(rt, &schema, conditions_of(request), report);
+    }
     match request {
         Request::Slice { cell, .. } => put_word(rt.alloc(), &schema, "CELL", cell, report),
         Request::Drill {
@@ -284,6 +334,49 @@ fn put_words(
         }
         _ => Ok(()),
     }
+}
+
+// Adds what is wrong with a schema.
+fn put_schema(
+    rt: &HostRuntime,
+    said: &Said,
+    path: &str,
+    report: &mut Report,
+) -> Result<(), AllocError> {
+    if path == "" {
+        return Ok(());
+    }
+    match bytes_at(rt, path) {
+        Some(bytes) if said.code != "schema" && said.code != "S1" => {
+            tell_schema(rt.alloc(), path, &bytes, said.code, report)
+        }
+        _ => put_kind(path, "", report),
+    }
+}
+
+// The bytes of a file that can be read again, as many as a schema may have.
+fn bytes_at(rt: &HostRuntime, path: &str) -> Option<Vec<u8>> {
+    let file = again(rt, path)?;
+    let mut bytes = Vec::new(rt.alloc());
+    match file.take(MOST_OF_SCHEMA).read_to_end(&mut bytes) {
+        Ok(_) => Some(bytes),
+        Err(_) => None,
+    }
+}
+
+// Adds the conditions that are none.
+fn put_conditions(
+    rt: &HostRuntime,
+    schema: &Schema,
+    words: &[&str],
+    report: &mut Report,
+) -> Result<(), AllocError> {
+    for word in words {
+        if read_condition(rt.alloc(), schema, word).is_err() {
+            put_condition(rt.alloc(), schema, word, report)?;
+        }
+    }
+    Ok(())
 }
 
 /// Says that a feed stands twice among those of a request, before one is read.
@@ -318,56 +411,133 @@ fn stands_before(paths: &[&str], count: u64, path: &str) -> bool {
     false
 }
 
-/// Says how many lines were refused, and what is wrong with the first one, where its file can be read again.
+/// Says how many lines were refused, and what is wrong with the first one, where its file can be read again; and of which files
+/// the last record has a quote that is never closed.
 pub(crate) fn say_refused(rt: &HostRuntime, schema: &Schema, paths: &[&str], built: &Built) {
-    let Some(refused) = refused_of(built.builder().ledger()) else {
-        return;
-    };
-    if let Some(line) = line_again(rt, schema, paths, &refused) {
-        let path = path_in(paths, refused.source);
-        let records = records_in(rt, schema, paths);
-        if let Ok(text) = refused_line(rt.alloc(), schema, &refused, records, path, &line) {
-            let _ = write_whole(&mut rt.stderr(), &text);
-        }
+    if let Some(refused) = refused_of(built.builder().ledger()) {
+        let _ = put_refused(rt, schema, paths, &refused);
     }
 }
 
-// The first refused line, read again.
-fn line_again(
+// Tells of refused lines.
+fn put_refused(
     rt: &HostRuntime,
     schema: &Schema,
     paths: &[&str],
     refused: &Refused,
-) -> Option<FoundLine> {
-    let file = again(rt, path_in(paths, refused.source))?;
-    let number = u64::from(refused.first.number);
-    find_line(rt.alloc(), schema, file, number).ok()?
+) -> Result<(), AllocError> {
+    let alloc = rt.alloc();
+    let walks = walks_of(rt, schema, paths, refused)?;
+    let source = (refused.source as usize).saturating_sub(1);
+    let path = path_in(paths, source);
+    let lines = lines_in(&walks, source);
+    let text = match first_line(rt, schema, path, refused, lines)? {
+        Some(line) => {
+            let records = records_in(rt, schema, paths, &walks);
+            refused_line(alloc, schema, refused, records, path, &line)?
+        }
+        None => refused_unread(alloc, refused, path)?,
+    };
+    let _ = write_whole(&mut rt.stderr(), &text);
+    let mut report = Report::new(alloc);
+    report.lines(advice_on(&KIND_ADVICE, kind_at(rt, path)))?;
+    let _ = write_whole(&mut rt.stderr(), report.as_bytes());
+    let is_told = lines.records == u64::from(refused.first.number);
+    say_unclosed(rt, paths, &walks, source, is_told)
 }
 
-// The path of a source.
-fn path_in<'w>(paths: &[&'w str], source: u32) -> &'w str {
-    match paths.get((source as usize).saturating_sub(1)) {
+// On which lines the records of each file begin, among them the first one that was refused.
+fn walks_of(
+    rt: &HostRuntime,
+    schema: &Schema,
+    paths: &[&str],
+    refused: &Refused,
+) -> Result<Vec<Lines>, AllocError> {
+    let mut walks = Vec::new(rt.alloc());
+    let mut source = 0u32;
+    for path in paths {
+        source = source.saturating_add(1);
+        let number = if source == refused.source {
+            u64::from(refused.first.number)
+        } else {
+            0
+        };
+        walks.push(lines_at(rt, schema, path, number))?;
+    }
+    Ok(walks)
+}
+
+// The first refused line, read again.
+fn first_line(
+    rt: &HostRuntime,
+    schema: &Schema,
+    path: &str,
+    refused: &Refused,
+    lines: Lines,
+) -> Result<Option<FoundLine>, AllocError> {
+    match again(rt, path) {
+        Some(file) => {
+            let number = u64::from(refused.first.number);
+            find_line(rt.alloc(), schema, file, number, lines)
+        }
+        None => Ok(None),
+    }
+}
+
+// Says of each file but one that was told whether a quote in its last record is never closed.
+fn say_unclosed(
+    rt: &HostRuntime,
+    paths: &[&str],
+    walks: &[Lines],
+    source: usize,
+    is_told: bool,
+) -> Result<(), AllocError> {
+    let mut place = 0usize;
+    for lines in walks {
+        if lines.is_unclosed() && !(is_told && place == source) {
+            let text = unclosed_line(rt.alloc(), path_in(paths, place), lines)?;
+            let _ = write_whole(&mut rt.stderr(), &text);
+        }
+        place = place.saturating_add(1);
+    }
+    Ok(())
+}
+
+// The path at a place.
+fn path_in<'w>(paths: &[&'w str], place: usize) -> &'w str {
+    match paths.get(place) {
         Some(path) => *path,
         None => "",
     }
 }
 
-// How many data records there are in all files that can be read again.
-fn records_in(rt: &HostRuntime, schema: &Schema, paths: &[&str]) -> u64 {
-    let mut records = 0u64;
-    for path in paths {
-        records = records.saturating_add(records_at(rt, schema, path));
+// The lines at a place.
+fn lines_in(walks: &[Lines], place: usize) -> Lines {
+    match walks.get(place) {
+        Some(lines) => *lines,
+        None => Lines::none(),
     }
-    records
 }
 
-// How many data records there are in a file that can be read again.
-fn records_at(rt: &HostRuntime, schema: &Schema, path: &str) -> u64 {
-    let Some(file) = again(rt, path) else {
-        return 0;
-    };
-    match find_line(rt.alloc(), schema, file, 0) {
-        Ok(Some(line)) => line.records,
-        _ => 0,
+// How many data records of the shard there are in all files; none where one of them can't be read again.
+fn records_in(rt: &HostRuntime, schema: &Schema, paths: &[&str], walks: &[Lines]) -> Option<u64> {
+    let mut records = 0u64;
+    let mut place = 0usize;
+    for path in paths {
+        let lines = lines_in(walks, place);
+        records = records.saturating_add(records_at(rt, schema, path, &lines)?);
+        place = place.saturating_add(1);
     }
+    Some(records)
+}
+
+// How many data records of the shard there are in a file, where it can be read again.
+fn records_at(rt: &HostRuntime, schema: &Schema, path: &str, lines: &Lines) -> Option<u64> {
+    if !lines.is_known {
+        return None;
+    }
+    if schema.shard().count == 1 {
+        return Some(lines.records);
+    }
+    own_records(rt.alloc(), schema, again(rt, path)?).ok()
 }

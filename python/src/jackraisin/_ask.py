@@ -33,9 +33,9 @@ def cube(
     sum and count beside it, so that `merge` makes one cube of several. With a store, the path of the SQLite file of sessions,
     the changes that it keeps come after the feeds, of which there may be none then. With conditions it is the
     cube of the facts of which all of them hold: one as a text, or several, each as `city=York,Leeds` or `cents>=100`
-    (docs/FORMATS.md). Where it is strict, a refused line is a `Failure`, `G7`. `partial`, conditions and `strict` don't go with
-    a store. A program that takes more seconds than `timeout` is killed (`TimedOut`); one that wants more bytes of memory than
-    `max_memory` ends by a code (`Failure`)."""
+    (docs/FORMATS.md). Where it is strict, a refused line is a `Failure`, `G7`. `partial` doesn't go with a store. A program
+    that takes more seconds than `timeout` is killed (`TimedOut`); one that wants more bytes of memory than `max_memory` ends
+    by a code (`Failure`)."""
     options = options_of(threads, shard, store, wary) + chosen(where, strict)
     return asked("print", schema, feeds, [], options + ["--partial"] * partial, Limits(timeout, max_memory))
 

@@ -1,59 +1,37 @@
 //! The commands over feeds: a question is asked of what is built of them.
-ghost use Rattle.std.specs.Prelude.{◌≡◌, ◌≤◌, None, true, map, vec_len, IfOk, IfErr, OnOk};
-ghost use Rattle.cube_tool.specs.Answering.{FailsOnTerms, FailsToAnswer, Fits, HasTaken, IsFirstRefusal, first_refusal};
+ghost use Rattle.std.specs.Prelude.{◌≡◌, ◌≤◌, true, map, vec_len, IfOk, IfErr, OnOk};
+ghost use Rattle.cube_core.specs.Conditions.{of_interest};
+ghost use Rattle.cube_ledger.specs.Interest.{ledger_of_interest};
+ghost use Rattle.cube_ledger.specs.Ledger.{all_facts};
+ghost use Rattle.cube_build.specs.Parts.{facts_of_run, first_ledger, schema_of_run};
+ghost use Rattle.cube_tool.specs.Answering.{AnswersOn, FailsOn, FailsOnTerms, Fits, HasTakenOn, IsFirstRefusal, MayAnswer};
 ghost use Rattle.cube_tool.specs.Answering.{refusals_of_run, status_over};
-ghost use Rattle.cube_tool.specs.Run.{IsTextOf, IsTextOn, OfFeeds, Wrote};
+ghost use Rattle.cube_tool.specs.Run.{IsTextOn, OfFeeds, Wrote};
 
 use crate::answers::{answer, first_builder, has_builder};
 use crate::command::failure::Failure;
 use crate::command::status::{Status, first_refusal, status_of_run};
 use crate::command::terms::Terms;
+use crate::fault::RunFault;
 use crate::question::Question;
 use crate::reporter::Reporter;
-use cube_build::{Built, Gate, Settings, build, build_where};
-use cube_core::Schema;
+use cube_build::{Built, Gate, Settings, build_ledger, build_where};
+use cube_core::{Condition, Schema};
+use cube_ledger::Ledger;
 use std::alloc::Global;
 use std::io::{Read, Write};
 use std::sync::Wait;
 use std::thread::Threads;
 
-/// Writes the answer to a question over 1 to 64 feeds, each read on a thread of its own. The watcher is the gate of the
-/// reading, and is told what begins once the feeds have ended.
+/// Writes the answer to a question over 1 to 64 feeds, each read on a thread of its own, on terms: where there are
+/// conditions, over the facts alone of which all hold, and where no line may be refused, it fails by the first refusal.
+/// The watcher is the gate of the reading, and is told what begins once the feeds have ended.
 ///
 /// What was built comes back with the status, which tells whether a line of a feed was refused. Nothing was written on
-/// a failure, but where the writing failed: then the first bytes went out, as many as the failure says. A drill-down
-/// may be refused, once all feeds were taken: its key isn't ALL in the dimension, its grouping set with the dimension
-/// isn't kept, or memory ran out.
+/// a failure, but where the writing failed: then the first bytes went out, as many as the failure says. Once all feeds
+/// were taken and before anything is written, the first refusal is told, where none may be; then a drill-down may be
+/// refused: its key isn't ALL in the dimension, its grouping set with the dimension isn't kept, or memory ran out.
 pub fn ask<T: Threads + Wait + Sync, R: Read + Drop + Send, G: Gate + Reporter + Sync, W: Write>(
-    rt: &T,
-    alloc: Global,
-    schema: &Schema,
-    readers: Vec<R>,
-    settings: &Settings,
-    question: &Question,
-    watcher: &G,
-    out: &mut W,
-) -> Result<(Status, Built), Failure>
-    requires readers { (1 ≤ vec_len readers) × (vec_len readers ≤ 64) }
-    requires question { Fits schema.now question.now }
-    ensures ok { IfOk result (λ ended. OfFeeds schema.now (map R.Read.remaining readers.items) (λ feeds.
-        Wrote (IsTextOf question.now schema.now feeds) (W.contents out.old) (W.contents out.new)
-        × (ended.0 ≡ status_over schema.now feeds) × HasTaken schema.now settings.now.builders feeds ended.1)) }
-    ensures err { IfErr result (λ failure. FailsToAnswer question.now schema.now
-        (map R.Read.remaining readers.items) failure (W.contents out.old) (W.contents out.new)) }
-{
-    let built = build(rt, alloc, schema, readers, settings, watcher)?;
-    has_builder(&built);
-    tell_of(watcher, question, &built);
-    let threads = settings.threads();
-    answer(rt, alloc, schema, &built, threads, question, watcher, out)?;
-    Ok((status_of_run(&built), built))
-}
-
-/// Writes the answer to a question over 1 to 64 feeds as [`ask`] does, on terms: where there are conditions, over the facts
-/// alone of which all hold, and where no line may be refused, it fails by the first refusal, once all feeds were taken and
-/// before anything is written.
-pub fn ask_on<T: Threads + Wait + Sync, R: Read + Drop + Send, G: Gate + Reporter + Sync, W: Write>(
     rt: &T,
     alloc: Global,
     schema: &Schema,
@@ -70,23 +48,103 @@ pub fn ask_on<T: Threads + Wait + Sync, R: Read + Drop + Send, G: Gate + Reporte
         Wrote (IsTextOn terms.now.conditions.items question.now schema.now feeds)
         (W.contents out.old) (W.contents out.new)
         × (ended.0 ≡ status_over schema.now feeds)
-        × (terms.now.is_strict ≡ true → ended.0 ≡ Status.Done))) }
+        × (terms.now.is_strict ≡ true → ended.0 ≡ Status.Done)
+        × HasTakenOn terms.now.conditions.items schema.now settings.now.builders feeds ended.1)) }
     ensures err { IfErr result (λ failure. FailsOnTerms terms.now question.now schema.now
         (map R.Read.remaining readers.items) failure (W.contents out.old) (W.contents out.new)) }
 {
     let conditions = terms.conditions.as_slice();
     let built = build_where(rt, alloc, schema, readers, settings, watcher, conditions)?;
     has_builder(&built);
-    refuse_none(terms.is_strict, &built)?;
-    tell_of(watcher, question, &built);
-    let threads = settings.threads();
-    answer(rt, alloc, schema, &built, threads, question, watcher, out)?;
-    Ok((status_of_run(&built), built))
+    let (threads, is_strict) = (settings.threads(), terms.is_strict);
+    let status = answer_on(
+        rt, alloc, schema, &built, threads, question, is_strict, watcher, out,
+    )?;
+    Ok((status, built))
+}
+
+/// Writes the answer to a question over what a ledger of a schema has taken, on terms as [`ask`] does: so many threads make
+/// the cube of the facts of interest, and a reporter is told what begins then.
+///
+/// The status tells whether there is a refusal. Failures leave what those of [`ask`] do.
+pub fn ask_ledger<T: Threads + Sync, P: Reporter, W: Write>(
+    rt: &T,
+    alloc: Global,
+    schema: &Schema,
+    ledger: Ledger,
+    threads: usize,
+    question: &Question,
+    terms: &Terms,
+    reporter: &P,
+    out: &mut W,
+) -> Result<Status, Failure>
+    requires schema { ledger.schema ≡ schema.now }
+    requires question { Fits schema.now question.now }
+    ensures ok { IfOk result (λ status. AnswersOn terms.now.is_strict question.now schema.now
+        (of_interest terms.now.conditions.items (all_facts ledger.accounts))
+        (map (λ account. account.refusals) ledger.accounts)
+        status (W.contents out.old) (W.contents out.new)) }
+    ensures err { IfErr result (λ failure. FailsOn terms.now.is_strict question.now schema.now
+        (of_interest terms.now.conditions.items (all_facts ledger.accounts))
+        (map (λ account. account.refusals) ledger.accounts)
+        failure (W.contents out.old) (W.contents out.new)) }
+{
+    let built = built_where(rt, alloc, threads, ledger, terms.conditions.as_slice())?;
+    let is_strict = terms.is_strict;
+    answer_on(
+        rt, alloc, schema, &built, threads, question, is_strict, reporter, out,
+    )
+}
+
+// What is built of the facts of interest of a ledger.
+fn built_where<T: Threads + Sync>(
+    rt: &T,
+    alloc: Global,
+    threads: usize,
+    ledger: Ledger,
+    conditions: &[Condition],
+) -> Result<Built, RunFault>
+    ensures ledger { IfOk result (λ built.
+        first_ledger built.builders ≡ ledger_of_interest conditions.now ledger) }
+    ensures full { IfErr result (λ fault. fault ≡ RunFault.Full) }
+{
+    let mut ledger = ledger;
+    ledger.keep(conditions);
+    match build_ledger(rt, alloc, threads, ledger) {
+        Ok(built) => Ok(built),
+        Err(_) => Err(RunFault::Full),
+    }
+}
+
+// Writes the answer to a question over what was built of a schema, unless a line was refused and none may be; a reporter
+// is told what begins.
+fn answer_on<T: Threads + Sync, P: Reporter, W: Write>(
+    rt: &T,
+    alloc: Global,
+    schema: &Schema,
+    built: &Built,
+    threads: usize,
+    question: &Question,
+    is_strict: bool,
+    reporter: &P,
+    out: &mut W,
+) -> Result<Status, Failure>
+    requires schema { schema_of_run built.now ≡ schema.now }
+    requires question { Fits schema.now question.now }
+    ensures ok { IfOk result (λ status. AnswersOn is_strict question.now schema.now (facts_of_run built.now)
+        (refusals_of_run built.now) status (W.contents out.old) (W.contents out.new)) }
+    ensures err { IfErr result (λ failure. FailsOn is_strict question.now schema.now (facts_of_run built.now)
+        (refusals_of_run built.now) failure (W.contents out.old) (W.contents out.new)) }
+{
+    refuse_none(is_strict, built)?;
+    tell_of(reporter, question, built);
+    answer(rt, alloc, schema, built, threads, question, reporter, out)?;
+    Ok(status_of_run(built))
 }
 
 // Fails by the first refusal of what was built, where no line may be refused.
 fn refuse_none(is_strict: bool, built: &Built) -> Result<(), Failure>
-    ensures none { OnOk result (is_strict ≡ true → first_refusal 1 (refusals_of_run built.now) ≡ None) }
+    ensures may { OnOk result (MayAnswer is_strict (refusals_of_run built.now)) }
     ensures first { IfErr result (IsFirstRefusal is_strict (refusals_of_run built.now)) }
 {
     if !is_strict {

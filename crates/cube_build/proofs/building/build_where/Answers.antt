@@ -1,8 +1,8 @@
 use Rattle.std.proofs.Common.{◌≡◌, ◌≤◌, ◌++◌, ◌∙◌, ap, arith, drop, length, map, rules, take}
 use Rattle.std.proofs.lemmas.List.{length-map}
 use Rattle.cube_ledger.proofs.InterestLaws.{written-back}
-use Rattle.cube_build.specs.Interest.{gathered_of_interest}
-use Rattle.cube_build.proofs.InterestLaws.{KeptInParts, builds-where, kept-are-parts, kept-in-parts, schema-where}
+use Rattle.cube_build.specs.Interest.{BuildsWhere, gathered_of_interest}
+use Rattle.cube_build.proofs.InterestLaws.{builds-seen, builds-where, kept-are-parts, schema-where}
 use Rattle.cube_build.proofs.building.build_where.Given.{Over}
 use Rattle.cube_build.proofs.building.build_where.Goals.{In-Ok, In-Ok-complete, After-of}
 use Rattle.cube_build.proofs.building.build_where.Goals as goal
@@ -13,7 +13,7 @@ some g c = omega (arith, c.builders.ensures.bounds.0, c.builders.ensures.value)
 
 -- the builders that were made have the facts of interest
 built : (g : Over) (c : In-Ok-complete g)
-    → KeptInParts c.args.schema.now c.args.conditions.now (map g.R.Read.remaining c.args.readers.items)
+    → BuildsWhere c.args.schema.now c.args.conditions.now (map g.R.Read.remaining c.args.readers.items)
     c.args.settings.now.builders
     (record {
       builders = c.complete.new.making.builders.items;
@@ -29,7 +29,7 @@ built g c =
     let long : length new ≡ length old.items = ap length kept ∙ length-map old.items keep in
     let whole : take old.len (new ++ drop (length new) old.items) ≡ new =
     written-back old.items new old.len (search rules) long in
-    kept-in-parts c.args.schema.now c.args.conditions.now (map g.R.Read.remaining c.args.readers.items)
+    builds-where c.args.schema.now c.args.conditions.now (map g.R.Read.remaining c.args.readers.items)
     c.args.settings.now.builders taken.drafts old.items _ _ taken.good (some g at.In-Ok) taken.new taken.taken
     (whole ∙ kept) c.in-Ok-complete.ensures
 
@@ -39,15 +39,17 @@ of-requires g c =
     kept-are-parts c.args.schema.now c.args.conditions.now _ c.args.settings.now.builders _ (some g at.In-Ok)
     (built g at.In-Ok-complete)
 
+-- and so have those that are given back
+given : (g : Over) (c : After-of g) → BuildsWhere c.args.schema.now c.args.conditions.now
+    (map g.R.Read.remaining c.args.readers.items) c.args.settings.now.builders c.of.result
+given g c =
+    builds-seen c.args.schema.now c.args.conditions.now _ c.args.settings.now.builders _ c.of.result
+    c.of.ensures.builders c.of.ensures.inlets (built g (goal.at.After-of g c).In-Ok-complete)
+
 pub returns-in-Ok-complete-clause-ok : goal.returns-in-Ok-complete-clause-ok
-returns-in-Ok-complete-clause-ok g c =
-    let at = goal.at.After-of g c in
-    builds-where c.args.schema.now c.args.conditions.now _ c.args.settings.now.builders _ c.of.result
-    (some g at.In-Ok) c.of.ensures.builders (built g at.In-Ok-complete)
+returns-in-Ok-complete-clause-ok g c = given g c
 
 pub returns-in-Ok-complete-clause-schema : goal.returns-in-Ok-complete-clause-schema
 returns-in-Ok-complete-clause-schema g c =
-    let at = goal.at.After-of g c in
     schema-where c.args.schema.now c.args.conditions.now _ c.args.settings.now.builders c.of.result
-    (builds-where c.args.schema.now c.args.conditions.now _ c.args.settings.now.builders _ c.of.result
-    (some g at.In-Ok) c.of.ensures.builders (built g at.In-Ok-complete))
+    (some g (goal.at.After-of g c).In-Ok) (given g c)

@@ -1,6 +1,6 @@
 use Rattle.std.proofs.Common.{◌≡◌, ◌++◌, ◌+◌, ◌∙◌, ℕ, suc, map, take, drop, set, get_or, ap, arith}
 use Rattle.cube_ledger.proofs.InterestLaws.{kept-more}
-use Rattle.cube_build.specs.Interest.{draft_of_interest, gathered_of_interest}
+use Rattle.cube_build.specs.Interest.{gathered_of_interest}
 use Rattle.cube_build.proofs.building.keep_of_interest.Goals as goal
 
 pub loop-gatherer-preserved : goal.loop-gatherer-preserved

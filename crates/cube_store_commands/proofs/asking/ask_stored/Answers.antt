@@ -5,24 +5,24 @@ use Rattle.cube_store_commands.proofs.asking.ask_stored.Goals as goal
 
 pub returns-in-Err-clause-written : goal.returns-in-Err-clause-written
 returns-in-Err-clause-written g c = rw c.from.ensures
-    (λ clean. laws.LeavesOfText-unopened c.args.question c.args.schema.now
+    (λ clean. laws.LeavesOfText-unopened c.args.terms.now c.args.question.now c.args.schema.now
     (map g.R.Read.remaining c.args.feeds.readers.items) (g.S.Store.view c.args.feeds.store)
     c.in-Err.fault (g.W.Write.contents c.args.out.now) c.in-Err.ensures.err)
 
 pub returns-in-Err-clause-unharmed : goal.returns-in-Err-clause-unharmed
 returns-in-Err-clause-unharmed g c = λ db may. may
 
-pub returns-in-Ok-ask_resumed-clause-ok : goal.returns-in-Ok-ask_resumed-clause-ok
-returns-in-Ok-ask_resumed-clause-ok g c =
+pub returns-in-Ok-answer_over-clause-ok : goal.returns-in-Ok-answer_over-clause-ok
+returns-in-Ok-answer_over-clause-ok g c =
     let now = c.in-Ok-resume_made.journal in
     let was = g.S.Store.view c.args.feeds.store in
-    rw c.in-Ok-ask_resumed.ensures.store
+    rw c.into_store-store.ensures
     (λ clean. laws.OfFeeds-answered c.args.schema.now (map g.R.Read.remaining c.args.feeds.readers.items)
     was c.in-Ok.live c.in-Ok-resume_made.live c.in-Ok.ensures.ok c.in-Ok.ensures.schema (c.in-Ok-resume_made.ensures.taken clean)
-    c.args.question (entries_of c.args.feeds.notes.items) c.in-Ok-ask_resumed.ended.0
+    c.args.terms.now c.args.question.now (entries_of c.args.feeds.notes.items) c.in-Ok-answer_over.status
     (g.S.Store.view now.store) (g.S.Store.recovers now.store)
-    (g.W.Write.contents c.args.out.now) (g.W.Write.contents c.ask_resumed.new.out)
-    c.in-Ok-ask_resumed.ensures.ok
+    (g.W.Write.contents c.args.out.now) (g.W.Write.contents c.answer_over.new.out)
+    c.in-Ok-answer_over.ensures.ok
     (laws.held-same g.S.Store.view g.S.Store.recovers was
     (entries_of c.args.feeds.notes.items) now c.in-Ok-resume_made.ensures.kept c.in-Ok-resume_made.ensures.stored
     (rw c.deref.ensures.value at c.in-Ok-resume_made.ensures.noted) c.in-Ok-resume_made.ensures.formed clean)
@@ -33,22 +33,23 @@ returns-in-Ok-ask_resumed-clause-ok g c =
 pub returns-in-Ok-resume_made-clause-written : goal.returns-in-Ok-resume_made-clause-written
 returns-in-Ok-resume_made-clause-written g c =
     let was = g.S.Store.view c.args.feeds.store in
-    rw c.in-Err-ask_resumed.ensures.err_store
+    rw c.into_store-store.ensures
     (λ clean. laws.LeavesOfText-failed c.args.schema.now (map g.R.Read.remaining c.args.feeds.readers.items)
     was c.in-Ok.live c.in-Ok-resume_made.live c.in-Ok.ensures.ok c.in-Ok.ensures.schema (c.in-Ok-resume_made.ensures.taken clean)
-    c.args.question c.in-Err-ask_resumed.failure (g.W.Write.contents c.args.out.now)
-    (g.W.Write.contents c.ask_resumed.new.out) c.requires.question c.in-Err-ask_resumed.ensures.err)
+    c.args.terms.now c.args.question.now c.in-Err-answer_over.failure (g.W.Write.contents c.args.out.now)
+    (g.W.Write.contents c.answer_over.new.out) c.requires.question c.in-Err-answer_over.ensures.err)
 
-pub returns-in-Ok-ask_resumed-clause-same : goal.returns-in-Ok-ask_resumed-clause-same
-returns-in-Ok-ask_resumed-clause-same g c =
-    rw c.in-Ok-ask_resumed.ensures.store (λ db may. c.in-Ok-resume_made.ensures.same db may)
+pub returns-in-Ok-answer_over-clause-same : goal.returns-in-Ok-answer_over-clause-same
+returns-in-Ok-answer_over-clause-same g c =
+    rw c.into_store-store.ensures (λ db may. c.in-Ok-resume_made.ensures.same db may)
 
 pub returns-in-Ok-resume_made-clause-unharmed : goal.returns-in-Ok-resume_made-clause-unharmed
 returns-in-Ok-resume_made-clause-unharmed g c =
-    rw c.in-Err-ask_resumed.ensures.err_store (λ db may. c.in-Ok-resume_made.ensures.same db may)
+    rw c.into_store-store.ensures (λ db may. c.in-Ok-resume_made.ensures.same db may)
 
 pub returns-clause-written : goal.returns-clause-written
 returns-clause-written g c = rw c.from-in-Err-resume_made.ensures (λ clean.
-    laws.LeavesOfText-refused c.args.question c.args.schema.now (map g.R.Read.remaining c.args.feeds.readers.items)
+    laws.LeavesOfText-refused c.args.terms.now c.args.question.now c.args.schema.now
+    (map g.R.Read.remaining c.args.feeds.readers.items)
     (g.S.Store.view c.args.feeds.store) c.in-Ok.live c.in-Ok.ensures.ok c.in-Ok.ensures.schema _
     c.in-Err-resume_made.fault (g.W.Write.contents c.args.out.now) (c.in-Err-resume_made.ensures.accepts clean))

@@ -1,0 +1,253 @@
+//! What is wrong with the values of a schema's keys.
+use crate::report::{decimal, quoted};
+use std::alloc::{AllocError, Global};
+use toml::{Table, Value};
+
+/// The words before a measure in an aggregate.
+const AGGREGATES: [&str; 5] = ["count(", "sum(", "min(", "max(", "avg("];
+
+/// The names that no dimension and no measure has.
+const TAKEN: [&str; 3] = ["op", "id", "*"];
+
+/// The texts of an array at a key. The only error is that memory ran out.
+pub(crate) fn texts_at<'d>(
+    alloc: Global,
+    table: &'d Table,
+    key: &str,
+) -> Result<Vec<&'d str>, AllocError> {
+    let mut texts = Vec::new(alloc);
+    if let Some(Value::Array(values)) = table.get(key) {
+        for value in values {
+            if let Some(text) = value.as_str() {
+                texts.push(text)?;
+            }
+        }
+    }
+    Ok(texts)
+}
+
+/// Whether a value is an array of texts alone.
+pub(crate) fn are_texts(value: &Value) -> bool {
+    match value {
+        Value::Array(values) => values.iter().all(|value| value.as_str().is_some()),
+        _ => false,
+    }
+}
+
+/// What is wrong with an array of at most so many texts, where it is more than can be seen: nothing, or in words. The only error
+/// is that memory ran out.
+pub(crate) fn array_words(
+    alloc: Global,
+    document: &Table,
+    key: &str,
+    most: usize,
+) -> Result<Vec<u8>, AllocError> {
+    let Some(Value::Array(values)) = document.get(key) else {
+        return Ok(Vec::new(alloc));
+    };
+    if !values.iter().all(|value| value.as_str().is_some()) {
+        return Vec::from_slice(alloc, b"not all of them are texts in quotes");
+    }
+    if values.len() <= most {
+        return Ok(Vec::new(alloc));
+    }
+    let mut words = Vec::from_slice(alloc, b"there are ")?;
+    words.extend_from_slice(&decimal(alloc, values.len() as u64)?)?;
+    words.extend_from_slice(b" of them")?;
+    Ok(words)
+}
+
+/// The key of the first name that is wrong, and what is wrong with it. The only error is that memory ran out.
+pub(crate) fn name_words(
+    alloc: Global,
+    document: &Table,
+) -> Result<(&'static str, Vec<u8>), AllocError> {
+    let dimensions = texts_at(alloc, document, "dimensions")?;
+    let measures = texts_at(alloc, document, "measures")?;
+    let words = wrong_name(alloc, &[], &dimensions)?;
+    if words.is_empty() {
+        Ok(("measures", wrong_name(alloc, &dimensions, &measures)?))
+    } else {
+        Ok(("dimensions", words))
+    }
+}
+
+// What is wrong with the first of these names that is wrong, where others came before; nothing where none is.
+fn wrong_name(alloc: Global, before: &[&str], names: &[&str]) -> Result<Vec<u8>, AllocError> {
+    let mut count = 0usize;
+    for name in names {
+        if name.is_empty() {
+            return Vec::from_slice(alloc, b"a name is empty");
+        }
+        if is_listed(&TAKEN, name) {
+            return with_value(alloc, name, b" can't be a name");
+        }
+        if is_listed(before, name) || stands_before(names, count, name) {
+            return with_value(alloc, name, b" stands twice");
+        }
+        count = count.saturating_add(1);
+    }
+    Ok(Vec::new(alloc))
+}
+
+// Whether a name stands among the first so many.
+fn stands_before(names: &[&str], count: usize, name: &str) -> bool {
+    names.iter().take(count).any(|other| *other == name)
+}
+
+/// Whether a name is listed.
+pub(crate) fn is_listed(names: &[&str], name: &str) -> bool {
+    names.iter().any(|other| *other == name)
+}
+
+/// A value in quotes, and what is said of it. The only error is that memory ran out.
+pub(crate) fn with_value(alloc: Global, value: &str, said: &[u8]) -> Result<Vec<u8>, AllocError> {
+    let mut words = quoted(alloc, value.as_bytes())?;
+    words.extend_from_slice(said)?;
+    Ok(words)
+}
+
+/// What is wrong with the aggregates, where it is more than can be seen. The only error is that memory ran out.
+pub(crate) fn aggregate_words(alloc: Global, document: &Table) -> Result<Vec<u8>, AllocError> {
+    let measures = texts_at(alloc, document, "measures")?;
+    let texts = texts_at(alloc, document, "aggregates")?;
+    for text in &texts {
+        if !is_aggregate(text, &measures) {
+            return with_value(alloc, text, b" is no aggregate of the measures");
+        }
+    }
+    array_words(alloc, document, "aggregates", 16)
+}
+
+// Whether a text is an aggregate of measures.
+fn is_aggregate(text: &str, measures: &[&str]) -> bool {
+    text == "count(*)"
+        || AGGREGATES
+            .iter()
+            .any(|opening| is_of_measure(text, opening, measures))
+}
+
+// Whether a text is a measure between an opening and a bracket.
+fn is_of_measure(text: &str, opening: &str, measures: &[&str]) -> bool {
+    match text.strip_prefix(opening) {
+        Some(rest) => match rest.strip_suffix(')') {
+            Some(name) => is_listed(measures, name),
+            None => false,
+        },
+        None => false,
+    }
+}
+
+/// What is wrong with the grouping, where a set has a text that is no dimension. The only error is that memory ran out.
+pub(crate) fn grouping_words(alloc: Global, document: &Table) -> Result<Vec<u8>, AllocError> {
+    let dimensions = texts_at(alloc, document, "dimensions")?;
+    let Some(Value::Array(sets)) = document.get("grouping") else {
+        return Ok(Vec::new(alloc));
+    };
+    for set in sets {
+        if let Some(name) = other_name(set, &dimensions) {
+            return with_value(alloc, name, b" is no dimension");
+        }
+    }
+    Ok(Vec::new(alloc))
+}
+
+// The first text of an array that isn't listed.
+fn other_name<'d>(set: &'d Value, names: &[&str]) -> Option<&'d str> {
+    let Value::Array(values) = set else {
+        return None;
+    };
+    for value in values {
+        if let Some(text) = value.as_str() {
+            if !is_listed(names, text) {
+                return Some(text);
+            }
+        }
+    }
+    None
+}
+
+/// Whether the value at a key of `feed` is wrong; of `columns` that of a name, where one is given.
+pub(crate) fn is_wrong_in_feed(
+    feed: &Table,
+    key: &str,
+    name: &str,
+    dimensions: &[&str],
+    measures: &[&str],
+) -> bool {
+    match key {
+        "id" => text_at(feed, "id").is_none(),
+        "op" => text_at(feed, "op").is_none() || feed.get("id").is_none(),
+        "null" => !feed.get("null").is_some_and(are_texts),
+        "delimiter" => !is_delimiter(text_at(feed, "delimiter")) || is_point_the_delimiter(feed),
+        "point" => !is_point(text_at(feed, "point")) || is_point_the_delimiter(feed),
+        "columns" => are_wrong_columns(feed.get("columns"), name, dimensions, measures),
+        _ => true,
+    }
+}
+
+fn text_at<'d>(table: &'d Table, key: &str) -> Option<&'d str> {
+    table.get(key)?.as_str()
+}
+
+// Whether a text may stand between fields.
+fn is_delimiter(text: Option<&str>) -> bool {
+    match text {
+        Some(text) => {
+            text.len() == 1 && text.is_ascii() && text != "\"" && text != "\r" && text != "\n"
+        }
+        None => false,
+    }
+}
+
+fn is_point(text: Option<&str>) -> bool {
+    matches!(text, Some("." | ","))
+}
+
+// Whether what stands before decimals is what stands between fields.
+fn is_point_the_delimiter(feed: &Table) -> bool {
+    text_at(feed, "point").unwrap_or(".") == text_at(feed, "delimiter").unwrap_or(",")
+}
+
+// Whether `columns` is wrong; where a name is given, whether its column is.
+fn are_wrong_columns(
+    value: Option<&Value>,
+    name: &str,
+    dimensions: &[&str],
+    measures: &[&str],
+) -> bool {
+    let Some(Value::Table(columns)) = value else {
+        return true;
+    };
+    if !name.is_empty() {
+        return is_wrong_column(columns, name, dimensions, measures);
+    }
+    for key in columns.keys() {
+        if is_wrong_column(columns, key.as_str(), dimensions, measures) {
+            return true;
+        }
+    }
+    false
+}
+
+// Whether the column of a name is wrong.
+fn is_wrong_column(columns: &Table, name: &str, dimensions: &[&str], measures: &[&str]) -> bool {
+    match columns.get(name) {
+        Some(Value::String(_)) => !is_listed(dimensions, name) && !is_listed(measures, name),
+        Some(Value::Table(cut)) => !is_listed(dimensions, name) || !is_cut(cut),
+        _ => true,
+    }
+}
+
+// Whether a table is of a column and how many of its first characters are taken.
+fn is_cut(cut: &Table) -> bool {
+    cut.len() == 2 && text_at(cut, "column").is_some() && is_between(cut.get("first"), 1, 255)
+}
+
+/// Whether a value is a whole number from the one to the other.
+pub(crate) fn is_between(value: Option<&Value>, least: i64, most: i64) -> bool {
+    match value {
+        Some(Value::Integer(number)) => least <= *number && *number <= most,
+        _ => false,
+    }
+}
