@@ -171,6 +171,7 @@ def quick_parts(program):
     parts = [
         ("cases", ["scripts/cases.py", "--program", program]),
         ("documents", ["scripts/documents.py", "--check", "--program", program]),
+        ("what documents show, run", ["scripts/pages.py", "--program", program]),
         ("a wrong program", ["scripts/spoil.py", "--program", program]),
         ("merges beside a slow program", ["scripts/merges.py", "--cases", "40", "--program", program]),
         ("schemas of files beside a slow program", ["scripts/guesses.py", "--cases", "60", "--program", program]),

@@ -4,7 +4,6 @@ this machine would have them.
 The first minutes run where DATACUBE_LONG=1 is in the environment: an installation takes its time."""
 import importlib.util
 import os
-import re
 import shutil
 import socket
 import subprocess
@@ -13,20 +12,22 @@ import tempfile
 import unittest
 
 import beside
+import pages
 import private_server
 
-BLOCK = re.compile(r"^```(\w*)\n(.*?)^```$", re.MULTILINE | re.DOTALL)
 NEEDS = ["python", "release", "explorer", "examples"]
 # (a Python that has nothing stands before Debian's, as one of a user's own may)
 OWN, PATH = "own", "/usr/bin:/bin"
 NOBODY = ["setpriv", "--reuid", "65534", "--regid", "65534", "--clear-groups"] if os.geteuid() == 0 else []
 
 
-def blocks(page, part):
-    """The kinds and texts of a part's blocks, up to the next part."""
+def blocks(page, part=None):
+    """The kinds and texts of a page's blocks, or of a part's, up to the next part."""
     with open(f"{beside.ROOT}/docs/{page}.md", encoding="utf-8") as file:
-        text = file.read().partition(f"\n## {part}\n")[2].partition("\n## ")[0]
-    return [(it[1], it[2]) for it in BLOCK.finditer(text)]
+        text = file.read()
+    if part:
+        text = text.partition(f"\n## {part}\n")[2].partition("\n## ")[0]
+    return [(it.kind, it.text) for it in pages.blocks_of(text)]
 
 
 def why_not():
@@ -43,14 +44,13 @@ class Examples(unittest.TestCase):
 
     @unittest.skipIf(sys.version_info < (3, 11) or not importlib.util.find_spec("pandas"), "the examples want Python 3.11 and pandas")
     def test_python(self):
-        with open(f"{beside.ROOT}/docs/PYTHON.md", encoding="utf-8") as file:
-            found = [(it[1], it[2]) for it in BLOCK.finditer(file.read())]
+        found = blocks("PYTHON")
         pairs = list(zip(found, [*found[1:], ("end", "")]))
         code = "".join(text + "print('-- end')\n" * (following == "") for (kind, text), (following, _) in pairs if kind == "python")
         env = {**os.environ, "PYTHONPATH": f"{beside.ROOT}/python/src"}
         how = {"cwd": beside.ROOT, "env": env, "stdout": subprocess.PIPE, "stderr": subprocess.STDOUT, "text": True}
         ran = subprocess.run([sys.executable, "-B", "-"], input=code, **how)
-        said = re.sub(r" +$", "", ran.stdout, flags=re.MULTILINE).split("-- end\n")
+        said = pages.bare(ran.stdout).split("-- end\n")
         wanted = [text for (kind, _), (following, text) in pairs if kind == "python" and following == ""]
         self.assertGreater(len(wanted), 5)
         self.assertEqual(said, [*wanted, ""])
@@ -76,7 +76,7 @@ class Pages(unittest.TestCase):
         """What a script of bash says, without spaces at the ends of lines."""
         env = {"HOME": self.folder, "PATH": f"{self.folder}/{OWN}:{PATH}"}
         ran = subprocess.run([*NOBODY, "bash", "-e"], input=script, cwd=self.folder, env=env, stdout=subprocess.PIPE, stderr=subprocess.STDOUT, text=True)
-        return re.sub(r" +$", "", ran.stdout, flags=re.MULTILINE)
+        return pages.bare(ran.stdout)
 
     def test_python(self):
         (shell, install), (python, example), (_, wanted) = blocks("PYTHON", "Five minutes from nothing")[:3]
