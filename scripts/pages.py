@@ -3,8 +3,8 @@
 
     scripts/pages.py [--program PATH] [PAGE...]
 
-The pages are those of the table PAGES, or those that are named. Each has a folder of its own, which is laid out as this
-repository; `datacube` is the program at PATH there, else the one that `./datacube` would run. A page is read so:
+The pages are those of the table PAGES, or those that are named. Each has a folder of its own, with some of this repository
+(COPIED); `datacube` is the program at PATH there, else the one that `./datacube` would run. A page is read so:
 
 - A block of kind `sh` or `bash` is run, the blocks of a page one after the other in one bash; one of kind `python` or `r` by
   that. Each command ends with status 0 or 4: where another is to come, the page shows it (`|| echo "status $?"`).
@@ -47,12 +47,14 @@ PAGES = {
     "docs/TUTORIAL.md": ".",
     "docs/STORE.md": "examples/shop",
     "docs/SQL.md": "examples/shop",
+    "docs/HOW_IT_IS_PROVED.md": ".",
 }
 # What isn't run, by the start of its line, and why.
 LEFT_OUT = {
     "scripts/test.sh": "it runs this script, and takes the better part of an hour",
     "scripts/install.sh": "scripts/installing.py tries it",
     "scripts/deb.sh": "scripts/installing.py tries it",
+    "rt ": "proving is the gate's, and takes the kit",
     "../../scripts/sql.py  ": "it is a part of the gate by itself",
 }
 # Kinds of blocks that aren't run, and why.
@@ -61,6 +63,8 @@ LEFT_OUT_KINDS = {"console": "scripts/progress.py looks at the progress line, wh
 NEEDS = ("clickhouse-client", "pandas", "psql", "Rscript", "soffice", "sqlite3", "zstd")
 # Where the commands of tables are run, and the cases that say what each prints.
 TABLED, CASES = "cases/files", "cases/own_files.case"
+# What of the repository a page's folder has.
+COPIED = ("examples", "scripts", TABLED, "crates/cube_ledger")
 SECONDS = 120
 
 MARKED = r"((?:^<!-- \w+: .*? -->\n)*)"
@@ -276,11 +280,10 @@ def run(page, room, env, folder):
 
 
 def lay_out(room, program):
-    """Makes a page's folder, laid out as the repository: what commands may write beside is copied. Which program there is to
-    run is known (scripts/installing.py tries how it is found)."""
+    """Makes a page's folder. Which program there is to run is known there (scripts/installing.py tries how it is found)."""
     os.mkdir(room)
-    for name in ("examples", "scripts", TABLED):
-        shutil.copytree(f"{ROOT}/{name}", f"{room}/{name}", ignore=shutil.ignore_patterns("__pycache__"))
+    for name in COPIED:
+        shutil.copytree(f"{ROOT}/{name}", f"{room}/{name}", ignore=shutil.ignore_patterns("__pycache__", "out"))
     os.symlink(program, f"{room}/datacube")
     with open(f"{room}/scripts/program.sh", "w", encoding="utf-8") as file:
         file.write(f"#!/bin/sh\necho {shlex.quote(program)}\n")
