@@ -1,5 +1,6 @@
 #!/usr/bin/env python3
-"""Runs what documents show, each command of a page in the page's order, and holds what it prints beside what the page shows.
+"""Runs what documents show, each command of a page in the page's order, and holds what it prints beside what the page shows;
+then follows the links of all documents.
 
     scripts/pages.py [--program PATH] [PAGE...]
 
@@ -18,13 +19,18 @@ The pages are those of the table PAGES, or those that are named. Each has a fold
   out. `<!-- before: COMMANDS -->`: these are run before the block, unseen.
 
 Any other block is a fault, and nothing is left out but what LEFT_OUT and NEEDS say. Then in each page each text that is shown
-is spoiled by one byte, which has to be noticed. The last line is `N passed, M failed`.
+is spoiled by one byte, which has to be noticed.
+
+Of every document each link has to lead to a file, or to a title, that is there; so have the files of this repository that code
+in a line names, as `docs/FORMATS.md`, and the titles that are named by `FILE.md, "TITLE"` or `"TITLE" below`. The last line is
+`N passed, M failed`.
 """
 import argparse
 import collections
 import concurrent.futures
 import contextlib
 import functools
+import glob
 import os
 import re
 import shlex
@@ -65,6 +71,8 @@ NEEDS = ("clickhouse-client", "pandas", "psql", "Rscript", "soffice", "sqlite3",
 TABLED, CASES = "cases/files", "cases/own_files.case"
 # What of the repository a page's folder has.
 COPIED = ("examples", "scripts", TABLED, "crates/cube_ledger")
+# The folders of the repository, and its crates.
+TOPS, CRATES = set(os.listdir(ROOT)) - {"out"}, set(os.listdir(f"{ROOT}/crates"))
 SECONDS = 120
 
 MARKED = r"((?:^<!-- \w+: .*? -->\n)*)"
@@ -76,6 +84,25 @@ PRINTS = re.compile(r"^(.*\S) +# prints (?:what (?P<file>\S+) has|(?P<text>.*))$
 # (what runs a block of each kind; its text is the last of the words' input)
 RUNS = {"sh": "", "bash": "", "python": "$PYTHON -", "r": "Rscript -"}
 ENDED = "\x1e"
+
+# Documents; and in their texts a title, a link, code in a line, a path (with a letter for what its name may be), and the title of
+# a section of another document or of the same.
+DOCUMENTS = ("*.md", "docs/*.md", "examples/*/*.md", "python/*.md")
+TITLE = re.compile(r"^#+ (.*)$", re.MULTILINE)
+LINK = re.compile(r"\]\(([^)#\s]*)(?:#([^)\s]*))?\)")
+CODED = re.compile(r"`([^`\n]+)`")
+PATH = re.compile(r"[\w*.-]+(?:/[\w*.-]+)*/?")
+ANY = re.compile(r"\b(?:NAME|CRATE|FILE|X)\b")
+NAMED_TITLE = re.compile(r'(?:`?([\w/]+)(?:\.md`)?, )?"([A-Z][^"\n]*)"(?: (below|above))?')
+# A document each of whose lines has a link that leads nowhere.
+WRONG = """[a file](NONE.md)
+[a title](STORE.md#none)
+[a title here](#none)
+`docs/NONE.md`
+`scripts/none.py`
+`STORE.md`, "None"
+"None" below
+"""
 
 # A block of a page: its kind, its text, its marks, and where the text begins.
 Block = collections.namedtuple("Block", "kind text marks place")
@@ -321,6 +348,68 @@ def look(name, program, env, folder):
     return page, len(spoiled), wrong
 
 
+def documents():
+    """The texts of all documents without their blocks, by their paths."""
+    found = {}
+    for path in sorted(it for pattern in DOCUMENTS for it in glob.glob(f"{ROOT}/{pattern}")):
+        with open(path, encoding="utf-8") as file:
+            found[os.path.relpath(path, ROOT)] = BLOCK.sub("", file.read())
+    return found
+
+
+def titles_of(text):
+    return {it[1].replace("`", "") for it in TITLE.finditer(text)}
+
+
+def anchor_of(title):
+    """The name under which a title is found: its words in small letters, with hyphens between them."""
+    return re.sub(r"[^\w -]", "", title.lower()).replace(" ", "-")
+
+
+def lost_links(name, texts):
+    """The links of a document that lead nowhere."""
+    for path, anchor in LINK.findall(CODED.sub("", texts[name])):
+        to = os.path.normpath(f"{os.path.dirname(name)}/{path}") if path else name
+        if "://" in path:
+            continue
+        if not os.path.exists(f"{ROOT}/{to}"):
+            yield f"there is no {to}"
+        elif anchor and anchor not in map(anchor_of, titles_of(texts.get(to, ""))):
+            yield f"{to} has no title #{anchor}"
+
+
+def lost_files(name, texts):
+    """The files of the repository that code in a document's lines names, and that aren't there."""
+    for path in {word for code in CODED.findall(texts[name]) for word in PATH.findall(code)}:
+        begin, is_document = path.partition("/")[0], path.endswith(".md")
+        if not is_document and ("/" not in path or begin not in TOPS | CRATES):
+            continue
+        # (a definition's file may be named without its ending)
+        places = (os.path.dirname(name), "", "docs") if is_document else ("crates" if begin in CRATES else "",)
+        tried = [os.path.join(ROOT, it, ANY.sub("*", path)) for it in places]
+        if not any(glob.glob(it) or glob.glob(f"{it}.antt") for it in tried):
+            yield f"there is no {path}"
+
+
+def lost_titles(name, texts):
+    """The sections that a document names, and that aren't there."""
+    for document, title, way in NAMED_TITLE.findall(texts[name]):
+        named = [it for it in (f"docs/{document}.md", f"{document}.md") if it in texts]
+        if (named or way) and title not in titles_of(texts[(named or [name])[0]]):
+            yield f"{(named or [name])[0]} has no section {title}"
+
+
+def note_links(tally):
+    """Counts each document, by whether what its links and its lines name is there."""
+    texts = documents()
+    lost_of = lambda name, texts: [it for find in (lost_links, lost_files, lost_titles) for it in find(name, texts)]
+    for name in texts:
+        lost = lost_of(name, texts)
+        tally.note(not lost, f"the links of {name}{''.join(f'{chr(10)}        {it}' for it in lost)}")
+    lost = lost_of("docs/wrong.md", {**texts, "docs/wrong.md": WRONG})
+    tally.note(len(lost) == WRONG.count("\n"), f"a link of each kind that leads nowhere is noticed: {len(lost)}")
+
+
 def note_pages(tally, names, program):
     """Runs pages side by side, and counts each."""
     with tempfile.TemporaryDirectory(prefix="datacube-pages-") as folder, concurrent.futures.ThreadPoolExecutor() as pool:
@@ -341,6 +430,8 @@ def main():
     tally = gate.Tally()
     names = [it for it in PAGES if not given.page or any(word in it for word in given.page)]
     note_pages(tally, names, os.path.abspath(given.program or programs.datacube()))
+    if not given.page:
+        note_links(tally)
     print(f"{tally.passed} passed, {tally.failed} failed")
     return 1 if tally.failed or not tally.passed else 0
 
