@@ -80,7 +80,7 @@ LEFT_OUT = {
 }
 # Kinds of blocks that aren't run, and why.
 LEFT_OUT_KINDS = {"console": "its numbers are those of a moment: scripts/progress.py looks at the progress line"}
-# What blocks are run by or name that need not be installed: where it isn't, the block is left out.
+# What blocks and their marks name that need not be installed: where it isn't, the block is left out.
 NEEDS = ("clickhouse-client", "pandas", "parallel", "psql", "Rscript", "soffice", "sqlite3", "zstd")
 # What runs the blocks of each kind; bash does it itself.
 RUNS = {"sh": "", "bash": "", "python": "$PYTHON -", "r": "Rscript -"}
@@ -133,8 +133,14 @@ class Page:
             take(part)
 
     def take(self, block):
-        """Takes a block, as its marks and its kind say."""
+        """Takes a block, as its marks and its kind say, unless it needs what isn't installed."""
         marks = dict(block.marks)
+        run = [*marks.values(), *([RUNS[block.kind], block.text] if block.kind in RUNS else [])]
+        lacking = [it for it in NEEDS if re.search(rf"\b{it}\b", "\n".join(run)) and not has(it)]
+        if lacking:
+            self.leave_out(block.text, f"{lacking[0]} isn't installed")
+            self.printed = []
+            return
         if "before" in marks:
             self.run(marks["before"])
         if "file" in marks:
@@ -159,13 +165,10 @@ class Page:
 
     def take_code(self, block):
         """Takes a block that is run."""
-        lacking = [it for it in NEEDS if re.search(rf"\b{it}\b", RUNS[block.kind] + block.text) and not has(it)]
         lines = LINE.split(block.text)
         left = {line: LEFT_OUT[it] for line in lines for it in LEFT_OUT if line.startswith(it)}
         self.printed = []
-        if lacking:
-            self.leave_out(block.text, f"{lacking[0]} isn't installed")
-        elif not RUNS[block.kind]:
+        if not RUNS[block.kind]:
             self.take_lines(lines, left, block.place)
         elif left:
             self.leave_out(*left.popitem())
