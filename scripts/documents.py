@@ -235,14 +235,16 @@ def from_markdown(text):
 
 
 def section_of(text, title):
-    """A section of docs/FORMATS.md up to its first heading below, without the tables of codes and what leads to them."""
+    """A section of docs/FORMATS.md up to its first heading below, without the tables of codes and what leads to them, and the
+    marks of blocks (scripts/pages.py)."""
     found = re.search(rf"^##+ {title}\n(.*?)(?=^##)", text + "\n##", re.DOTALL | re.MULTILINE)[1]
-    return re.sub(r"[^\n]*\n\n<!-- codes: .*?<!-- end of codes -->", "", found, flags=re.DOTALL)
+    found = re.sub(r"[^\n]*\n\n<!-- codes: .*?<!-- end of codes -->", "", found, flags=re.DOTALL)
+    return re.sub(r"^<!-- \w+: .* -->\n(?=<!--|```)", "", found, flags=re.MULTILINE)
 
 
-def formats_in_manual(program):
-    """The sections of the manual page on schemas, feeds, printed cubes and facts of interest, with examples, and on statuses."""
-    text = text_at(FORMATS)
+def formats_in_manual(program, text):
+    """The sections of the manual page on schemas, feeds, printed cubes and facts of interest, with examples, and on statuses,
+    from the text of docs/FORMATS.md."""
     shop = f"{ROOT}/examples/shop"
     feed = f"{ROOT}/examples/first/feed.csv"
     named = ["schema.toml", "market.csv", "street.csv", "online.csv"]
@@ -273,8 +275,8 @@ def commands_of(program):
     return [name for name, _ in completions.commands_of(program.said("--help"))]
 
 
-def manual_of(program, notes):
-    """The manual page."""
+def manual_of(program, notes, formats):
+    """The manual page, with what the text of docs/FORMATS.md says."""
     help_text = program.said("--help")
     usage = re.search(r"Usage: (.*?)\n\n", help_text, re.DOTALL)[1]
     about = help_text.split("\n\nUsage: ")[0]
@@ -286,7 +288,7 @@ def manual_of(program, notes):
     page += ".SH COMMANDS\n"
     for name in commands_of(program):
         page += f".SS {name}\n" + literal(program.said(name, "--help"))
-    page += formats_in_manual(program)
+    page += formats_in_manual(program, formats)
     page += ".SH CODES\n"
     for note in notes:
         page += f'.TP\n.B "{roff(note["code"])}"\n({roff(note["about"])}) {roff(note["means"])} {roff(note["mend"])}\n'
@@ -304,13 +306,14 @@ def wanted(program):
         {name: program.said(name, "--help") for name in commands_of(program)},
         list(dict.fromkeys(note["code"] for note in notes)),
     )
+    formats = advised(formats_with(notes, text_at(FORMATS)))
     made = {
         ARCHITECTURE: architecture_with(text_at(ARCHITECTURE)),
-        FORMATS: advised(formats_with(notes, text_at(FORMATS))),
+        FORMATS: formats,
         PROMISES: promises.page_with(text_at(PROMISES)),
         DEFINITIONS: bounded(DEFINITIONS),
         README: readme(),
-        MANUAL: manual_of(program, notes),
+        MANUAL: manual_of(program, notes, formats),
         MAP: crate_map.picture(text_at(CRATES)),
     }
     return {**made, **{f"{ROOT}/completions/{name}": text for name, text in completions.made_of(line).items()}}

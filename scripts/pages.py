@@ -50,6 +50,7 @@ PAGES = {
     "docs/TUTORIAL.md": ".",
     "docs/STORE.md": "examples/shop",
     SQL: "examples/shop",
+    "docs/FORMATS.md": ".",
     "docs/CLUSTER.md": ".",
     "docs/EXPLORER.md": ".",
     "docs/HOW_IT_IS_PROVED.md": ".",
@@ -135,13 +136,14 @@ class Page:
     def take(self, block):
         """Takes a block, as its marks and its kind say, unless it needs what isn't installed."""
         marks = dict(block.marks)
+        marks["before"] = "\n".join(command for mark, command in block.marks if mark == "before")
         run = [*marks.values(), *([RUNS[block.kind], block.text] if block.kind in RUNS else [])]
         lacking = [it for it in NEEDS if re.search(rf"\b{it}\b", "\n".join(run)) and not has(it)]
         if lacking:
             self.leave_out(block.text, f"{lacking[0]} isn't installed")
             self.printed = []
             return
-        if "before" in marks:
+        if marks["before"]:
             self.run(marks["before"])
         if "file" in marks:
             self.run(f"cat > {shlex.quote(marks['file'])} <<'END OF FILE'\n{block.text}END OF FILE")
