@@ -62,12 +62,14 @@ TABLED, CASES = "cases/files", "cases/own_files.case"
 COPIED = ("examples", "scripts", TABLED, "crates/cube_ledger")
 # What isn't run, by the start of its line, and why.
 MACHINES = "it is for machines of one's own: scripts/cluster.sh tries it"
+SERVES = "it begins a server of its own, and is a part of the gate by itself"
 LEFT_OUT = {
     "scripts/test.sh": "it is the gate, which runs this script",
     "scripts/install.sh": "scripts/installing.py tries it",
     "scripts/deb.sh": "scripts/installing.py tries it",
     "scripts/explorer.sh": "it is a part of the gate by itself, or takes pictures",
-    "../../scripts/sql.py  ": "it is a part of the gate by itself",
+    "../../scripts/sql.py  ": SERVES,
+    "../../scripts/sql.py schema": SERVES,
     "rt ": "proving takes the kit, and is the gate's",
     "python3 watch.py ../": "Ctrl-C alone ends it: it is run with --once",
     "env time ": "it takes Debian's package time, and says how long it took",
