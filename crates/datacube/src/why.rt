@@ -101,7 +101,10 @@ fn put_why(
 fn path_of_said<'r>(request: &'r Request, said: &Said) -> &'r str {
     match said.source() {
         Some(source) => path_at(request, source).unwrap_or(""),
-        None if said.is_of_schema() => schema_path(request).unwrap_or(""),
+        None if said.is_of_schema() => match schema_path(request) {
+            Some(path) => path,
+            None => "",
+        },
         None => "",
     }
 }
