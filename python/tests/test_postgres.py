@@ -2,13 +2,14 @@
 
 With DATACUBE_LONG=1 in the environment the writers make more than 20,000 transactions, and more is killed and cut."""
 import contextlib
+import itertools
 import os
 import random
 import re
 import signal
+import struct
 import subprocess
 import sys
-import tempfile
 import threading
 import time
 import unittest
@@ -20,7 +21,6 @@ from unittest import mock
 import beside
 import jackraisin
 import private_server
-import sql
 from beside import ROWS, browser
 from jackraisin import ALL, ANY, KEEP
 from private_server import CREATE, FACTS, LONG, SCHEMA, until
@@ -29,7 +29,7 @@ WHY = private_server.missing()
 if WHY is None:
     import psycopg2.errors
     from jackraisin import postgres
-    from jackraisin.postgres import CantFollow, ColumnsChanged, Follower, NotCaughtUp, RowUnsayable, _metrics, _values
+    from jackraisin.postgres import CantFollow, ColumnsChanged, Follower, NotCaughtUp, RowUnsayable, _errors, _messages, _metrics, _values
 
 SALES = jackraisin.Schema(["city", "product"], ["cents"], ["count(*)", "sum(cents)"])
 SECONDS = 60
@@ -407,26 +407,35 @@ class Moments(Base):
         self.assertEqual(answers, [301])
 
     def test_rows_that_are_written_anew_before_they_are_copied(self):
-        """A snapshot of before sees none of them, whether they are written before the copy looks at the table or after."""
-        look = postgres._copy.look
-        for is_after, words in ((False, "was altered while its copy began"), (True, "written anew while they were copied")):
-            with self.subTest(words):
+        """A snapshot of before sees none of them, whether they are written before the copy looks at the table or after; and where
+        they are written before the snapshot is taken, the table isn't what it was when it was looked at."""
+        anew = "written anew while they were copied"
+        for place, is_after, words in (("_follower.make_slot", False, "was altered before its copy began"), ("_copy.look", False, anew), ("_copy.look", True, anew)):
+            with self.subTest(place=place, is_after=is_after):
                 self.run_sql("DROP TABLE IF EXISTS {table}")
                 self.sales((1, "York", "tea", 5), (2, "Leeds", None, 7))
                 statements = ["UPDATE {table} SET cents = 6", "ALTER TABLE {table} ALTER COLUMN cents TYPE bigint USING cents + 0"]
+                module, _, name = place.partition(".")
+                usual = getattr(getattr(postgres, module), name)
 
                 def late(*words):
-                    found = look(*words) if is_after else None
+                    found = usual(*words) if is_after else None
                     self.run_sql(*statements)
                     statements.clear()
-                    return found or look(*words)
+                    return found or usual(*words)
 
-                with mock.patch("jackraisin.postgres._copy.look", late), self.assertLogs("jackraisin.postgres", "WARNING") as told:
+                with mock.patch(f"jackraisin.postgres.{place}", late), self.assertLogs("jackraisin.postgres", "WARNING") as told:
                     follower = self.follower()
                 self.assertIn(words, told.output[0])
                 self.same(follower)
                 self.assertEqual((follower.slice({})[0]["sum(cents)"], follower.state.copies), (12, 1))
                 follower.close()
+
+    def test_a_start_copies_once(self):
+        self.sales((1, "York", "tea", 5))
+        with mock.patch("jackraisin.postgres._follower.copy_table", wraps=postgres._follower.copy_table) as copied:
+            self.same(self.follower())
+        self.assertEqual(copied.call_count, 1)
 
     def test_truncate_in_a_transaction_that_goes_on(self):
         self.sales((1, "York", "tea", 5), (2, "Leeds", None, 7))
@@ -586,21 +595,24 @@ class ChangedAndBack(Base):
             ("ALTER TABLE {table} ALTER COLUMN cents SET DEFAULT 5", 1), ("CREATE INDEX ON {table} (product)", 1), ("ANALYZE {table}", 1), ("VACUUM {table}", 1), ("VACUUM FREEZE pg_class", 1),
             ("TRUNCATE {table}", 1), ("BEGIN; INSERT INTO {table} VALUES (1, 'York', 'tea', 5); TRUNCATE {table}; INSERT INTO {table} VALUES (1, 'York', 'tea', 5); COMMIT", 1),
             ("BEGIN; TRUNCATE {table}; ROLLBACK", 1), ("BEGIN; TRUNCATE {table}; TRUNCATE {table}; INSERT INTO {table} VALUES (1, 'York', 'tea', 5); COMMIT", 1),
-            ("VACUUM FULL {table}", 2), ("GRANT SELECT ON {table} TO PUBLIC", 3), ("REINDEX TABLE CONCURRENTLY {table}", 4), ("BEGIN; TRUNCATE {table}; GRANT INSERT ON {table} TO PUBLIC; COMMIT", 4),
-            ("GRANT CREATE ON SCHEMA public TO PUBLIC", 5), ("ALTER TABLE {table} REPLICA IDENTITY FULL", 6), ("TRUNCATE {table}", 6),
-            ("ALTER TABLE {table} ALTER COLUMN cents TYPE bigint USING cents * 100", 7),
-            ("BEGIN; TRUNCATE {table}; INSERT INTO {table} VALUES (1, 'York', 'tea', 5); ALTER TABLE {table} ALTER COLUMN cents TYPE bigint USING cents * 100; COMMIT", 8),
-            ("BEGIN; SAVEPOINT a; TRUNCATE {table}; COMMIT", 9), ("TRUNCATE {table}", 9),
-            ("BEGIN; TRUNCATE {table}; CREATE PUBLICATION given FOR TABLE {table}; COMMIT", 10), ("DROP PUBLICATION given", 10), ("CREATE ACCESS METHOD other TYPE TABLE HANDLER heap_tableam_handler", 10),
-            ("TRUNCATE {table}", 11), ("DROP ACCESS METHOD other", 11), ("TRUNCATE {table}", 11),
+            ("VACUUM FULL {table}", 1), ("CLUSTER {table} USING {table}_pkey", 1), ("GRANT SELECT ON {table} TO PUBLIC", 1), ("REINDEX TABLE CONCURRENTLY {table}", 1),
+            ("BEGIN; TRUNCATE {table}; GRANT INSERT ON {table} TO PUBLIC; COMMIT", 1), ("GRANT CREATE ON SCHEMA public TO PUBLIC", 1), ("ALTER TABLE {table} REPLICA IDENTITY FULL", 1),
+            ("BEGIN; SAVEPOINT a; TRUNCATE {table}; COMMIT", 1), ("BEGIN; TRUNCATE {table}; CREATE PUBLICATION given FOR TABLE {table}; COMMIT", 1), ("DROP PUBLICATION given", 1),
+            ("BEGIN; ALTER TABLE {table} RENAME TO {table}_2; UPDATE {table}_2 SET cents = 9; ALTER TABLE {table}_2 RENAME TO {table}; COMMIT", 1),
+            ("BEGIN; ALTER SCHEMA public RENAME TO private; UPDATE private.{table} SET cents = 8; ALTER SCHEMA private RENAME TO public; COMMIT", 1),
+            ("ALTER TABLE {table} ADD COLUMN discount numeric DEFAULT random()", 1), ("ALTER TABLE {table} ALTER COLUMN discount TYPE text USING 'none'", 1), ("ALTER TABLE {table} DROP COLUMN discount", 1),
+            ("ALTER TABLE {table} ALTER COLUMN cents TYPE bigint USING cents * 100", 2),
+            ("BEGIN; TRUNCATE {table}; INSERT INTO {table} VALUES (1, 'York', 'tea', 5); ALTER TABLE {table} ALTER COLUMN cents TYPE bigint USING cents * 100; COMMIT", 3),
+            ("BEGIN; ALTER TABLE {table} ALTER COLUMN cents TYPE int; UPDATE {table} SET cents = 7; ALTER TABLE {table} ALTER COLUMN cents TYPE bigint; COMMIT", 4),
+            ("TRUNCATE {table}", 4), ("CREATE ACCESS METHOD other TYPE TABLE HANDLER heap_tableam_handler", 4), ("TRUNCATE {table}", 5), ("DROP ACCESS METHOD other", 5), ("TRUNCATE {table}", 5),
+            ("BEGIN; ALTER PUBLICATION {publication} SET (publish = 'insert'); UPDATE {table} SET cents = 6; ALTER PUBLICATION {publication} SET (publish = 'insert, update, delete, truncate'); COMMIT", 6),
         ):
             with self.subTest(statement):
-                self.run_sql(statement)
+                self.run_sql(statement.replace("{publication}", follower.slot))
                 self.run_sql("INSERT INTO {table} VALUES (2, 'Leeds', 'tea', 1) ON CONFLICT (id) DO UPDATE SET cents = excluded.cents + 1")
                 self.same(follower)
                 until(lambda: follower.state.looked >= PRIVATE.lsn(), SECONDS)
                 self.assertEqual(follower.state.copies, copies, statement)
-
 
     def test_truncate_before_the_first_look(self):
         self.anew()
@@ -673,19 +685,140 @@ class Publications(Base):
         self.sales((1, "York", "tea", 5))
         self.refused(CantFollow, "there is no publication given", "CREATE PUBLICATION NAME FOR TABLE", publication="given")
         for how, *words in (
-            ("", "doesn't name table"), ("FOR ALL TABLES", "doesn't name table"), ("FOR TABLE {table} WITH (publish = 'insert, delete')", "leaves updates or deletes out"),
+            ("", "doesn't name table"), ("FOR ALL TABLES", "doesn't name table"),
+            *((f"FOR TABLE {{table}} WITH (publish = '{it}')", "leaves inserts, updates, deletes or truncates out") for it in ("insert, delete, truncate", "insert, update, delete", "update, delete, truncate")),
+            ("FOR TABLE {table} WHERE (id > 1)", "leaves rows of table", "(id > 1)"), ("FOR TABLE {table} (id, city, cents)", "leaves column product of table"),
         ):
             with self.subTest(how):
                 self.published(how)
                 self.refused(CantFollow, *words, publication="given")
         self.assertEqual((publications(), self.slots()), ([("given",)], []))
-        self.published("FOR TABLE {table}")
+        self.published("FOR TABLE {table} (id, city, product, cents)")
         follower = self.follower(publication="given")
         self.run_sql("UPDATE {table} SET cents = 6")
         self.same(follower)
         self.assertEqual(publications(), [("given",)])
         self.run_sql("DROP PUBLICATION given")
         self.stopped(follower, CantFollow, "there is no publication given")
+
+    def test_one_of_other_tables_too(self):
+        """What it sends of others is no change of this one; its name may be any."""
+        self.sales((1, "York", "tea", 5))
+        self.run_sql("CREATE TABLE other_{table} (LIKE {table} INCLUDING ALL)", 'CREATE PUBLICATION "Given, ""both""" FOR TABLE {table}, other_{table}')
+        self.addCleanup(PRIVATE.run, 'DROP PUBLICATION "Given, ""both"""')
+        follower = self.follower(publication='Given, "both"')
+        self.run_sql("INSERT INTO other_{table} VALUES (2, 'Hull', 'tea', 100)", "BEGIN; TRUNCATE other_{table}; INSERT INTO {table} VALUES (2, 'Hull', 'tea', 7); COMMIT", "TRUNCATE other_{table}")
+        self.same(follower)
+        self.assertEqual((follower.state.transactions, follower.state.changes, follower.state.copies), (1, 1, 1))
+        self.run_sql("TRUNCATE {table}, other_{table}")
+        self.same(follower)
+        self.assertEqual((follower.state.transactions, follower.state.changes), (2, 2))
+
+
+class Partitions(Base):
+    """A partitioned table is followed as the one table that it is."""
+
+    def setUp(self):
+        super().setUp()
+        self.run_sql(
+            "CREATE TABLE {table} (id int, region text, city text, product varchar(20), cents bigint, PRIMARY KEY (id, region)) PARTITION BY LIST (region)",
+            "CREATE TABLE {table}_n PARTITION OF {table} FOR VALUES IN ('n')", "CREATE TABLE {table}_s PARTITION OF {table} FOR VALUES IN ('s', 't') PARTITION BY LIST (region)",
+            "CREATE TABLE {table}_s_s PARTITION OF {table}_s FOR VALUES IN ('s')",
+            # (its columns have other numbers)
+            "CREATE TABLE {table}_s_t (cents bigint, gone int, id int, city text, region text, product varchar(20), PRIMARY KEY (id, region))", "ALTER TABLE {table}_s_t DROP COLUMN gone",
+            "ALTER TABLE {table}_s_t ALTER COLUMN region SET NOT NULL", "ALTER TABLE {table}_s ATTACH PARTITION {table}_s_t FOR VALUES IN ('t')",
+            "INSERT INTO {table} VALUES (1, 'n', 'York', 'tea', 5), (2, 's', 'Hull', NULL, 7), (3, 't', 'Hull', 'tea', NULL)",
+            "CREATE TABLE other_{table} (LIKE {table} INCLUDING ALL)", "INSERT INTO other_{table} VALUES (7, 'o', 'Leeds', 'tea', 70), (8, 'o', 'Leeds', 'tea', 80)",
+        )
+
+    def test_changes(self):
+        """Also those of partitions by their own names, and rows that move from one to the other."""
+        self.looking_often()
+        follower = self.follower()
+        self.same(follower)
+        for statement, changes in (
+            ("INSERT INTO {table} VALUES (4, 'n', 'Leeds', 'tea', 1), (5, 's', 'York', 'tea', 2), (6, 't', 'York', 'tea', 3)", 3), ("UPDATE {table} SET cents = 8", 6),
+            ("UPDATE {table}_n SET cents = 9", 2), ("UPDATE {table} SET region = 't' WHERE region = 'n'", 4), ("UPDATE {table} SET id = id + 10 WHERE region = 't'", 4), ("DELETE FROM {table}_s_t WHERE id = 13", 1),
+            ("DELETE FROM {table} WHERE id = 2", 1),
+        ):
+            before = follower.state.changes
+            self.run_sql(statement)
+            self.same(follower)
+            self.assertEqual(follower.state.changes - before, changes, statement)
+        self.assertEqual(follower.state.copies, 1)
+
+    def test_a_long_text_that_doesnt_change(self):
+        """It is kept, whatever the replica identities of the whole table and of the partition are; where a row gets another key, the
+        table is copied again."""
+        self.run_sql(f"UPDATE {{table}} SET city = '{''.join(random.Random(1).choices('abcdefghijklmnop', k=50_000))}' WHERE id = 1")
+        for whole, one, copies in (("FULL", "DEFAULT", 2), ("FULL", "FULL", 2), ("DEFAULT", "FULL", 2)):
+            self.run_sql(f"ALTER TABLE {{table}} REPLICA IDENTITY {whole}", f"ALTER TABLE {{table}}_n REPLICA IDENTITY {one}")
+            with self.subTest(whole=whole, one=one):
+                follower = self.follower()
+                self.run_sql("UPDATE {table} SET cents = cents + 1")
+                self.same(follower)
+                self.run_sql("UPDATE {table} SET id = id + 10 WHERE region = 'n'")
+                self.same(follower)
+                self.assertEqual(follower.state.copies, copies)
+                follower.close()
+
+    def test_partitions_that_come_and_go(self):
+        """What rows came or went with them is in no log, so the table is copied again: at the next look, or with the first row of one
+        that came since, and may be gone by then."""
+        attached = "ALTER TABLE {table} ATTACH PARTITION other_{table} FOR VALUES IN ('o')"
+        detached = "ALTER TABLE {table} DETACH PARTITION other_{table}"
+        for between, statements in (
+            (0.1, ["TRUNCATE {table}_n", "INSERT INTO {table} VALUES (1, 'n', 'York', 'tea', 6)"]), (0.1, ["TRUNCATE {table}"]), (0.1, ["CREATE TABLE {table}_o PARTITION OF {table} FOR VALUES IN ('p')", "INSERT INTO {table} VALUES (4, 'p', 'York', 'tea', 6)"]),
+            (0.1, [attached, "UPDATE {table} SET cents = 6"]), (0.1, [detached, "UPDATE other_{table} SET cents = 7"]), (1000, [attached, "INSERT INTO {table} VALUES (9, 'o', 'Leeds', 'tea', 70)", detached]),
+            (1000, ["ALTER TABLE {table} DETACH PARTITION {table}_n", "INSERT INTO {table}_n VALUES (5, 'n', 'Leeds', 'tea', 70)", "ALTER TABLE {table} ATTACH PARTITION {table}_n FOR VALUES IN ('n')"]),
+            (1000, ["ALTER TABLE {table}_n SET UNLOGGED", "INSERT INTO {table} VALUES (6, 'n', 'Leeds', 'tea', 70)", "ALTER TABLE {table}_n SET LOGGED"]), (0.1, ["DROP TABLE {table}_s"]),
+        ):
+            with self.subTest(statements), mock.patch("jackraisin.postgres._follower.SECONDS_BETWEEN_LOOKS", between):
+                follower = self.follower()
+                self.run_sql(*statements)
+            with self.subTest(statements, is_looked_at=True):
+                self.same(follower)
+                self.run_sql("UPDATE {table} SET cents = cents + 1")
+                self.same(follower)
+                self.assertEqual(follower.state.copies, 2)
+                follower.close()
+
+    def test_partitions_that_cant_be_followed(self):
+        for statement, *words in (
+            ("ALTER TABLE {table}_n SET UNLOGGED", "partition test_partitions_that_cant_be_followed_n", "unlogged"), ("ALTER TABLE {table}_n REPLICA IDENTITY NOTHING", "replica identity of its own"),
+        ):
+            with self.subTest(statement):
+                self.looking_often()
+                follower = self.follower()
+                self.run_sql(statement)
+                self.stopped(follower, CantFollow, *words)
+                self.refused(CantFollow, *words)
+                self.run_sql("ALTER TABLE {table}_n SET LOGGED", "ALTER TABLE {table}_n REPLICA IDENTITY DEFAULT")
+
+    def test_publications_that_are_given(self):
+        for how, words in (
+            ("FOR TABLE {table}", "publish_via_partition_root = false"), ("FOR TABLE {table}, other_{table} WITH (publish_via_partition_root = true)", "names other tables beside"),
+        ):
+            with self.subTest(how):
+                self.published(how)
+                self.refused(CantFollow, words, "publish_via_partition_root = true", publication="given")
+        self.published("FOR TABLE {table} WITH (publish_via_partition_root = true)")
+        follower = self.follower(publication="given")
+        self.run_sql("UPDATE {table} SET cents = 6")
+        self.same(follower)
+        self.assertEqual(follower.state.changes, 3)
+
+    def test_one_partition(self):
+        """It is a table as any other, where its publication sends its rows as its own."""
+        whole, self.table = self.table, f"{self.table}_n"
+        self.published(f"FOR TABLE {whole}, {self.table} WITH (publish_via_partition_root = true)")
+        self.refused(CantFollow, "doesn't send the rows of table", publication="given")
+        follower = self.follower()
+        self.run_sql(f"UPDATE {whole} SET cents = 6", f"INSERT INTO {whole} VALUES (10, 'n', 'Hull', 'tea', 1), (11, 's', 'Hull', 'tea', 1)")
+        self.same(follower)
+        self.assertEqual(follower.state.changes, 2)
+        follower.close()
+        self.table = whole
 
 
 class Rows(Base):
@@ -695,10 +828,12 @@ class Rows(Base):
         self.run_sql(
             "CREATE TYPE mood AS ENUM ('glad', 'sad')", "CREATE DOMAIN amount AS numeric(6, 1)",
             """CREATE TABLE {table} ("the id" uuid, part date, "City, all" char(6), day timestamptz, mood mood, small smallint, share amount,
-               code int GENERATED ALWAYS AS (small * 2) STORED, PRIMARY KEY (part, "the id"))""",
+               code int, PRIMARY KEY (part, "the id"))""",
+            "CREATE FUNCTION fill() RETURNS trigger LANGUAGE plpgsql AS 'BEGIN new.code := new.small * 2; RETURN new; END'",
+            "CREATE TRIGGER fill BEFORE INSERT OR UPDATE ON {table} FOR EACH ROW EXECUTE FUNCTION fill()",
             "INSERT INTO {table} VALUES (gen_random_uuid(), '2026-11-26', 'York', '2026-11-26 10:00+02', 'sad', -3, 1.5)",
         )
-        self.addCleanup(PRIVATE.run, "DROP TYPE mood CASCADE; DROP DOMAIN amount CASCADE")
+        self.addCleanup(PRIVATE.run, "DROP TYPE mood CASCADE; DROP DOMAIN amount CASCADE; DROP FUNCTION fill CASCADE")
         schema = jackraisin.Schema(["city", "day", "mood", "code"], ["small", "share"], ["count(*)", "sum(small)", "sum(share)"])
         follower = self.follower(schema, dimensions=["City, all", "day", "mood", "code"], scale={"share": 1})
         self.run_sql(
@@ -777,13 +912,48 @@ class Rows(Base):
         follower = self.follower()
         self.run_sql("UPDATE {table} SET cents = 6")
         self.same(follower)
-        self.run_sql("UPDATE {table} SET id = 2")
-        self.stopped(follower, CantFollow, "key (id)=(2)", "column city", "REPLICA IDENTITY FULL")
+        with self.assertLogs("jackraisin.postgres", "WARNING") as told:
+            self.run_sql("UPDATE {table} SET id = 2")
+            self.same(follower)
+        for it in ("key (id)=(2)", "column city", "REPLICA IDENTITY FULL"):
+            self.assertIn(it, told.output[0])
+        self.assertEqual(follower.state.copies, 2)
+        follower.close()
         self.run_sql("ALTER TABLE {table} REPLICA IDENTITY FULL")
         follower = self.follower()
         self.run_sql("UPDATE {table} SET id = 3", "UPDATE {table} SET id = 4, city = 'York'")
         self.same(follower)
-        self.assertEqual(follower.state.changes, 2)
+        self.assertEqual((follower.state.changes, follower.state.copies), (2, 1))
+
+    def test_a_long_key(self):
+        """It lies outside of its row, and isn't told again where it doesn't change."""
+        self.run_sql("CREATE TABLE {table} (id text PRIMARY KEY, city text, product text, cents bigint)")
+        follower, rng = self.follower(), random.Random(2)
+        for at in range(3):
+            key = "".join(rng.choices("abcdefghijklmnopqrstuvwxyzABCDEFGHIJKLMNOPQRSTUVWXYZ", k=2600))
+            self.run_sql(f"INSERT INTO {{table}} VALUES ('{key}', 'York', '{key[:100]}', {at})")
+        self.run_sql("UPDATE {table} SET cents = cents + 10", "UPDATE {table} SET id = id || 'x' WHERE cents = 11", "DELETE FROM {table} WHERE cents = 10")
+        self.same(follower)
+        self.assertEqual(follower.slice({})[0].answers, (2, 23))
+
+    def test_a_database_in_another_encoding(self):
+        for name, encoding in (("latin", "LATIN1"), ("bare", "SQL_ASCII")):
+            PRIVATE.run(f"CREATE DATABASE {name} ENCODING '{encoding}' TEMPLATE template0 LOCALE 'C'")
+            # (a connection that was closed may be seen for a moment yet)
+            self.addCleanup(PRIVATE.run, f"DROP DATABASE {name} WITH (FORCE)")
+        dsn = PRIVATE.dsn.replace("dbname=postgres", "dbname=latin")
+        with contextlib.closing(psycopg2.connect(dsn)) as connection, connection.cursor() as cursor:
+            connection.autocommit = True
+            cursor.execute('CREATE TABLE "größe" (id int PRIMARY KEY, city text, product text, cents int)')
+            cursor.execute("INSERT INTO \"größe\" VALUES (1, 'Köln', 'tea', 5)")
+            with Follower(dsn, '"größe"', SALES) as follower:
+                follower.wait(SECONDS)
+                cursor.execute("INSERT INTO \"größe\" VALUES (2, 'Köln', 'tea', 7), (3, 'Århus', NULL, 9)")
+                follower.catch_up(SECONDS)
+                self.assertEqual([follower.slice({"city": it})[0]["sum(cents)"] for it in ("Köln", "Århus")], [12, 9])
+        with Follower(PRIVATE.dsn.replace("dbname=postgres", "dbname=bare"), "sales", SALES) as follower, self.assertRaises(CantFollow) as caught:
+            follower.wait(SECONDS)
+        self.assertIn("written in SQL_ASCII", str(caught.exception))
 
     def test_a_key_that_is_another_index(self):
         self.run_sql(
@@ -803,26 +973,62 @@ class Faults(Base):
     def test_changes_of_columns(self):
         self.looking_often()
         for statement, *words in (
-            ("ADD COLUMN discount int", "column discount is new"), ("DROP COLUMN product", "column product is gone"),
-            ("RENAME COLUMN cents TO pence", "column cents is gone", "column pence is new"), ("ALTER COLUMN cents TYPE int", "column cents", "type integer"),
-            ("RENAME TO {table}_2", "is public.", "_2 now"),
+            ("DROP COLUMN product", "column product is gone"), ("RENAME COLUMN cents TO pence", "column cents is named pence now"),
+            ("ALTER COLUMN cents TYPE int", "column cents", "type integer"),
             ("DROP COLUMN cents, ADD COLUMN cents bigint DEFAULT 7", "column cents is number 5"), ("REPLICA IDENTITY NOTHING", "REPLICA IDENTITY NOTHING"),
-            ("DROP CONSTRAINT {table}_pkey", "no key"),
+            ("DROP CONSTRAINT {table}_pkey", "no key"), ("DROP CONSTRAINT {table}_pkey, ALTER COLUMN city SET NOT NULL, ADD PRIMARY KEY (city)", "the key is (city), and was (id)"),
         ):
             with self.subTest(statement=statement):
-                self.run_sql("DROP TABLE IF EXISTS {table}, {table}_2")
+                self.run_sql("DROP TABLE IF EXISTS {table}")
                 self.sales((1, "York", "tea", 5))
                 follower = self.follower()
                 self.run_sql(f"ALTER TABLE {{table}} {statement}")
                 self.stopped(follower, CantFollow, *words)
-        self.run_sql("DROP TABLE IF EXISTS {table}_2")
 
     def test_a_changed_column_is_seen_with_its_first_row(self):
-        self.sales()
-        with mock.patch("jackraisin.postgres._follower.SECONDS_BETWEEN_LOOKS", 1000):
+        for statement, *words in (("RENAME COLUMN cents TO pence", "column cents is named pence now"), ("ALTER COLUMN cents TYPE numeric", "column cents", "numeric")):
+            with self.subTest(statement), mock.patch("jackraisin.postgres._follower.SECONDS_BETWEEN_LOOKS", 1000):
+                self.run_sql("DROP TABLE IF EXISTS {table}")
+                self.sales()
+                follower = self.follower()
+                self.run_sql(f"ALTER TABLE {{table}} {statement}", "INSERT INTO {table} VALUES (1, 'York', 'tea', 5)")
+                self.stopped(follower, ColumnsChanged, *words)
+
+    def test_columns_that_arent_followed(self):
+        """They may come, go and change, also between the rows of one transaction."""
+        self.sales((1, "York", "tea", 5))
+        with mock.patch("jackraisin.postgres._follower.SECONDS_BETWEEN_LOOKS", 0.05):
             follower = self.follower()
-            self.run_sql("ALTER TABLE {table} ADD COLUMN discount int", "INSERT INTO {table} VALUES (1, 'York', 'tea', 5, 6)")
-            self.stopped(follower, ColumnsChanged, "column discount")
+            for statement, values in (("ADD COLUMN discount int", "6"), ("ALTER COLUMN discount TYPE text", "'six'"), ("DROP COLUMN discount", ""), ("ADD COLUMN discount numeric DEFAULT random()", "0.5")):
+                for at in (2, 3):
+                    self.run_sql(*([f"ALTER TABLE {{table}} {statement}"] if at == 2 else []), f"INSERT INTO {{table}} VALUES ({at}, 'York', 'tea', {at}{values and ', ' + values})")
+                    self.same(follower)
+                self.run_sql("UPDATE {table} SET cents = cents + 1 WHERE id = 2", "DELETE FROM {table} WHERE id > 1")
+                self.same(follower)
+            self.run_sql(
+                "BEGIN; INSERT INTO {table} VALUES (2, 'York', 'tea', 1, 2); ALTER TABLE {table} DROP COLUMN discount; INSERT INTO {table} VALUES (3, 'York', 'tea', 2); "
+                "ALTER TABLE {table} ADD COLUMN other text; UPDATE {table} SET cents = cents * 10, other = 'x'; COMMIT"
+            )
+            self.same(follower)
+        self.assertEqual(follower.state.copies, 1)
+
+    def test_another_name(self):
+        """A table is known by its number: it is followed under any name, also where it is copied again, and beside another one that
+        has its name now."""
+        self.looking_often()
+        self.addCleanup(self.run_sql, "DROP SCHEMA IF EXISTS away CASCADE")
+        self.sales((1, "York", "tea", 5))
+        follower = self.follower()
+        self.run_sql(
+            "CREATE SCHEMA away", "ALTER TABLE {table} RENAME TO kept", "ALTER TABLE kept SET SCHEMA away", "INSERT INTO away.kept VALUES (2, 'Leeds', NULL, 7)",
+            "CREATE TABLE {table} (LIKE away.kept INCLUDING ALL)", "INSERT INTO {table} VALUES (1, 'Hull', 'tea', 100)",
+        )
+        cube = lambda: PRIVATE.cube("CREATE TEMP VIEW facts AS SELECT city, product::text, cents FROM away.kept", SALES)
+        follower.catch_up(SECONDS)
+        self.assertEqual((follower.ask("print"), follower.state.copies), (cube(), 1))
+        self.run_sql("ALTER TABLE away.kept ALTER COLUMN cents TYPE bigint USING cents * 10")
+        follower.catch_up(SECONDS)
+        self.assertEqual((follower.ask("print"), follower.state.copies), (cube(), 2))
 
     def test_changes_that_dont_matter(self):
         self.looking_often()
@@ -846,7 +1052,8 @@ class Faults(Base):
         columns = "(id int PRIMARY KEY, city text, product text, cents bigint)"
         for statement, *words in (
             ("CREATE TABLE {table} (id int, city text, product text, cents bigint)", "no key", "primary key"),
-            ("CREATE UNLOGGED TABLE {table} " + columns, "unlogged", "SET LOGGED"), ("CREATE TABLE {table} " + columns + " PARTITION BY RANGE (id)", "partitioned"),
+            ("CREATE UNLOGGED TABLE {table} " + columns, "unlogged", "SET LOGGED"),
+            ("CREATE TABLE {table} (id int PRIMARY KEY, city text, product text GENERATED ALWAYS AS (upper(city)) STORED, cents bigint)", "column product", "generated", "trigger"),
             ("CREATE TABLE {table} (id int PRIMARY KEY, city text, product float, cents bigint)", "column product", "double precision"),
             ("CREATE TABLE {table} (id int PRIMARY KEY, city numeric, product text, cents bigint)", "column city", "numeric"),
             ("CREATE TABLE {table} (id int PRIMARY KEY, city text, product text, cents text)", "column cents", "type text"),
@@ -881,12 +1088,22 @@ class Faults(Base):
     def test_a_slot_of_another(self):
         """It is left alone, also where nobody is at it now; one that has the name of a follower's is taken over."""
         self.sales((1, "York", "tea", 5))
-        self.run_sql(*(f"SELECT pg_create_logical_replication_slot('{it}', 'wal2json')" for it in ("somebodys", "jackraisin_mine")))
+        self.run_sql(*(f"SELECT pg_create_logical_replication_slot('{it}', 'pgoutput')" for it in ("somebodys", "jackraisin_mine")))
         self.refused(CantFollow, "the slot somebodys is there", "left alone", "jackraisin_", slot="somebodys")
         ran = run("--dsn", PRIVATE.dsn, "--table", self.table, "--slot", "somebodys", "--drop")
         self.assertEqual((ran.returncode, "left alone" in ran.stderr), (1, True))
         self.same(self.follower(slot="jackraisin_mine"))
         self.assertEqual(sorted(self.slots()), [("jackraisin_mine",), ("somebodys",)])
+
+    def test_a_slot_of_an_earlier_version(self):
+        """One that is read by another output plugin is left alone, and it is told how to be rid of it."""
+        self.sales((1, "York", "tea", 5))
+        name = f"jackraisin_{self.table}_{PRIVATE.oid(self.table)}"
+        self.run_sql(f"SELECT pg_create_logical_replication_slot('{name}', 'test_decoding')")
+        mend = f"SELECT pg_drop_replication_slot('{name}')"
+        self.refused(CantFollow, f"the slot {name} is of test_decoding", "earlier version", mend)
+        self.run_sql(mend)
+        self.same(self.follower())
 
     def test_tables_of_like_names(self):
         """A table of a schema, and one whose name is both names."""
@@ -898,20 +1115,6 @@ class Faults(Base):
             for it in followers:
                 it.wait(SECONDS)
             self.assertEqual(len(set(self.slots())), 3)
-
-    def test_a_server_that_doesnt_let_the_plugin_be_read(self):
-        if not PRIVATE.settings_for_plugin:
-            self.skipTest("this server knows no output_plugin_libraries")
-        self.sales()
-        with self.server_with("output_plugin_libraries=pgoutput"):
-            words = "its setting output_plugin_libraries doesn't name it", "ALTER SYSTEM SET output_plugin_libraries = pgoutput, test_decoding, wal2json, without quotes"
-            follower = Follower(PRIVATE.dsn, self.table, SALES)
-            with follower, self.assertRaises(CantFollow) as caught:
-                follower.wait(SECONDS)
-            for it in words:
-                self.assertIn(it, str(caught.exception))
-            self.assertNotIn("may not replicate", str(caught.exception))
-            self.assertEqual(publications(), [])
 
     @contextlib.contextmanager
     def server_with(self, setting):
@@ -1158,6 +1361,59 @@ class Served(Base):
         self.assertEqual([it for it in driver.get_log("browser") if it["level"] == "SEVERE" and "cube.csv" not in it["message"]], [])
 
 
+class Messages(unittest.TestCase):
+    """The messages of the output plugin, as the documentation of PostgreSQL has them."""
+
+    def setUp(self):
+        row = b"\x00\x04" b"t\x00\x00\x00\x05Y\xc3\xb6rk" b"n" b"u" b"t\x00\x00\x00\x00"
+        fields = ("Y\u00f6rk", None, KEEP, "")
+        lsn, time, oid = (1 << 40) + 7, -5, 3_000_000_000
+        self.valid = {
+            b"B" + struct.pack(">qqI", lsn, time, 9): _messages.Begin(lsn, time, 9),
+            b"C\0" + struct.pack(">qqq", lsn, lsn + 1, time): _messages.Commit(lsn, lsn + 1, time),
+            b"O" + struct.pack(">q", lsn) + b"far\0": _messages.Origin(lsn, "far"),
+            b"R" + struct.pack(">I", oid) + b"public\0sales\0d\x00\x02" + b"\x01id\0" + struct.pack(">Ii", 23, -1) + b"\x00price\0" + struct.pack(">Ii", 1700, 524294):
+                _messages.Relation(oid, "public", "sales", "d", (_messages.RelationColumn(True, "id", 23, -1), _messages.RelationColumn(False, "price", 1700, 524294))),
+            b"Y" + struct.pack(">I", oid) + b"public\0mood\0": _messages.Type(oid, "public", "mood"),
+            b"I" + struct.pack(">I", oid) + b"N" + row: _messages.Insert(oid, fields),
+            b"U" + struct.pack(">I", oid) + b"N" + row: _messages.Update(oid, None, fields),
+            b"U" + struct.pack(">I", oid) + b"K" + row + b"N" + row: _messages.Update(oid, _messages.Before(False, fields), fields),
+            b"U" + struct.pack(">I", oid) + b"O" + row + b"N" + row: _messages.Update(oid, _messages.Before(True, fields), fields),
+            b"D" + struct.pack(">I", oid) + b"K" + row: _messages.Delete(oid, _messages.Before(False, fields)),
+            b"D" + struct.pack(">I", oid) + b"O" + row: _messages.Delete(oid, _messages.Before(True, fields)),
+            b"T" + struct.pack(">IBII", 2, 3, 7, oid): _messages.Truncate((7, oid), 3),
+            b"M\1" + struct.pack(">q", lsn) + b"a prefix\0" + struct.pack(">I", 3) + b"\0\1\2": _messages.Emitted(True, lsn, "a prefix", b"\0\1\2"),
+        }
+
+    def test_each_kind(self):
+        for data, message in self.valid.items():
+            with self.subTest(message):
+                self.assertEqual(_messages.message_of(data), message)
+
+    def test_cut_and_turned(self):
+        """A part of a message is none, nor is one with a byte more; one whose bytes are turned is one, or it is refused."""
+        for data in self.valid:
+            for cut in (*(data[:it] for it in range(len(data))), data + b"\0"):
+                self.assertRaises(_errors.BadMessage, _messages.message_of, cut)
+            for at, turned in itertools.product(range(len(data)), (*(1 << it for it in range(8)), 0xFF)):
+                with contextlib.suppress(_errors.BadMessage):
+                    _messages.message_of(data[:at] + bytes([data[at] ^ turned]) + data[at + 1 :])
+
+    def test_what_is_none(self):
+        relation = b"R" + struct.pack(">I", 7) + b"public\0sales\0"
+        for data, words in ((b"", "kind"), (b"S\0\0\0\1\1", "kind"), (relation + b"x\0\0", "replica identity"), (relation[:-3] + b"\xff\0", "utf-8"), (b"I\0\0\0\7N\0\1b", "kind of a value")):
+            with self.subTest(data), self.assertRaises(CantFollow) as caught:
+                _messages.message_of(data)
+            self.assertIn("can't be read", str(caught.exception))
+            self.assertIn(words, str(caught.exception))
+
+    def test_values(self):
+        """Of a row that has other values than its table columns nothing is taken."""
+        relation = _messages.Relation(7, "public", "sales", "d", tuple(_messages.RelationColumn(it == "id", it, 23, -1) for it in ("id", "city", "note")))
+        self.assertEqual((relation.values(("1", KEEP, None)), relation.key), ({"id": "1", "note": None}, ["id"]))
+        self.assertRaises(_errors.BadMessage, relation.values, ("1", None))
+
+
 class Parts(unittest.TestCase):
     """What needs no server."""
 
@@ -1168,15 +1424,6 @@ class Parts(unittest.TestCase):
         self.assertEqual([_values.whole(*it) for it in (("3.50", 100), ("-0.01", 100), ("7", 1), ("5.00", 1), ("9" * 40, 10))], [350, -1, 7, 5, int("9" * 40 + "0")])
         for text, factor in (("3.505", 100), ("0.5", 1), ("NaN", 1), ("-Infinity", 100), ("", 1)):
             self.assertRaises(ValueError, _values.whole, text, factor)
-
-    def test_settings_of_servers(self):
-        """A server is told which plugins may be read where it knows that setting; another one wouldn't start with it."""
-        for known, wanted in (("output_plugin_libraries\tsuperuser", ["output_plugin_libraries=pgoutput,test_decoding,wal2json"]), ("output_plugin\tsuperuser", [])):
-            with self.subTest(known), tempfile.TemporaryDirectory(prefix="datacube-test-") as folder:
-                with open(f"{folder}/postgres", "w", encoding="utf-8") as out:
-                    out.write(f"#!/bin/sh\nprintf 'a_setting\\tuser\\n{known}\\n'\n")
-                os.chmod(f"{folder}/postgres", 0o755)
-                self.assertEqual(sql.settings_for_plugin(folder), wanted)
 
     def test_names_of_metrics(self):
         text = "a b,a_b,1,grouping(a b),grouping(a_b),grouping(1),count(*),avg(x),avg(x),sum(a.b)\n\\\",,é,0,0,0,2,1/3,1/3,\\N\n"

@@ -3,6 +3,7 @@ from __future__ import annotations
 
 import csv
 import io
+from dataclasses import replace
 from typing import TYPE_CHECKING, Iterable, Set, TextIO
 
 from psycopg2 import sql
@@ -41,17 +42,20 @@ class FeedWriter(io.RawIOBase):
 
 
 def copy_table(connection: "Connection", snapshot: str, rows: Rows, writer: FeedWriter) -> Table:
-    """Copies the rows of a snapshot into a feed, and gives the table as it is there. Raises `BeginAnew` where the table isn't there what it was when it was looked
-    at, or where its rows were written anew since, for then a snapshot of before may see none of them (of TRUNCATE, and of some
-    forms of ALTER TABLE)."""
+    """Copies the rows of a snapshot into a feed, and gives the table as it is there. Raises `BeginAnew` where the table isn't there
+    what it was when it was looked at, or where its rows were written anew since, for then a snapshot of before may see none of
+    them (of TRUNCATE, and of some forms of ALTER TABLE)."""
     name, columns = sql.Identifier(rows.table.schema, rows.table.name), sql.SQL(", ").join(map(sql.Identifier, rows.names))
+    # (the rows of a partitioned table lie in its partitions)
+    only = sql.SQL("ONLY ") if rows.table.partitions is None else sql.SQL("")
     with snapshot_of(connection, snapshot) as cursor:
         then = look(cursor, rows.table.oid)
-        if then is None or then != rows.table:
-            raise BeginAnew(f"table {rows.table} was altered while its copy began")
-        cursor.copy_expert(sql.SQL("COPY (SELECT {} FROM ONLY {}) TO STDOUT").format(columns, name), writer)
+        # (the publication was made since)
+        if then is None or then != replace(rows.table, publications=then.publications):
+            raise BeginAnew(f"table {rows.table} was altered before its copy began")
+        cursor.copy_expert(sql.SQL("COPY (SELECT {} FROM {}{}) TO STDOUT").format(columns, only, name), writer)
     with connection.cursor() as cursor:
         now = look(cursor, rows.table.oid)
-    if now is None or now.file != rows.table.file:
+    if now is None or now.file != then.file or now.partitions != then.partitions:
         raise BeginAnew(f"the rows of table {rows.table} were written anew while they were copied")
     return then

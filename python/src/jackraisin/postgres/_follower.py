@@ -7,7 +7,7 @@ import tempfile
 import threading
 import time
 from dataclasses import dataclass, replace
-from typing import TYPE_CHECKING, Any, Callable, Dict, Iterator, Mapping, Optional, Sequence, Set, Tuple, TypeVar
+from typing import TYPE_CHECKING, Any, Callable, Iterator, Mapping, Optional, Sequence, Set, Tuple, TypeVar
 
 import psycopg2
 import psycopg2.errors
@@ -21,11 +21,10 @@ from ._mirror import Mirror
 from ._publication import check_publication, drop_publication, fault_of, make_publication
 from ._running import Running
 from ._slot import (
-    LIBRARIES, TOLD, Place, cancel, check_server, connect, connect_to_replicate, drop_slot, lsn_text, make_slot, not_allowed, now_of,
-    place_of, slot_name,
+    TOLD, Place, cancel, check_server, connect, connect_to_replicate, drop_slot, lsn_text, make_slot, now_of, place_of, slot_name,
 )
 from ._stream import Stream, Transaction
-from ._table import Table, check_same, look, read_table, trace_of
+from ._table import Table, check_same, look, read_table, untold
 from ._values import Rows
 
 if TYPE_CHECKING:
@@ -107,9 +106,8 @@ class Follower(Questions, Running):
         self._state = State()
         self._mirror: Optional[Mirror] = None
         self._has_slot = self._has_publication = False
-        self._table: Table
-        self._seen: Optional[Tuple[Table, int, int]] = None
-        self._truncated: Dict[str, int] = {}
+        self._table: Optional[Table] = None
+        self._names: Sequence[str] = ()
         self._connections: Set["Connection"] = set()
         self._ending = threading.Event()
         self._thread = threading.Thread(target=self._run, name="datacube follower", daemon=True)
@@ -150,12 +148,19 @@ class Follower(Questions, Running):
     def catch_up(self, seconds: Optional[float] = None) -> State:
         """Waits until all that is committed now is in the cube. Where the table was altered since the last look, it waits for the
         next one, which may lead to a new copy."""
-        with contextlib.closing(connect(self.dsn)) as connection, connection.cursor() as cursor:
+        with contextlib.closing(connect(self.dsn)) as connection:
             lsn = now_of(connection)
             state = self.wait_for(lsn, seconds)
-            if trace_of(cursor, self._table.oid) == self._table.trace:
+            if self._is_as_looked(connection):
                 return state
         return self._wait(lambda it: it.is_caught_up and it.lsn >= lsn and it.looked >= lsn, seconds)
+
+    def _is_as_looked(self, connection: "Connection") -> bool:
+        """Whether nobody touched the table since the last look."""
+        table = self._table
+        with connection.cursor() as cursor, contextlib.suppress(CantFollow):
+            return table is not None and look(cursor, table.oid) == table
+        return False
 
     def ask(self, question: str, *fields: str) -> str:
         """The text that answers a question of a session: `print`, or `slice` with a field for each dimension."""
@@ -187,7 +192,7 @@ class Follower(Questions, Running):
         try:
             self._follow_copies()
         except psycopg2.Error as why:
-            failure = not_allowed(why) if LIBRARIES in str(why) else CantFollow(text_of_error(why))
+            failure = CantFollow(text_of_error(why))
         except BaseException as why:
             failure = why
         self._set(is_connected=False)
@@ -232,30 +237,39 @@ class Follower(Questions, Running):
         slot is, and the LSN at which the follower has caught up."""
         with self._open(connect(self.dsn)) as connection:
             check_server(connection)
-            with connection.cursor() as cursor:
-                table = read_table(cursor, self.name)
+            table = self._found(connection)
             rows = Rows(table, self.schema, *self._columns)
             slot = self.slot = self.slot or slot_name(table.name, table.oid)
             with self._open(connect_to_replicate(self.dsn)) as replication:
                 place = place_of(replication)
                 drop_slot(connection, slot, self._has_slot)
-                self._publish(connection, slot, table)
+                self._publish(connection, slot, rows)
                 TOLD.info("making the slot %s, which waits for the transactions that are open", slot)
                 start, snapshot = make_slot(replication, slot)
                 self._has_slot = True
                 mirror, count, table = self._mirror_of(connection, snapshot, rows)
-            self._table, self._seen, self._truncated = table, None, {}
+            self._table, self._names = table, rows.names
             self._put_mirror(mirror)
             self._set(lsn=start, looked=start, copies=self._state.copies + 1, rows_copied=count, left_out=len(mirror.left_out))
             TOLD.info("copied %d rows of table %s, of which %d were left out", count, table, len(mirror.left_out))
             return place, now_of(connection)
 
-    def _publish(self, connection: "Connection", name: str, table: Table) -> None:
+    def _found(self, connection: "Connection") -> Table:
+        """The table as it is now: that of the name, and from the first copy on that of its number, whatever its name is."""
+        with connection.cursor() as cursor:
+            if self._table is None:
+                return read_table(cursor, self.name)
+            now = look(cursor, self._table.oid)
+        check_same(self._table, now, self._names)
+        assert now is not None
+        return now
+
+    def _publish(self, connection: "Connection", name: str, rows: Rows) -> None:
         """Sees that the table has a publication: the one that was given, or one that this follower makes."""
         if self.publication is not None:
-            check_publication(connection, self.publication, table)
+            check_publication(connection, self.publication, rows.table, rows.names)
         else:
-            self._has_publication |= make_publication(connection, name, table)
+            self._has_publication |= make_publication(connection, name, rows.table, rows.names)
 
     def _mirror_of(self, connection: "Connection", snapshot: str, rows: Rows) -> Tuple[Mirror, int, Table]:
         """A session with the rows of a snapshot, their number, and the table as it is there."""
@@ -290,9 +304,9 @@ class Follower(Questions, Running):
         with self._open(connect(self.dsn)) as connection, self._open(connect_to_replicate(self.dsn)) as replication:
             if place_of(replication) != place:
                 raise BeginAnew("the server is another one, or was set back")
-            self._look(connection)
+            table = self._look(connection)
             assert self.slot is not None
-            stream = Stream(replication, self.slot, self._table, self._state.lsn)
+            stream = Stream(replication, self.slot, self.publication or self.slot, table, self._state.lsn)
             self._set(is_connected=True)
             last_look = time.monotonic()
             while not self._ending.is_set():
@@ -300,7 +314,6 @@ class Follower(Questions, Running):
                 if transaction:
                     self._take(transaction, connection)
                 self._arrive(max(self._state.lsn, stream.seen), target)
-                self._judge()
                 stream.confirm(self._state.lsn)
                 if time.monotonic() >= last_look + SECONDS_BETWEEN_LOOKS:
                     self._look(connection)
@@ -314,12 +327,10 @@ class Follower(Questions, Running):
         assert self._mirror is not None
         try:
             work, state = self._mirror.prepare(transaction), self._state
-        except CantFollow:
-            # (it may be that the table was altered, and then it is copied again)
+        except (CantFollow, BeginAnew):
+            # (it may be that the table was altered, and then it is copied again, or what was altered is told by its name)
             self._look(connection)
             raise
-        if work.is_truncated:
-            self._truncated[transaction.number] = transaction.end
         with self._changed:
             try:
                 self._mirror.apply(work)
@@ -337,45 +348,21 @@ class Follower(Questions, Running):
         if lsn > self._state.lsn or is_caught_up != self._state.is_caught_up:
             self._set(lsn=lsn, is_caught_up=is_caught_up)
 
-    def _look(self, connection: "Connection") -> None:
-        """Sees that the table is what it was and has its publication, and that the session refused nothing. What only the changes
-        until now can say of the table is left to be judged when they are taken."""
-        before = now_of(connection)
-        with connection.cursor() as cursor:
-            now = look(cursor, self._table.oid)
-        check_same(self._table, now)
-        assert now is not None and self.slot is not None
-        if now.trace != self._table.trace and not self._may_be_truncated(now):
-            raise self._altered(now)
-        fault = fault_of(connection, self.publication or self.slot, now)
+    def _look(self, connection: "Connection") -> Table:
+        """Sees that the table is what it was or was only altered in ways that its log tells, that it has its publication, and that
+        the session refused nothing. Gives the table as it is now."""
+        before, now = now_of(connection), self._found(connection)
+        assert self._table is not None and self.slot is not None
+        publication = self.publication or self.slot
+        fault = fault_of(connection, publication, now, self._names) or untold(self._table, now, self._names, publication)
         if fault is not None:
             raise BeginAnew(fault)
-        after = now_of(connection)
-        self._seen = self._seen or (now, before, after)
-        with self._lock:
-            if self._mirror is not None and now.trace == self._table.trace:
-                self._mirror.check()
-        self._set(behind=max(after - self._state.lsn, 0))
-
-    def _judge(self) -> None:
-        """Judges the table as it was seen, once all that was committed by then is taken: where somebody wrote its row, that has to
-        be a TRUNCATE which was taken, for nothing of before it matters."""
-        if self._seen is None or self._state.lsn < self._seen[2]:
-            return
-        (now, before, _), self._seen = self._seen, None
-        if now.trace != self._table.trace and not (self._may_be_truncated(now) and now.trace.table in self._truncated):
-            raise self._altered(now)
         self._table = now
-        # (a commit is in the log a moment before others see it, so those since the look before are kept)
-        self._truncated = {number: end for number, end in self._truncated.items() if end > self._state.looked}
-        self._set(looked=before)
-
-    def _may_be_truncated(self, now: Table) -> bool:
-        """Whether TRUNCATE alone may have made the table what it is now."""
-        return now.trace.may_be_truncated_from(self._table.trace) and now.columns == self._table.columns
-
-    def _altered(self, now: Table) -> BeginAnew:
-        return BeginAnew(f"table {now} was altered, and what became of its rows meanwhile isn't known")
+        with self._lock:
+            if self._mirror is not None:
+                self._mirror.check()
+        self._set(looked=before, behind=max(now_of(connection) - self._state.lsn, 0))
+        return now
 
     @contextlib.contextmanager
     def _open(self, connection: AnyConnection) -> Iterator[AnyConnection]:
