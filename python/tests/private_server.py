@@ -37,8 +37,18 @@ CREATE TABLE {table} (
 """
 FACTS = """
 CREATE OR REPLACE TEMP VIEW facts AS
-SELECT city, product::text, is_paid::text, (price * 100)::bigint AS price, cents FROM {table}
+SELECT {city}, {product}, is_paid::text, (price * 100)::bigint AS price, cents FROM {table}
 """
+
+
+def escaped(column: str) -> str:
+    """A column of texts in SQL, as a follower's cube has it: one that begins with a backslash has one more."""
+    return rf"CASE WHEN left({column}, 1) = '\' THEN '\' ELSE '' END || {column} AS {column}"
+
+
+def facts(table: str) -> str:
+    """The statement that makes the view of the writers' facts."""
+    return FACTS.format(table=table, city=escaped("city"), product=escaped("product"))
 
 
 def missing() -> Optional[str]:

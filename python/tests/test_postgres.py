@@ -2,6 +2,7 @@
 
 With DATACUBE_LONG=1 in the environment the writers make more than 20,000 transactions, and more is killed and cut."""
 import contextlib
+import importlib.util
 import itertools
 import os
 import random
@@ -23,7 +24,7 @@ import jackraisin
 import private_server
 from beside import ROWS, browser
 from jackraisin import ALL, ANY, KEEP
-from private_server import CREATE, FACTS, LONG, SCHEMA, until
+from private_server import CREATE, LONG, SCHEMA, until
 
 WHY = private_server.missing()
 if WHY is None:
@@ -93,7 +94,8 @@ class Base(unittest.TestCase):
         self.addCleanup(often.stop)
 
     def cube_of_sql(self):
-        return PRIVATE.cube(f"CREATE TEMP VIEW facts AS SELECT city, product::text, cents FROM {self.table}", SALES)
+        columns = ", ".join(map(private_server.escaped, ("city", "product")))
+        return PRIVATE.cube(f"CREATE TEMP VIEW facts AS SELECT {columns}, cents FROM {self.table}", SALES)
 
     def same(self, follower):
         """Sees that the cube is that of the table, byte for byte."""
@@ -134,7 +136,7 @@ class WithWriters(Base):
         self.addCleanup(self.writers.__exit__)
 
     def cube_of_sql(self):
-        return PRIVATE.cube(FACTS.format(table=self.table))
+        return PRIVATE.cube(private_server.facts(self.table))
 
     def following(self, **options):
         return self.follower(SCHEMA, scale={"price": 2}, **options)
@@ -143,7 +145,7 @@ class WithWriters(Base):
         """Sees that the cube is that of the table, and that each change was taken once."""
         self.same(follower)
         self.assertEqual(follower.state.copies, copies)
-        self.assertEqual(follower.state.left_out, 0)
+        self.assertEqual(follower.state.skipped, 0)
 
 
 class Changes(WithWriters):
@@ -856,21 +858,46 @@ class Rows(Base):
             follower.catch_up(SECONDS)
             self.assertEqual(follower.slice({"city": "York"})[0]["sum(cents)"], 5)
 
+    def test_any_text(self):
+        """A text that begins with a backslash is a text as any other, in answers, questions, frames and pages of the package."""
+        texts = ["\\N", "\\=", "\\", "\\\\N", "\\A", "?", "=", "", "N"]
+        self.sales(*((at, it, None if at == 0 else it, 1 << at) for at, it in enumerate(texts)))
+        follower = self.follower()
+        self.run_sql("UPDATE {table} SET cents = cents + 1000")
+        with PRIVATE.connected() as cursor:
+            cursor.executemany(f"INSERT INTO {self.table} VALUES (%s, %s, %s, 1)", [(100, None, "\\N"), *((at + 200, it, it) for at, it in enumerate(texts))])
+        self.same(follower)
+        for at, it in enumerate(texts):
+            self.assertEqual(follower.slice({"city": it})[0].answers, (2, 1001 + (1 << at)), it)
+        self.assertEqual(follower.slice({"city": None})[0].answers, (1, 1))
+        self.assertEqual(follower.drill({"city": "\\N"}, "product").at(["\\N", "\\N"]).answers, (1, 1))
+        self.assertEqual(follower.rollup(["\\=", "\\="], "product")[0]["city"], "\\=")
+        cube = follower.cube()
+        self.assertEqual({it["city"] for it in cube}, {*texts, None, ALL})
+        self.assertEqual([it.key for it in cube.where({"city": "\\N", "product": ANY})], [("\\N", "\\N"), ("\\N", None), ("\\N", ALL)])
+        self.assertEqual(cube.where({"product": "\\N"}).at({"product": "\\N"}).answers, cube.at({"product": "\\N"}).answers)
+        self.assertEqual(cube.diff(follower.cube()), [])
+        if importlib.util.find_spec("pandas"):
+            frame = cube.to_pandas()
+            self.assertEqual(list(frame.index.levels[0]), [*sorted(texts), ALL])
+            self.assertEqual(frame.loc[("\\N", "\\N"), "count(*)"], 1)
+
     def test_rows_that_cant_be_said(self):
-        self.run_sql("CREATE TABLE {table} (id int PRIMARY KEY, city text, product text, cents numeric NOT NULL)")
-        for values, column in ((r"'\N', '', 1", "city"), (r"'', '\=', 1", "product"), ("'', '', 1.5", "cents"), ("'', '', 9223372036854775808", "cents"), ("'', '', 'NaN'", "cents")):
-            with self.subTest(values=values):
+        """They end it where they aren't to be skipped."""
+        self.run_sql("CREATE TABLE {table} (id int PRIMARY KEY, city text, product text, cents numeric)")
+        for value, words in (("1.5", "1.5 is no whole number"), ("9223372036854775808", "doesn't fit 64 bits"), ("'NaN'", "NaN is no whole number"), ("'-Infinity'", "-Infinity is no"), ("1e5000", f"1{'0' * 99}.. "), ("-1e4299", f"-1{'0' * 98}.. ")):
+            with self.subTest(value):
                 self.run_sql("DELETE FROM {table}")
-                follower = self.follower()
-                self.run_sql(f"INSERT INTO {{table}} VALUES (17, {values})")
-                self.stopped(follower, RowUnsayable, f"table public.{self.table}, key (id)=(17), column {column}: ")
+                follower = self.follower(skip=False)
+                self.run_sql(f"INSERT INTO {{table}} VALUES (17, '', '', {value})")
+                self.stopped(follower, RowUnsayable, f"table public.{self.table}, key (id)=(17), column cents: ", words)
                 # (so that the next follower can make its own)
                 self.assertEqual(PRIVATE.ask("SELECT slot_name FROM pg_replication_slots"), [])
-                self.refused(RowUnsayable, f"table public.{self.table}, key (id)=(17), column {column}: ")
+                self.refused(RowUnsayable, f"table public.{self.table}, key (id)=(17), column cents: ", words, skip=False)
 
     def test_scales_are_exact(self):
         self.run_sql("CREATE TABLE {table} (id int PRIMARY KEY, city text, product text, cents numeric)", "INSERT INTO {table} VALUES (1, '', '', 92233720368547758.07)")
-        follower = self.follower(scale={"cents": 2})
+        follower = self.follower(scale={"cents": 2}, skip=False)
         self.run_sql("INSERT INTO {table} VALUES (2, '', '', -92233720368547758.08), (3, '', '', 0.1), (4, '', '', 0.20), (5, '', '', NULL)")
         follower.catch_up(SECONDS)
         self.assertEqual(follower.slice({})[0].answers, (5, 29))
@@ -883,7 +910,7 @@ class Rows(Base):
                      "INSERT INTO {table} VALUES (1, 'York', 19.20, 0.125, 3)")
         asked = ["count(*)", "sum(price)", "min(price)", "avg(price)", "sum(weight)", "sum(pieces)", "avg(pieces)"]
         schema = jackraisin.Schema(["city"], ["price", "weight", "pieces"], asked, decimals={"price": 2, "weight": 3, "pieces": 1})
-        follower = self.follower(schema, scale={"weight": 1})
+        follower = self.follower(schema, scale={"weight": 1}, skip=False)
         self.run_sql("INSERT INTO {table} VALUES (2, 'York', 5.3, 1, 2), (3, NULL, -0.05, NULL, NULL)", "UPDATE {table} SET weight = 0.0005 WHERE id = 2")
         follower.catch_up(SECONDS)
         facts = f"SELECT city, price::numeric(19, 2), (weight * 10)::numeric(19, 3) AS weight, pieces::numeric(19, 1) FROM {self.table}"
@@ -893,19 +920,29 @@ class Rows(Base):
         self.stopped(follower, RowUnsayable, "key (id)=(1), column weight: 0.00001, times 10, is no number with 3 decimals")
 
     def test_skipped_rows(self):
-        self.sales((1, "York", "tea", 5), (2, "\\N", "tea", 5), (3, "\\=", "tea", 5))
-        follower = self.follower(skip=True)
-        said = lambda: (follower.catch_up(SECONDS).left_out, follower.slice({})[0]["count(*)"])
+        """No row ends it: one with a measure that can't be said is left out, counted and told, until it can be."""
+        self.looking_often()
+        self.run_sql("CREATE TABLE {table} (id int PRIMARY KEY, city text, product text, cents numeric)", "INSERT INTO {table} VALUES (1, 'York', 'tea', 5), (2, 'York', 'tea', 'NaN'), (3, NULL, NULL, 0.5)")
+        with self.assertLogs("jackraisin.postgres") as told:
+            follower = self.follower()
+            until(lambda: "2 of them now; the last one" in told.output[-1])
+        self.assertIn(f"table public.{self.table}, key (id)=(3), column cents: 0.5 is no whole number", told.output[-1])
+        said = lambda: (follower.catch_up(SECONDS).skipped, follower.slice({})[0]["count(*)"])
         self.assertEqual(said(), (2, 1))
-        for statement, left_out, count in (
-            ("INSERT INTO {table} VALUES (4, '\\N', NULL, 1), (5, NULL, NULL, 1)", 3, 2), ("UPDATE {table} SET city = 'Hull' WHERE id = 2", 2, 3),
-            ("UPDATE {table} SET product = '\\N' WHERE id = 1", 3, 2), ("UPDATE {table} SET cents = 2 WHERE id = 1", 3, 2),
-            ("UPDATE {table} SET id = 10 WHERE id = 1", 3, 2), ("UPDATE {table} SET id = 11, product = NULL WHERE id = 10", 2, 3),
-            ("DELETE FROM {table} WHERE id = 4", 1, 3), ("DELETE FROM {table} WHERE id = 3", 0, 3), ("INSERT INTO {table} VALUES (3, '\\=', '', 0)", 1, 3),
-            ("TRUNCATE {table}", 0, 0),
+        for statement, skipped, count in (
+            ("INSERT INTO {table} VALUES (4, '', NULL, 'Infinity'), (5, NULL, NULL, 1)", 3, 2), ("UPDATE {table} SET cents = 7 WHERE id = 2", 2, 3),
+            ("UPDATE {table} SET cents = '-Infinity' WHERE id = 1", 3, 2), ("UPDATE {table} SET city = 'Hull' WHERE id = 1", 3, 2),
+            ("UPDATE {table} SET id = 10 WHERE id = 1", 3, 2), ("UPDATE {table} SET id = 11, cents = NULL WHERE id = 10", 2, 3),
+            ("DELETE FROM {table} WHERE id = 4", 1, 3), ("DELETE FROM {table} WHERE id = 3", 0, 3), ("INSERT INTO {table} VALUES (3, '', '', 9223372036854775808)", 1, 3),
+            ("UPDATE {table} SET cents = 1e5000 WHERE id = 3", 1, 3), ("TRUNCATE {table}", 0, 0),
         ):
             self.run_sql(statement)
-            self.assertEqual(said(), (left_out, count), statement)
+            self.assertEqual(said(), (skipped, count), statement)
+        with self.assertLogs("jackraisin.postgres", "WARNING") as told:
+            self.run_sql("INSERT INTO {table} VALUES (3, '', '', 'NaN')")
+            until(lambda: told.output)
+        self.assertIn("1 of them now; the last one", told.output[0])
+        self.assertIn("key (id)=(3), column cents: NaN", told.output[0])
 
     def test_a_long_text_that_doesnt_change(self):
         self.sales((1, "".join(random.Random(1).choices("abcdefghijklmnop", k=50_000)), "tea", 5))
@@ -1221,10 +1258,15 @@ class Commands(Base):
         command.end()
 
     def test_faults(self):
-        self.sales((1, "\\N", "tea", 5))
-        ran = run(*self.words())
+        self.sales((1, "\\N", "tea", 2**62))
+        words = self.words("--scale", "cents=2")
+        ran = run(*words, "--skip", "never")
         self.assertEqual((ran.returncode, ran.stdout), (1, ""))
-        self.assertIn(f"jackraisin.postgres: table public.{self.table}, key (id)=(1), column city: the text \\N", ran.stderr)
+        self.assertIn(f"jackraisin.postgres: table public.{self.table}, key (id)=(1), column cents: {2**62}, times 100, doesn't fit 64 bits", ran.stderr)
+        for skip in ([], ["--skip"], ["--skip", "always"]):
+            ran = run(*words, *skip)
+            self.assertEqual((ran.returncode, "copied 1 rows" in ran.stderr, "of which 1 were left out" in ran.stderr), (0, True, True))
+        self.assertEqual(run(*words, "--skip", "sometimes").returncode, 2)
         self.assertEqual(run("--table", "sales").returncode, 2)
         ran = run("--table", "sales", "--schema", "/nowhere.toml")
         self.assertEqual((ran.returncode, "schema unreadable" in ran.stderr), (1, True))
@@ -1283,7 +1325,7 @@ class Served(Base):
 
     def test_the_cube(self):
         status, text, headers = get(f"{self.server.address}cube.csv")
-        self.assertEqual((status, text, headers["Datacube-Connected"]), (200, self.cube_of_sql(), "1"))
+        self.assertEqual((status, text, headers["Datacube-Connected"], headers["Datacube-Skipped"]), (200, self.cube_of_sql(), "1", "0"))
         self.assertEqual(get(f"{self.server.address}cube.csv", If_None_Match=headers["ETag"])[0], 304)
         self.run_sql("UPDATE {table} SET cents = 8")
         self.followed.catch_up(SECONDS)
@@ -1319,6 +1361,18 @@ class Served(Base):
         self.assertFalse([it for it in lines if it.startswith('datacube_sum_cents{city="",')], "null has no sample")
         self.assertEqual(len(lines), len(set(lines)))
 
+    def test_metrics_of_any_text(self):
+        """Texts are as they are; that which is like null has a label more."""
+        self.run_sql(r"INSERT INTO {table} VALUES (4, '\N', 'tea', 7), (5, '\=', 'tea', 8)")
+        self.followed.catch_up(SECONDS)
+        lines = get(f"{self.server.address}metrics")[1].splitlines()
+        for line in (
+            r'datacube_sum_cents{city="\\N",product="\\N",grouping_city="0",grouping_product="1"} 6', r'datacube_sum_cents{city="\\N",product="\\N",grouping_city="0",grouping_product="1",is_text_city="1"} 7',
+            r'datacube_sum_cents{city="\\=",product="\\N",grouping_city="0",grouping_product="1"} 8', f'datacube_follower_skipped{{table="{self.table}"}} 0',
+        ):
+            self.assertIn(line, lines)
+        self.assertEqual(len(lines), len(set(lines)))
+
     def test_metrics_of_a_chosen_slice(self):
         server = postgres.Server(self.followed, slice=["?", "?"])
         server.start()
@@ -1347,6 +1401,31 @@ class Served(Base):
                 cursor.execute("COMMIT")
             until(lambda: ["Leeds", "1", "70"] in rows() and ["York", "2", "35"] in rows(), SECONDS)
             self.see_that_the_view_stays(driver, rows)
+
+    def test_the_page_shows_any_text(self):
+        """And that rows are left out."""
+        self.run_sql(r"INSERT INTO {table} VALUES (4, '\N', '\=', 70), (5, '\\', 'tea', 30)", f"INSERT INTO {{table}} VALUES (6, 'far', 'tea', {2**62})")
+        followed = self.follower(scale={"cents": 2}, slot="jackraisin_other")
+        with postgres.Server(followed) as server, browser(self, PRIVATE.folder_for_others()) as driver:
+            driver.get(server.address)
+            rows = lambda: driver.execute_script(ROWS)
+            until(lambda: ["\\N", "1", "7,000"] in rows() and ["\\\\", "1", "3,000"] in rows() and ["null", "1", "600"] in rows(), SECONDS)
+            until(lambda: "without 1 of the table's rows" in driver.find_element("id", "about").text, SECONDS)
+            driver.execute_script(r"[...document.querySelectorAll('#table tbody button')].find((it) => it.textContent === '\\N').click()")
+            until(lambda: ["\\=", "1", "7,000"] in rows(), SECONDS)
+            self.run_sql("UPDATE {table} SET cents = 71 WHERE id IN (4, 6)")
+            until(lambda: ["\\=", "1", "7,100"] in rows() and "without" not in driver.find_element("id", "about").text, SECONDS)
+            path = followed.cube().show(f"{PRIVATE.folder_for_others()}/shown.html", browser=False)
+            self.assertEqual(jackraisin.Cube.read(self.saved(followed), is_escaped=True).at({"city": "\\N"}), followed.cube().at({"city": "\\N"}))
+            driver.get(f"file://{path}")
+            until(lambda: ["\\N", "1", "7,100"] in rows() and ["null", "1", "600"] in rows(), SECONDS)
+            self.assertEqual([it for it in driver.get_log("browser") if it["level"] == "SEVERE" and "favicon" not in it["message"]], [])
+
+    def saved(self, followed):
+        """The cube as a file that somebody saved from the page's server."""
+        path = f"{PRIVATE.folder_for_others()}/cube.csv"
+        followed.cube().to_csv(path)
+        return path
 
     def see_that_the_view_stays(self, driver, rows):
         """A view that was drilled to stays, and its numbers go on."""

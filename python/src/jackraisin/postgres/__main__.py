@@ -2,7 +2,8 @@
 
 Without --serve, questions are read from standard input as `datacube live` reads them (print, slice, drill, rollup), and
 answered so, after the follower has caught up; the end of the input ends it. Every answer is over all transactions until
-some commit. With --serve there is a page at http://127.0.0.1:PORT/, and /metrics for Prometheus, until it is interrupted.
+some commit. In both a text that begins with a backslash has one more, so that \\N is null alone. With --serve there is a page at
+http://127.0.0.1:PORT/, and /metrics for Prometheus, until it is interrupted.
 """
 from __future__ import annotations
 
@@ -30,6 +31,7 @@ if TYPE_CHECKING:
     from psycopg2.extensions import connection as Connection
 
 SECONDS_BETWEEN_LOOKS = 0.2
+SKIPPING = "always", "never"
 ENDING = signal.SIGTERM, signal.SIGHUP
 
 
@@ -41,7 +43,10 @@ def parser() -> argparse.ArgumentParser:
     asks.add_argument("--dimensions", type=names, metavar="NAMES", help="its columns for the dimensions of the schema, by default those of the same names")
     asks.add_argument("--measures", type=names, metavar="NAMES", help="its columns for the measures of the schema, likewise")
     asks.add_argument("--scale", type=scale, action="append", default=[], metavar="COLUMN=N", help="take N decimals of a numeric: 3.50 is 350 by 2")
-    asks.add_argument("--skip", action="store_true", help="leave rows out that can't be said, and count them")
+    asks.add_argument(
+        "--skip", nargs="?", choices=SKIPPING, const=SKIPPING[0], default=SKIPPING[0],
+        help="whether rows with a measure that can't be said, as NaN, are left out, counted and told, or end it; always by default"
+    )
     asks.add_argument("--slot", metavar="NAME", help=f"the replication slot, and the publication, by default {PREFIX}TABLE_OID; one of another prefix is never dropped")
     asks.add_argument("--publication", metavar="NAME", help="a publication that names the table, where the role may not make one")
     asks.add_argument("--drop", action="store_true", help="drop the slot and the publication of a follower that was killed, and end")
@@ -63,7 +68,7 @@ def scale(text: str) -> Tuple[str, int]:
 def follower_of(given: argparse.Namespace) -> Follower:
     return Follower(
         given.dsn, given.table, given.schema, dimensions=given.dimensions, measures=given.measures, scale=dict(given.scale),
-        slot=given.slot, skip=given.skip, publication=given.publication,
+        slot=given.slot, skip=given.skip == SKIPPING[0], publication=given.publication,
     )
 
 

@@ -4,22 +4,22 @@ from __future__ import annotations
 import csv
 import io
 from dataclasses import replace
-from typing import TYPE_CHECKING, Iterable, Set, TextIO
+from typing import TYPE_CHECKING, Iterable, TextIO
 
 from psycopg2 import sql
 
 from ._errors import BeginAnew, RowUnsayable
 from ._slot import snapshot_of
 from ._table import Table, look
-from ._values import Rows, row_of
+from ._values import Rows, Skipped, row_of
 
 if TYPE_CHECKING:
     from psycopg2.extensions import connection as Connection
 
 
 class FeedWriter(io.RawIOBase):
-    """Takes the rows that COPY sends, a line each, and writes them as a feed. `left_out` has the ids of those that can't be
-    said, where they are skipped."""
+    """Takes the rows that COPY sends, a line each, and writes them as a feed. `skipped` has those that can't be said, where they may be
+    skipped."""
 
     def __init__(self, rows: Rows, header: Iterable[str], out: TextIO, skip: bool) -> None:
         super().__init__()
@@ -27,17 +27,17 @@ class FeedWriter(io.RawIOBase):
         self._names = rows.names
         self._records.writerow(["op", "id", *header])
         self.count = 0
-        self.left_out: Set[str] = set()
+        self.skipped = Skipped()
 
     def write(self, line: bytes) -> int:  # type: ignore[override]
         values = dict(zip(self._names, row_of(bytes(line).decode("utf-8")[:-1])))
         self.count += 1
         try:
             self._records.writerow(["I", self._rows.id_of(values), *self._rows.fields_of(values)])
-        except RowUnsayable:
+        except RowUnsayable as why:
             if not self._skip:
                 raise
-            self.left_out.add(self._rows.id_of(values))
+            self.skipped.add(self._rows.id_of(values), why)
         return len(line)
 
 

@@ -55,7 +55,7 @@ class State:
     rows_copied: int = 0
     transactions: int = 0
     changes: int = 0
-    left_out: int = 0
+    skipped: int = 0
     failure: Optional[BaseException] = None
 
     @property
@@ -78,9 +78,12 @@ class Follower(Questions, Running):
 
     `dimensions` and `measures` are the columns for those of the schema, where their names differ. `scale` says of a column
     how many decimals are taken: by 2 the numeric 3.50 is 350. A measure that the schema gives decimals takes a numeric as it is.
-    With `skip` rows that can't be said are left out and counted. `slot` names the slot, and the publication with it; `publication`
+    A row with a measure that can't be said, as NaN, is left out, counted and told, or ends it where `skip` is false; a text of a
+    dimension may be any. In what `ask` is given and gives, a text that begins with a backslash has one more. `slot` names the slot, and the publication with it; `publication`
     one that is there, and names the table, where the role may make none.
     The schema's `version` and `max_records` are of feeds, and don't matter here."""
+
+    is_escaped = True
 
     def __init__(
         self,
@@ -92,7 +95,7 @@ class Follower(Questions, Running):
         measures: Optional[Sequence[str]] = None,
         scale: Optional[Mapping[str, int]] = None,
         slot: Optional[str] = None,
-        skip: bool = False,
+        skip: bool = True,
         publication: Optional[str] = None,
     ) -> None:
         given = schema_of(schema)
@@ -250,8 +253,8 @@ class Follower(Questions, Running):
                 mirror, count, table = self._mirror_of(connection, snapshot, rows)
             self._table, self._names = table, rows.names
             self._put_mirror(mirror)
-            self._set(lsn=start, looked=start, copies=self._state.copies + 1, rows_copied=count, left_out=len(mirror.left_out))
-            TOLD.info("copied %d rows of table %s, of which %d were left out", count, table, len(mirror.left_out))
+            self._set(lsn=start, looked=start, copies=self._state.copies + 1, rows_copied=count, skipped=len(mirror.skipped.ids))
+            TOLD.info("copied %d rows of table %s, of which %d were left out", count, table, len(mirror.skipped.ids))
             return place, now_of(connection)
 
     def _found(self, connection: "Connection") -> Table:
@@ -278,7 +281,7 @@ class Follower(Questions, Running):
             with open(path, "w", encoding="utf-8", newline="") as out:
                 writer = FeedWriter(rows, [*self.schema.dimensions, *self.schema.measures], out, self.skip)
                 table = copy_table(connection, snapshot, rows, writer)
-            return Mirror(rows, self.schema, path, writer.left_out, self.skip), writer.count, table
+            return Mirror(rows, self.schema, path, writer.skipped, self.skip), writer.count, table
 
     def _follow(self, place: Place, target: int) -> None:
         """Takes the changes behind the slot, over as many connections as it takes."""
@@ -339,7 +342,7 @@ class Follower(Questions, Running):
                 self._put_mirror(None)
                 raise
             self._set(
-                lsn=transaction.end, transactions=state.transactions + 1, changes=state.changes + work.count, left_out=len(self._mirror.left_out)
+                lsn=transaction.end, transactions=state.transactions + 1, changes=state.changes + work.count, skipped=len(self._mirror.skipped.ids)
             )
 
     def _arrive(self, lsn: int, target: int) -> None:
@@ -361,6 +364,9 @@ class Follower(Questions, Running):
         with self._lock:
             if self._mirror is not None:
                 self._mirror.check()
+                why = self._mirror.skipped.taken()
+                if why is not None:
+                    TOLD.warning("rows are left out, %d of them now; the last one: %s", self._state.skipped, why)
         self._set(looked=before, behind=max(now_of(connection) - self._state.lsn, 0))
         return now
 

@@ -26,7 +26,7 @@ def of_state(table: str, state: State) -> Iterator[str]:
         "caught_up": ("1 where the cube is that of a commit, 0 where the table is still being copied.", int(state.is_caught_up)),
         "connected": ("1 where the follower has its connection to the database.", int(state.is_connected)),
         "behind_bytes": ("By how many bytes of log the server was ahead at the last look.", state.behind),
-        "left_out_rows": ("Rows that are left out, since no feed can say them.", state.left_out),
+        "skipped": ("Rows of the table that are left out, since a measure of theirs can't be said.", state.skipped),
     }
     counters = {
         "transactions_total": ("Transactions that were taken.", state.transactions),
@@ -39,8 +39,9 @@ def of_state(table: str, state: State) -> Iterator[str]:
 
 
 def of_cube(table: str, cube: Cube) -> Iterator[str]:
-    """A metric for each aggregate. Its labels are the columns of the printed cube: `\\N` is null, or ALL where GROUPING is 1."""
-    labels = unique(label_name(it) for it in [*cube.dimensions, *(f"grouping_{it}" for it in cube.dimensions)])
+    """A metric for each aggregate. Its labels are the columns of the printed cube: `\\N` is null, or ALL where GROUPING is 1, or it is
+    that text where IS_TEXT is 1, which nothing else has."""
+    labels = unique(label_name(f"{kind}{it}") for kind in ("", "grouping_", "is_text_") for it in cube.dimensions)
     names = unique(f"datacube_{metric_name(it)}" for it in cube.aggregates)
     of_rows = [labels_of(labels, row) for row in cube]
     for at, (name, aggregate) in enumerate(zip(names, cube.aggregates)):
@@ -49,8 +50,10 @@ def of_cube(table: str, cube: Cube) -> Iterator[str]:
 
 
 def labels_of(names: Sequence[str], row: Row) -> Dict[str, str]:
+    count = len(row.key)
     texts = [it if isinstance(it, str) else NULL for it in row.key]
-    return dict(zip(names, [*texts, *("1" if it is ALL else "0" for it in row.key)]))
+    labels = dict(zip(names, [*texts, *("1" if it is ALL else "0" for it in row.key)]))
+    return {**labels, **{name: "1" for name, it in zip(names[2 * count :], row.key) if it == NULL}}
 
 
 def metric(name: str, kind: str, text: str, samples: Iterable[Tuple[Mapping[str, str], Answer]]) -> Iterator[str]:

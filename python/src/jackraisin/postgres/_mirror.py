@@ -5,7 +5,7 @@ import contextlib
 import csv
 import io
 import tempfile
-from typing import IO, Final, Iterable, Iterator, List, Optional, Set
+from typing import IO, Final, Iterable, Iterator, List, Optional, Union
 
 from .._errors import Ended
 from .._live import Live
@@ -15,7 +15,7 @@ from ._errors import BeginAnew, CantFollow, RowUnsayable
 from ._messages import Before, Delete, Insert, Relation, Truncate, Update
 from ._stream import Change
 from ._table import misfit
-from ._values import KEPT, Rows, Values
+from ._values import KEPT, Rows, Skipped, Values
 
 SOURCE: Final = "1"
 IN_MEMORY: Final = 16 * 2**20
@@ -65,9 +65,9 @@ class Mirror:
     """The rows of a table in a session, under their keys as ids. A caller prepares whole transactions, makes them, and asks
     between them."""
 
-    def __init__(self, rows: Rows, schema: Schema, feed: Path, left_out: Set[str], skip: bool) -> None:
+    def __init__(self, rows: Rows, schema: Schema, feed: Path, skipped: Skipped, skip: bool) -> None:
         self._rows, self._schema, self._skip = rows, schema, skip
-        self.left_out = set(left_out)
+        self.skipped = skipped
         self._live = Live(self._schema, feed)
         self._relation: Optional[Relation] = None
 
@@ -118,7 +118,7 @@ class Mirror:
             self._delete(work, self._rows.id_of(self._before(relation, message.before)))
         elif isinstance(message, Truncate):
             work.truncate()
-            self.left_out.clear()
+            self.skipped.ids.clear()
 
     def _check_relation(self, relation: Relation) -> None:
         """Raises where the table wasn't, when a row was written, what it was when it was copied."""
@@ -138,8 +138,8 @@ class Mirror:
 
     def _insert(self, work: Work, values: Values) -> None:
         id, fields = self._rows.id_of(values), self._fields(values)
-        if fields is None:
-            self.left_out.add(id)
+        if isinstance(fields, RowUnsayable):
+            self.skipped.add(id, fields)
         elif KEPT in fields:
             raise self._not_told(values)
         else:
@@ -151,26 +151,26 @@ class Mirror:
         whole = {**before, **values}
         old, new = self._rows.id_of(before), self._rows.id_of(whole)
         fields = self._fields(whole)
-        if old == new and old not in self.left_out and fields is not None:
+        if old == new and old not in self.skipped.ids and not isinstance(fields, RowUnsayable):
             work.put("U", old, *fields)
         else:
             self._delete(work, old)
             self._insert(work, whole)
 
     def _delete(self, work: Work, id: str) -> None:
-        if id in self.left_out:
-            self.left_out.remove(id)
+        if id in self.skipped.ids:
+            self.skipped.ids.remove(id)
         else:
             work.put("D", id)
 
-    def _fields(self, values: Values) -> Optional[List[str]]:
-        """The fields of a row, or none where it can't be said and is left out."""
+    def _fields(self, values: Values) -> Union[List[str], RowUnsayable]:
+        """The fields of a row, or why it can't be said, where it is left out for that."""
         try:
             return self._rows.fields_of(values)
-        except RowUnsayable:
+        except RowUnsayable as why:
             if not self._skip:
                 raise
-            return None
+            return why
 
     def _not_told(self, values: Values) -> BeginAnew:
         missing = next(it for it in self._rows.names if it not in values)

@@ -92,7 +92,8 @@ class Handler(BaseHTTPRequestHandler):
         except DatacubeError as why:
             self._send(HTTPStatus.SERVICE_UNAVAILABLE, "text/plain; charset=utf-8", f"{why}\n".encode("utf-8"))
             return
-        headers = {"ETag": tag, "Datacube-Table": self.follower.name.encode("ascii", "replace").decode(), "Datacube-Connected": str(int(state.is_connected))}
+        name = self.follower.name.encode("ascii", "replace").decode()
+        headers = {"ETag": tag, "Datacube-Table": name, "Datacube-Connected": str(int(state.is_connected)), "Datacube-Skipped": str(state.skipped)}
         self._send(HTTPStatus.OK if text else HTTPStatus.NOT_MODIFIED, "text/csv; charset=utf-8", text, headers)
 
     def _tag(self, state: State) -> str:
@@ -105,7 +106,7 @@ class Handler(BaseHTTPRequestHandler):
         state = self.follower.state
         try:
             state, text = self.follower.ask_with_state("slice", *self.fields)
-            cube = Cube(text)
+            cube = Cube(text, is_escaped=True)
         except NotCaughtUp:
             pass
         except DatacubeError as why:
