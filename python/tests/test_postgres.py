@@ -373,7 +373,9 @@ class Moments(Base):
                 self.assertRaises(NotCaughtUp, follower.cube)
                 self.assertRaises(NotCaughtUp, follower.wait, 0.1)
                 self.see_that_it_ends_at_once()
-                self.assertEqual(get(f"{server.address}cube.csv")[0], 503)
+                self.assertEqual([get(f"{server.address}{it}")[0] for it in ("cube.csv", "healthz", "readyz")], [503, 200, 503])
+                self.assertEqual((follower.state.behind_seconds, follower.state.last_commit), (None, None))
+                self.assertNotIn("datacube_follower_behind_seconds{", get(f"{server.address}metrics")[1])
                 self.assertIn("datacube_follower_caught_up{table=", get(f"{server.address}metrics")[1])
                 self.assertNotIn("datacube_sum_cents", get(f"{server.address}metrics")[1])
                 cursor.execute("COMMIT")
@@ -470,6 +472,54 @@ class Moments(Base):
         until(lambda: PRIVATE.ask(f"SELECT confirmed_flush_lsn - '0/0' FROM pg_replication_slots WHERE slot_name = '{follower.slot}'")[0][0] >= lsn)
         self.assertEqual((follower.state.transactions, follower.state.version), (0, (1, 0)))
 
+
+    def test_how_far_it_is_behind(self):
+        """In seconds, from the moment of which all commits are in the cube; that goes on where the connection is lost."""
+        self.looking_often()
+        way = private_server.Way(PRIVATE)
+        self.addCleanup(way.close)
+        self.sales((1, "York", "tea", 5))
+        follower = self.follower(dsn=way.dsn)
+        self.assertIsNone(follower.state.last_commit)
+        for _ in range(2):
+            start = time.time()
+            self.run_sql("UPDATE {table} SET cents = cents + 1")
+            follower.catch_up(SECONDS)
+            end = time.time()
+            # (the server's clock and this one are of one machine)
+            self.assertTrue(start - 0.01 <= follower.state.last_commit <= end + 0.01)
+            until(lambda: follower.state.behind_seconds < 0.5)
+            way.is_shut = True
+            way.cut()
+            cut = time.monotonic()
+            until(lambda: not follower.state.is_connected)
+            time.sleep(1)
+            self.assertTrue(1 <= follower.state.behind_seconds <= time.monotonic() - cut + SECONDS)
+            way.is_shut = False
+            until(lambda: follower.state.behind_seconds < 0.5)
+
+    def test_what_isnt_taken_yet_is_behind(self):
+        """A change that is committed and waits to be taken isn't in the cube, whatever is seen of the server meanwhile."""
+        self.looking_often()
+        self.sales((1, "York", "tea", 5))
+        follower, go = self.follower(), threading.Event()
+        self.addCleanup(go.set)
+        usual = postgres._follower.Stream.next
+
+        def late(stream, seconds):
+            found = usual(stream, seconds) if go.is_set() else time.sleep(0.01)
+            return found
+
+        with mock.patch("jackraisin.postgres._follower.Stream.next", late):
+            time.sleep(0.3)
+            self.run_sql("UPDATE {table} SET cents = 6")
+            committed, looked = time.monotonic(), follower.state.looked
+            until(lambda: follower.state.looked > looked and time.monotonic() > committed + 1)
+            self.assertGreaterEqual(follower.state.behind_seconds, 1)
+            self.assertGreater(follower.state.behind, 0)
+            go.set()
+            until(lambda: follower.state.behind_seconds < 0.5)
+        self.same(follower)
 
     def test_a_message_in_the_log(self):
         """Messages that anybody may write to the server's log, in a transaction and outside of one, are no changes."""
@@ -1361,6 +1411,16 @@ class Served(Base):
         self.assertFalse([it for it in lines if it.startswith('datacube_sum_cents{city="",')], "null has no sample")
         self.assertEqual(len(lines), len(set(lines)))
 
+    def test_metrics_of_times(self):
+        number = r"([0-9]+\.[0-9]{3})$"
+        self.assertNotIn("datacube_follower_last_commit_time{", get(f"{self.server.address}metrics")[1])
+        self.run_sql("UPDATE {table} SET cents = cents + 1")
+        state, text = self.followed.catch_up(SECONDS), get(f"{self.server.address}metrics")[1]
+        behind, commit = (re.search(rf'^datacube_follower_{it}{{table="{self.table}"}} {number}', text, re.MULTILINE)[1] for it in ("behind_seconds", "last_commit_time"))
+        self.assertLess(float(behind), SECONDS)
+        self.assertAlmostEqual(float(commit), state.last_commit, 3)
+        self.assertIn(f'datacube_follower_build_info{{version="{jackraisin.__version__}"}} 1\n', text)
+
     def test_metrics_of_any_text(self):
         """Texts are as they are; that which is like null has a label more."""
         self.run_sql(r"INSERT INTO {table} VALUES (4, '\N', 'tea', 7), (5, '\=', 'tea', 8)")
@@ -1381,9 +1441,10 @@ class Served(Base):
         self.assertRaises(CantFollow, postgres.Server, self.followed, slice=["?"])
 
     def test_a_follower_that_stopped(self):
+        self.assertEqual([get(f"{self.server.address}{it}")[0] for it in ("healthz", "readyz")], [200, 200])
         self.run_sql("ALTER TABLE {table} DROP COLUMN product")
         self.stopped(self.followed, ColumnsChanged)
-        for page in ("cube.csv", "metrics"):
+        for page in ("cube.csv", "metrics", "healthz", "readyz"):
             status, text, _ = get(f"{self.server.address}{page}")
             self.assertEqual((status, "column product is gone" in text), (503, True))
 

@@ -1,13 +1,14 @@
 """A cube that is kept as a table is."""
 from __future__ import annotations
 
+import collections
 import contextlib
 import os
 import tempfile
 import threading
 import time
 from dataclasses import dataclass, replace
-from typing import TYPE_CHECKING, Any, Callable, Iterator, Mapping, Optional, Sequence, Set, Tuple, TypeVar
+from typing import TYPE_CHECKING, Any, Callable, Deque, Iterator, Mapping, Optional, Sequence, Set, Tuple, TypeVar
 
 import psycopg2
 import psycopg2.errors
@@ -44,7 +45,9 @@ OF_CONNECTIONS, IN_USE = ("08", "53", "57"), "55006"
 class State:
     """How far a follower is. All that was committed before `lsn` is in the cube, and nothing after it; `behind` is by how
     many bytes of log the server was ahead at the last look, once a second. Before `looked` the table wasn't changed in a way
-    that its log doesn't tell. `version` changes where the cube does."""
+    that its log doesn't tell. `last_commit` is when the last transaction that was taken was committed, by the server's clock, in
+    seconds since 1970 began. All that was committed until `as_of`, a time of `time.monotonic`, is in the cube. `version` changes
+    where the cube does."""
 
     is_caught_up: bool = False
     is_connected: bool = False
@@ -56,11 +59,19 @@ class State:
     transactions: int = 0
     changes: int = 0
     skipped: int = 0
+    last_commit: Optional[float] = None
+    as_of: Optional[float] = None
     failure: Optional[BaseException] = None
 
     @property
     def lsn_text(self) -> str:
         return lsn_text(self.lsn)
+
+    @property
+    def behind_seconds(self) -> Optional[float]:
+        """How long ago the moment is whose commits are all in the cube: it is behind by so many seconds at most, also where the
+        connection is lost. None before the follower has caught up for the first time."""
+        return None if self.as_of is None else time.monotonic() - self.as_of
 
     @property
     def version(self) -> Tuple[int, int]:
@@ -111,6 +122,8 @@ class Follower(Questions, Running):
         self._has_slot = self._has_publication = False
         self._table: Optional[Table] = None
         self._names: Sequence[str] = ()
+        # (where the server's log ended, and when that was asked for, where the follower hasn't come to yet)
+        self._ends: Deque[Tuple[int, float]] = collections.deque()
         self._connections: Set["Connection"] = set()
         self._ending = threading.Event()
         self._thread = threading.Thread(target=self._run, name="datacube follower", daemon=True)
@@ -253,9 +266,10 @@ class Follower(Questions, Running):
                 mirror, count, table = self._mirror_of(connection, snapshot, rows)
             self._table, self._names = table, rows.names
             self._put_mirror(mirror)
+            self._ends.clear()
             self._set(lsn=start, looked=start, copies=self._state.copies + 1, rows_copied=count, skipped=len(mirror.skipped.ids))
             TOLD.info("copied %d rows of table %s, of which %d were left out", count, table, len(mirror.skipped.ids))
-            return place, now_of(connection)
+            return place, self._end_of(connection)
 
     def _found(self, connection: "Connection") -> Table:
         """The table as it is now: that of the name, and from the first copy on that of its number, whatever its name is."""
@@ -342,14 +356,24 @@ class Follower(Questions, Running):
                 self._put_mirror(None)
                 raise
             self._set(
-                lsn=transaction.end, transactions=state.transactions + 1, changes=state.changes + work.count, skipped=len(self._mirror.skipped.ids)
+                lsn=transaction.end, transactions=state.transactions + 1, changes=state.changes + work.count,
+                skipped=len(self._mirror.skipped.ids), last_commit=transaction.committed,
             )
 
     def _arrive(self, lsn: int, target: int) -> None:
         """Takes note of an LSN to which the follower has come."""
-        is_caught_up = self._state.is_caught_up or lsn >= target
-        if lsn > self._state.lsn or is_caught_up != self._state.is_caught_up:
-            self._set(lsn=lsn, is_caught_up=is_caught_up)
+        is_caught_up, as_of = self._state.is_caught_up or lsn >= target, self._state.as_of
+        while self._ends and self._ends[0][0] <= lsn:
+            as_of = self._ends.popleft()[1]
+        if lsn > self._state.lsn or (is_caught_up, as_of) != (self._state.is_caught_up, self._state.as_of):
+            self._set(lsn=lsn, is_caught_up=is_caught_up, as_of=as_of)
+
+    def _end_of(self, connection: "Connection") -> int:
+        """Where the server's log ends now; that is kept until the follower has come there."""
+        asked = time.monotonic()
+        end = now_of(connection)
+        self._ends.append((end, asked))
+        return end
 
     def _look(self, connection: "Connection") -> Table:
         """Sees that the table is what it was or was only altered in ways that its log tells, that it has its publication, and that
@@ -367,7 +391,7 @@ class Follower(Questions, Running):
                 why = self._mirror.skipped.taken()
                 if why is not None:
                     TOLD.warning("rows are left out, %d of them now; the last one: %s", self._state.skipped, why)
-        self._set(looked=before, behind=max(now_of(connection) - self._state.lsn, 0))
+        self._set(looked=before, behind=max(self._end_of(connection) - self._state.lsn, 0))
         return now
 
     @contextlib.contextmanager

@@ -14,6 +14,8 @@ from .._live import Keep
 from ._errors import BadMessage
 
 BYTE, INT16, INT32, INT64 = struct.Struct(">B"), struct.Struct(">H"), struct.Struct(">I"), struct.Struct(">q")
+# (times are counted from the begin of 2000; from that of 1970 on it is so many seconds)
+SECONDS_BEFORE = 946_684_800
 SIGNED = struct.Struct(">i")
 IDENTITIES = "dnfi"
 
@@ -36,6 +38,11 @@ class Commit(NamedTuple):
     commit: int
     end: int
     time: int
+
+    @property
+    def seconds(self) -> float:
+        """When it was, in seconds since 1970 began."""
+        return SECONDS_BEFORE + self.time / 10**6
 
 
 class Origin(NamedTuple):

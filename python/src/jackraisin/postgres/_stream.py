@@ -29,10 +29,11 @@ class Change(NamedTuple):
 
 class Transaction:
     """The changes of a committed transaction, in their order; those of a long one lie in a file. `end` is the LSN behind its
-    commit. It begins with the table as it was told before."""
+    commit, and `committed` when that was, in seconds since 1970 began. It begins with the table as it was told before."""
 
     def __init__(self, messages: IO[bytes], commit: Commit, relation: Optional[Relation]) -> None:
-        self._messages, self.end, self._relation = messages, commit.end, relation
+        self._messages, self._relation = messages, relation
+        self.end, self.committed = commit.end, commit.seconds
 
     def __iter__(self) -> Iterator[Change]:
         self._messages.seek(0)
