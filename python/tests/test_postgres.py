@@ -535,6 +535,150 @@ class Moments(Base):
         self.same(follower)
 
 
+class Verified(Base):
+    """The cube is compared with the table, and copied again where it isn't the table's."""
+
+    def setUp(self):
+        super().setUp()
+        self.looking_often()
+        self.run_sql(
+            "CREATE TABLE {table} (id int PRIMARY KEY, city text, product text, is_paid boolean, price numeric, cents bigint)",
+            r"INSERT INTO {table} SELECT n, CASE n % 4 WHEN 0 THEN NULL WHEN 1 THEN '\N' ELSE 'city ' || n % 7 END, 'product ' || n % 5, n % 2 = 0, n / 100.0, n FROM generate_series(1, 500) AS n",
+            "INSERT INTO {table} VALUES (1001, 'York', 'tea', NULL, 'NaN', 1), (1002, 'York', 'tea', NULL, 0.001, 1), (1003, 'Hull', '', true, 1e30, 1), (1004, 'York', 'tea', false, NULL, NULL)",
+        )
+        aggregates = ["count(*)", "count(price)", "sum(price)", "min(price)", "max(price)", "avg(price)", "sum(cents)", "avg(cents)"]
+        self.schema = jackraisin.Schema(["city", "product", "is_paid"], ["price", "cents"], aggregates, decimals={"price": 2})
+
+    def compared(self, follower, seconds=SECONDS):
+        """Waits for the end of a comparison that begins from here on."""
+        ended = mock.Mock(wraps=follower._conclude)
+        with mock.patch.object(follower, "_conclude", ended):
+            until(lambda: ended.call_count > 1, seconds)
+        return follower.state
+
+    def test_while_others_write(self):
+        """It agrees, whatever is left out and whatever is written meanwhile."""
+        for options in ({}, {"schema": jackraisin.Schema(["city", "product"], ["cents"], ["count(*)"], grouping="rollup")}, {"schema": jackraisin.Schema(["city", "product"], ["cents"], ["max(cents)"], grouping=[["city", "product"], ["product"]])}):
+            with self.subTest(**options):
+                follower, ended = self.follower(**{"schema": self.schema, "verify": 0.05, **options}), threading.Event()
+
+                def write():
+                    with PRIVATE.connected() as cursor:
+                        for at in itertools.count():
+                            cursor.execute(f"UPDATE {self.table} SET cents = cents + {at}, city = 'city ' || {at} % 9, price = price + 0.01 WHERE id % 50 = {at} % 50")
+                            cursor.execute(f"DELETE FROM {self.table} WHERE id = {at} % 500; INSERT INTO {self.table} VALUES ({2000 + at}, 'York', 'tea', true, {at}, 1) ON CONFLICT DO NOTHING")
+                            # (no faster than a follower on a busy machine takes it)
+                            if ended.wait(0.02):
+                                return
+
+                writer = threading.Thread(target=write)
+                writer.start()
+                try:
+                    for _ in range(20 if LONG else 4):
+                        state = self.compared(follower)
+                        self.assertEqual((state.is_verified, state.differences, state.copies), (True, 0, 1))
+                finally:
+                    ended.set()
+                    writer.join()
+                    follower.close()
+
+    def test_what_differs(self):
+        """A row that is lost, one that is in a wrong group, and one with another measure are found out, and told."""
+        self.assertIsNone(self.follower(self.schema, verify=0, slot="jackraisin_never").state.is_verified)
+        for change, words in (
+            (lambda live: live.delete(1, "7"), "in all: the table has count(*) 501"), (lambda live: live.update(1, "7", {"product": "product 3"}, {}), "product 'product "),
+            (lambda live: live.update(1, "7", {"is_paid": "true"}, {}), "is_paid 'false'"), (lambda live: live.update(1, "7", {}, {"cents": 8}), "in all"),
+            (lambda live: live.insert(1, "1001", ["York", "tea", None], [None, 1]), "in all"),
+        ):
+            follower = self.follower(self.schema, verify=0.3)
+            with self.subTest(words), self.assertLogs("jackraisin.postgres", "ERROR") as told, postgres.Server(follower) as server:
+                with follower._lock:
+                    change(follower._mirror._live)
+                until(lambda: follower.state.differences == 1, SECONDS)
+                until(lambda: follower.state.is_caught_up and follower.state.copies == 2, SECONDS)
+                until(lambda: follower.state.is_verified, SECONDS)
+                self.assertIn('datacube_follower_verified{table="%s"} 1' % self.table, get(f"{server.address}metrics")[1])
+                self.assertIn('datacube_follower_differences_total{table="%s"} 1' % self.table, get(f"{server.address}metrics")[1])
+                self.assertEqual(get(f"{server.address}cube.csv")[2]["Datacube-Verified"], "1")
+            self.assertIn(f"the cube isn't that of table public.{self.table}: ", told.output[0])
+            self.assertIn(words, told.output[0])
+            self.assertEqual(follower.slice({})[0]["count(*)"], 501)
+            follower.close()
+        self.assertEqual(self.slots(), [("jackraisin_never",)])
+
+    def test_what_is_shown_of_it(self):
+        """Until a comparison agrees the page and the metrics say that one didn't."""
+        follower = self.follower(self.schema, verify=0.3)
+        usual = follower._conclude
+
+        def last(failure, difference):
+            follower._verify = 0 if difference else follower._verify
+            usual(failure, difference)
+
+        follower._conclude = last
+        with postgres.Server(follower) as server:
+            with follower._lock:
+                follower._mirror._live.delete(1, "7")
+            until(lambda: follower.state.is_caught_up and follower.state.copies == 2, SECONDS)
+            self.assertEqual(get(f"{server.address}cube.csv")[2]["Datacube-Verified"], "0")
+            self.assertIn('datacube_follower_verified{table="%s"} 0' % self.table, get(f"{server.address}metrics")[1])
+            with browser(self, PRIVATE.folder_for_others()) as driver:
+                driver.get(server.address)
+                about = lambda: driver.find_element("id", "about").text
+                until(lambda: "It differed from the table" in about(), SECONDS)
+                follower._verify = 0.3
+                until(lambda: "lines, as they are at" in about() and "differed" not in about(), SECONDS)
+
+    def test_a_command_that_differed(self):
+        """It ends with status 1, though what it serves is right again. (The row is taken from the table past the log.)"""
+        self.run_sql("CREATE EXTENSION IF NOT EXISTS pg_surgery", "DELETE FROM {table} WHERE id > 1000")
+        path = f"{PRIVATE.room}/{self.table}.toml"
+        with open(path, "w", encoding="utf-8") as out:
+            out.write(self.schema.toml())
+        command = Command("--dsn", PRIVATE.dsn, "--table", self.table, "--schema", path, "--verify", "0.3")
+        count = lambda: command.ask(r"slice,\A,\A,\A").splitlines()[1].split(",")[6]
+        self.assertEqual(count(), "500")
+        self.run_sql("SELECT heap_force_kill('{table}'::regclass, ARRAY(SELECT ctid FROM {table} WHERE id = 7))")
+        until(lambda: count() == "499", SECONDS)
+        self.assertEqual(command.end(), 1)
+        self.assertEqual(run("--table", "sales", "--schema", path, "--verify", "-1").returncode, 2)
+
+    def test_transactions_that_stay_open(self):
+        """They keep a comparison from its snapshot, and the follower takes what others commit."""
+        follower = self.follower(self.schema, verify=0.2)
+        with mock.patch("jackraisin.postgres._follower.SECONDS_TO_BEGIN", 0.2), PRIVATE.connected() as cursor:
+            cursor.execute(f"BEGIN; INSERT INTO {self.table} VALUES (3000, 'York', 'tea', true, 1, 1)")
+            with self.assertLogs("jackraisin.postgres", "INFO") as told:
+                until(lambda: told.output, SECONDS)
+            self.assertIn("transactions that stay open", told.output[0])
+            self.run_sql("INSERT INTO {table} VALUES (3001, 'York', 'tea', true, 1, 1)")
+            follower.catch_up(SECONDS)
+            self.assertEqual(follower.slice({})[0]["count(*)"], 502)
+            cursor.execute("COMMIT")
+        self.assertEqual(self.compared(follower).is_verified, True)
+
+    def test_a_table_that_is_written_anew_meanwhile(self):
+        """There is nothing to compare then, and nothing wrong."""
+        usual, statements = postgres._comparison.Comparison._totals, ["TRUNCATE {table}", "INSERT INTO {table} VALUES (1, 'York', 'tea', true, 1, 1)"]
+
+        def late(comparison, cursor, at):
+            self.run_sql(*statements)
+            statements.clear()
+            return usual(comparison, cursor, at)
+
+        follower = self.follower(self.schema, verify=0.2)
+        with mock.patch("jackraisin.postgres._comparison.Comparison._totals", late), self.assertLogs("jackraisin.postgres", "WARNING") as told:
+            self.assertEqual(self.compared(follower).differences, 0)
+        self.assertIn("written anew meanwhile", told.output[0])
+
+    def test_many_values(self):
+        """Of a dimension with too many, these aren't compared."""
+        with mock.patch("jackraisin.postgres._comparison.MOST_VALUES", 6):
+            follower = self.follower(self.schema, verify=0.2)
+            self.assertEqual(self.compared(follower).is_verified, True)
+            self.assertEqual(follower._large, {0})
+
+
 # what is done to a table and undone, in which the server refuses what it can; each statement is a transaction
 CHANGED_AND_BACK = {
     "no identity for a while": [

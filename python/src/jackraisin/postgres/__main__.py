@@ -8,8 +8,10 @@ http://127.0.0.1:PORT/, and /metrics for Prometheus, until it is interrupted.
 from __future__ import annotations
 
 import argparse
+import contextlib
 import csv
 import logging
+import math
 import os
 import select
 import signal
@@ -47,6 +49,11 @@ def parser() -> argparse.ArgumentParser:
         "--skip", nargs="?", choices=SKIPPING, const=SKIPPING[0], default=SKIPPING[0],
         help="whether rows with a measure that can't be said, as NaN, are left out, counted and told, or end it; always by default"
     )
+    asks.add_argument(
+        "--verify", type=seconds, metavar="SECONDS", default=600,
+        help="compare totals of the cube with the table's own each so many seconds, by default 600, or never by 0; where they differ the "
+        "table is copied again, and the status is 1 in the end",
+    )
     asks.add_argument("--slot", metavar="NAME", help=f"the replication slot, and the publication, by default {PREFIX}TABLE_OID; one of another prefix is never dropped")
     asks.add_argument("--publication", metavar="NAME", help="a publication that names the table, where the role may not make one")
     asks.add_argument("--drop", action="store_true", help="drop the slot and the publication of a follower that was killed, and end")
@@ -60,6 +67,13 @@ def names(text: str) -> List[str]:
     return next(csv.reader([text]), [])
 
 
+def seconds(text: str) -> float:
+    found = float(text)
+    if not 0 <= found < math.inf:
+        raise ValueError(text)
+    return found
+
+
 def scale(text: str) -> Tuple[str, int]:
     column, _, digits = text.rpartition("=")
     return column, int(digits)
@@ -68,7 +82,7 @@ def scale(text: str) -> Tuple[str, int]:
 def follower_of(given: argparse.Namespace) -> Follower:
     return Follower(
         given.dsn, given.table, given.schema, dimensions=given.dimensions, measures=given.measures, scale=dict(given.scale),
-        slot=given.slot, skip=given.skip == SKIPPING[0], publication=given.publication,
+        slot=given.slot, skip=given.skip == SKIPPING[0], publication=given.publication, verify=given.verify,
     )
 
 
@@ -140,15 +154,17 @@ def slot_of(connection: "Connection", table: str) -> str:
     return slot_name(found[1], found[0])
 
 
-def run(given: argparse.Namespace) -> None:
+def run(given: argparse.Namespace) -> int:
+    """Does what is asked, and gives the status: 1 where the cube was found not to be the table's."""
     if given.drop:
         drop(given.dsn, given.table, given.slot)
-        return
-    with follower_of(given) as follower:
+        return 0
+    with follower_of(given) as follower, contextlib.suppress(KeyboardInterrupt):
         if given.serve is None:
             answer(follower)
         else:
             serve(follower, given.serve, given.slice)
+    return int(follower.state.differences > 0)
 
 
 def take_signals() -> None:
@@ -173,13 +189,12 @@ def main(words: Optional[Sequence[str]] = None) -> int:
     logging.basicConfig(format="jackraisin.postgres: %(message)s", level=logging.INFO)
     take_signals()
     try:
-        run(given)
+        return run(given)
     except KeyboardInterrupt:
         return 0
     except (DatacubeError, OSError, OverflowError, psycopg2.Error) as why:
         print(f"jackraisin.postgres: {why}", file=sys.stderr)
         return 1
-    return 0
 
 
 if __name__ == "__main__":

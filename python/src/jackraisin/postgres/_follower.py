@@ -8,7 +8,7 @@ import tempfile
 import threading
 import time
 from dataclasses import dataclass, replace
-from typing import TYPE_CHECKING, Any, Callable, Deque, Iterator, Mapping, Optional, Sequence, Set, Tuple, TypeVar
+from typing import TYPE_CHECKING, Any, Callable, Deque, Iterator, Mapping, Optional, Sequence, Set, Tuple
 
 import psycopg2
 import psycopg2.errors
@@ -16,13 +16,14 @@ import psycopg2.errors
 from .._ask import Given
 from .._questions import Questions
 from .._schema import Schema, schema_of
+from ._comparison import Comparison
 from ._copy import FeedWriter, copy_table
 from ._errors import BeginAnew, CantFollow, NotCaughtUp
 from ._mirror import Mirror
 from ._publication import check_publication, drop_publication, fault_of, make_publication
 from ._running import Running
 from ._slot import (
-    TOLD, Place, cancel, check_server, connect, connect_to_replicate, drop_slot, lsn_text, make_slot, now_of, place_of, slot_name,
+    TOLD, AnyConnection, Place, cancel, check_server, connect, connect_to_replicate, drop_slot, lsn_text, make_slot, now_of, place_of, slot_name,
 )
 from ._stream import Stream, Transaction
 from ._table import Table, check_same, look, read_table, untold
@@ -31,11 +32,12 @@ from ._values import Rows
 if TYPE_CHECKING:
     from psycopg2.extensions import connection as Connection
 
-AnyConnection = TypeVar("AnyConnection", bound="Connection")
 # (how often the table's columns are looked at, and how long one wait for changes is)
 SECONDS_BETWEEN_LOOKS, SECONDS_TO_WAIT = 1.0, 0.2
 # (after which statements that the server is still at are cancelled)
 SECONDS_TO_END = 1.0
+# (how long nothing is taken at most, while a comparison gets its snapshot; and after how long one is begun again that got none)
+SECONDS_TO_BEGIN, SECONDS_AFTER_NONE = 2.0, 60.0
 FIRST_PAUSE, LONGEST_PAUSE = 0.1, 5.0
 # (classes of SQLSTATE: the connection is gone, the server has no room for one, the server is ending; a slot that is in use yet)
 OF_CONNECTIONS, IN_USE = ("08", "53", "57"), "55006"
@@ -46,7 +48,8 @@ class State:
     """How far a follower is. All that was committed before `lsn` is in the cube, and nothing after it; `behind` is by how
     many bytes of log the server was ahead at the last look, once a second. Before `looked` the table wasn't changed in a way
     that its log doesn't tell. `last_commit` is when the last transaction that was taken was committed, by the server's clock, in
-    seconds since 1970 began. All that was committed until `as_of`, a time of `time.monotonic`, is in the cube. `version` changes
+    seconds since 1970 began. `is_verified` says whether the cube had the table's totals when they were compared last, and
+    `differences` how often it hadn't. All that was committed until `as_of`, a time of `time.monotonic`, is in the cube. `version` changes
     where the cube does."""
 
     is_caught_up: bool = False
@@ -59,6 +62,8 @@ class State:
     transactions: int = 0
     changes: int = 0
     skipped: int = 0
+    differences: int = 0
+    is_verified: Optional[bool] = None
     last_commit: Optional[float] = None
     as_of: Optional[float] = None
     failure: Optional[BaseException] = None
@@ -91,7 +96,8 @@ class Follower(Questions, Running):
     how many decimals are taken: by 2 the numeric 3.50 is 350. A measure that the schema gives decimals takes a numeric as it is.
     A row with a measure that can't be said, as NaN, is left out, counted and told, or ends it where `skip` is false; a text of a
     dimension may be any. In what `ask` is given and gives, a text that begins with a backslash has one more. `slot` names the slot, and the publication with it; `publication`
-    one that is there, and names the table, where the role may make none.
+    one that is there, and names the table, where the role may make none. Each `verify` seconds the totals of the cube are compared
+    with the table's own, where that isn't 0; where they differ the table is copied again.
     The schema's `version` and `max_records` are of feeds, and don't matter here."""
 
     is_escaped = True
@@ -108,6 +114,7 @@ class Follower(Questions, Running):
         slot: Optional[str] = None,
         skip: bool = True,
         publication: Optional[str] = None,
+        verify: float = 600,
     ) -> None:
         given = schema_of(schema)
         # (version 2 can say that a value is kept)
@@ -123,6 +130,10 @@ class Follower(Questions, Running):
         self._table: Optional[Table] = None
         self._names: Sequence[str] = ()
         # (where the server's log ended, and when that was asked for, where the follower hasn't come to yet)
+        self._comparison: Optional[Comparison] = None
+        self._rows: Optional[Rows] = None
+        self._large: Set[int] = set()
+        self._verify, self._compared = verify, time.monotonic()
         self._ends: Deque[Tuple[int, float]] = collections.deque()
         self._connections: Set["Connection"] = set()
         self._ending = threading.Event()
@@ -264,7 +275,7 @@ class Follower(Questions, Running):
                 start, snapshot = make_slot(replication, slot)
                 self._has_slot = True
                 mirror, count, table = self._mirror_of(connection, snapshot, rows)
-            self._table, self._names = table, rows.names
+            self._table, self._names, self._rows, self._large = table, rows.names, rows, set()
             self._put_mirror(mirror)
             self._ends.clear()
             self._set(lsn=start, looked=start, copies=self._state.copies + 1, rows_copied=count, skipped=len(mirror.skipped.ids))
@@ -325,16 +336,70 @@ class Follower(Questions, Running):
             assert self.slot is not None
             stream = Stream(replication, self.slot, self.publication or self.slot, table, self._state.lsn)
             self._set(is_connected=True)
-            last_look = time.monotonic()
-            while not self._ending.is_set():
-                transaction = stream.next(SECONDS_TO_WAIT)
-                if transaction:
-                    self._take(transaction, connection)
-                self._arrive(max(self._state.lsn, stream.seen), target)
-                stream.confirm(self._state.lsn)
-                if time.monotonic() >= last_look + SECONDS_BETWEEN_LOOKS:
-                    self._look(connection)
-                    last_look = time.monotonic()
+            try:
+                self._take_all(stream, connection, target)
+            finally:
+                self._end_comparison()
+
+    def _take_all(self, stream: Stream, connection: "Connection", target: int) -> None:
+        """Takes what comes, and looks at the table between, until the end."""
+        last_look = time.monotonic()
+        while not self._ending.is_set():
+            self._begin_comparison()
+            transaction = stream.next(SECONDS_TO_WAIT)
+            self._compare(transaction.end if transaction else max(self._state.lsn, stream.seen), transaction is None)
+            if transaction:
+                self._take(transaction, connection)
+            self._arrive(max(self._state.lsn, stream.seen), target)
+            stream.confirm(self._state.lsn)
+            if time.monotonic() >= last_look + SECONDS_BETWEEN_LOOKS:
+                self._look(connection)
+                last_look = time.monotonic()
+
+    def _begin_comparison(self) -> None:
+        """Begins to compare the cube with the table, where it is time. Until the snapshot is there nothing is taken, so that the cube
+        isn't past it; that takes as long as the transactions that are open, so it may be given up."""
+        if not self._verify or self._comparison or not self._state.is_caught_up or time.monotonic() < self._compared + self._verify:
+            return
+        assert self._rows is not None
+        self._comparison = Comparison(self.dsn, self._rows, self.schema, self._large)
+        if not self._comparison.has_begun.wait(SECONDS_TO_BEGIN):
+            self._end_comparison()
+            self._compared += min(SECONDS_AFTER_NONE, self._verify)
+            TOLD.info("the cube isn't compared with the table now, since there are transactions that stay open")
+
+    def _compare(self, lsn: int, has_come: bool) -> None:
+        """Takes the totals of the cube for a comparison where it has come to the snapshot's place, or where the next transaction
+        would bring it past that; and says what came of a comparison."""
+        comparison = self._comparison
+        if comparison is None:
+            return
+        if comparison.lsn is not None and not comparison.is_taken and (lsn >= comparison.lsn if has_come else lsn > comparison.lsn):
+            with self._lock:
+                assert self._mirror is not None
+                comparison.take(self._mirror)
+        if comparison.is_over:
+            self._end_comparison()
+            self._conclude(comparison.failure, None if comparison.failure else comparison.difference())
+
+    def _conclude(self, failure: Optional[str], difference: Optional[str]) -> None:
+        """Says what came of a comparison; where the cube isn't the table's, that is copied again."""
+        if failure is not None:
+            TOLD.warning("the cube couldn't be compared with table %s: %s", self._table, failure)
+            return
+        self._set(is_verified=difference is None, differences=self._state.differences + (difference is not None))
+        if difference is not None:
+            TOLD.error(
+                "the cube isn't that of table %s: %s. That is a fault of the follower, or somebody changed the table past its log: report it",
+                self._table, difference,
+            )
+            raise BeginAnew("the cube isn't the table's")
+
+    def _end_comparison(self) -> None:
+        comparison, self._comparison = self._comparison, None
+        if comparison is not None:
+            self._compared = time.monotonic()
+            comparison.close()
 
     def _take(self, transaction: Transaction, connection: "Connection") -> None:
         """Makes the changes of a transaction, all between two questions. One that was there before the connection was lost comes

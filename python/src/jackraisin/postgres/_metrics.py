@@ -33,11 +33,16 @@ def of_state(table: str, state: State) -> Iterator[str]:
         "last_commit_time": (
             "When the last transaction that was taken was committed, by the server's clock, in seconds since 1970.", seconds(state.last_commit),
         ),
+        "verified": (
+            "1 where the totals of the cube were the table's when they were compared last, else 0.",
+            None if state.is_verified is None else int(state.is_verified),
+        ),
         "skipped": ("Rows of the table that are left out, since a measure of theirs can't be said.", state.skipped),
     }
     counters: Mapping[str, Tuple[str, Answer]] = {
         "transactions_total": ("Transactions that were taken.", state.transactions),
         "changes_total": ("Changes of rows that were taken.", state.changes),
+        "differences_total": ("Comparisons in which the totals of the cube weren't the table's.", state.differences),
         "copies_total": ("Copies of the table that were taken, one at the start.", state.copies),
     }
     for kind, metrics in (("gauge", gauges), ("counter", counters)):

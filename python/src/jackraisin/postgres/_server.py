@@ -97,6 +97,8 @@ class Handler(BaseHTTPRequestHandler):
             return
         name = self.follower.name.encode("ascii", "replace").decode()
         headers = {"ETag": tag, "Datacube-Table": name, "Datacube-Connected": str(int(state.is_connected)), "Datacube-Skipped": str(state.skipped)}
+        if state.is_verified is not None:
+            headers["Datacube-Verified"] = str(int(state.is_verified))
         self._send(HTTPStatus.OK if text else HTTPStatus.NOT_MODIFIED, "text/csv; charset=utf-8", text, headers)
 
     def _health(self) -> None:

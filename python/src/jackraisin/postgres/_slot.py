@@ -6,7 +6,7 @@ import logging
 import re
 import time
 from dataclasses import dataclass
-from typing import TYPE_CHECKING, Any, Iterator, Optional, Sequence, Tuple
+from typing import TYPE_CHECKING, Any, Iterator, Optional, Sequence, Tuple, TypeVar
 
 import psycopg2
 import psycopg2.errors
@@ -20,6 +20,7 @@ if TYPE_CHECKING:
     from psycopg2.extensions import connection as Connection
     from psycopg2.extras import LogicalReplicationConnection
 
+AnyConnection = TypeVar("AnyConnection", bound="Connection")
 TOLD = logging.getLogger("jackraisin.postgres")
 PLUGIN = "pgoutput"
 # (what a follower's own slots and publications are named by)
@@ -98,13 +99,13 @@ def check_server(connection: "Connection") -> None:
         raise CantFollow("the server is older than PostgreSQL 12")
 
 
-def make_slot(connection: "LogicalReplicationConnection", slot: str) -> Tuple[int, str]:
-    """Makes the slot; gives the LSN from which it tells, and the snapshot of that moment, which holds until the connection is
-    used again."""
+def make_slot(connection: "LogicalReplicationConnection", slot: str, is_temporary: bool = False) -> Tuple[int, str]:
+    """Makes the slot, which may be one that goes with its connection; gives the LSN from which it tells, and the snapshot of that
+    moment, which holds until the connection is used again."""
     cursor: Any
     with connection.cursor() as cursor:
         try:
-            cursor.create_replication_slot(slot, output_plugin=PLUGIN)
+            cursor.execute(f'CREATE_REPLICATION_SLOT "{slot}" {"TEMPORARY " if is_temporary else ""}LOGICAL "{PLUGIN}"')
         except psycopg2.errors.InsufficientPrivilege as why:
             raise CantFollow(f"the role may make no slot, for which it has to have ALTER ROLE .. REPLICATION. {why}") from None
         except psycopg2.errors.ConfigurationLimitExceeded as why:

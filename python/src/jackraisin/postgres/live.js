@@ -27,12 +27,14 @@
     if (answer.status !== 200 && answer.status !== 304) return warn(await answer.text());
     const name = answer.headers.get("Datacube-Table"), isConnected = answer.headers.get("Datacube-Connected") === "1";
     const skipped = Number(answer.headers.get("Datacube-Skipped"));
+    const differed = answer.headers.get("Datacube-Verified") === "0";
     if (answer.status === 200) await put(new File([await answer.blob()], name, { type: "text/csv" }));
     version = answer.headers.get("ETag");
     if (cube !== shown) return;
     by("about").textContent = `${name}: ${number(cube.count)} lines, ${isConnected ? "as they are at" : "of before the connection "
       + "to the database was lost; now it is"} ${new Date().toLocaleTimeString("en-GB")}${skipped
-      ? `, without ${number(skipped)} of the table's rows that no cube can have` : ""}`;
+      ? `, without ${number(skipped)} of the table's rows that no cube can have` : ""}${differed
+      ? ". It differed from the table, which was copied again, and hasn't been compared since" : ""}`;
     if (isWarned) tell("");
     isWarned = false;
   }
