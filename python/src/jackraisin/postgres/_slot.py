@@ -6,7 +6,7 @@ import logging
 import re
 import time
 from dataclasses import dataclass
-from typing import TYPE_CHECKING, Any, Iterator, Optional, Sequence, Tuple, TypeVar
+from typing import TYPE_CHECKING, Any, Dict, Iterator, Optional, Sequence, Tuple, TypeVar
 
 import psycopg2
 import psycopg2.errors
@@ -47,9 +47,26 @@ SELECT plugin, database = current_database(), active_pid FROM pg_replication_slo
 
 def dsn_of(dsn: str) -> str:
     """A connection string with the settings that a follower wants; what the caller says goes before."""
-    given = psycopg2.extensions.parse_dsn(dsn)
+    given = options_in(dsn)
     options = " ".join(it for it in (given.pop("options", ""), SETTINGS) if it)
     return str(psycopg2.extensions.make_dsn(**{**DEFAULTS, **given, "options": options, "client_encoding": "UTF8"}))
+
+
+def options_in(dsn: str) -> Dict[str, str]:
+    """What a connection string says. Where it can't be read, or where a part of its password would be taken for a host, libpq's own
+    error would show that part."""
+    try:
+        given: Dict[str, str] = psycopg2.extensions.parse_dsn(dsn)
+    except psycopg2.ProgrammingError:
+        raise CantFollow(
+            "the connection string can't be read. It isn't shown here, since it may have a password; in a URI % is written %25, and @ "
+            "of a password %40"
+        ) from None
+    # (a socket without a file has a name that begins so)
+    places = [*(it[1:] for it in given.get("host", "").split(",")), given.get("port", "")]
+    if any("@" in it for it in places):
+        raise CantFollow("the host or the port of the connection string has an @ in it: in a URI, @ of a password is written %40")
+    return given
 
 
 def connect(dsn: str) -> "Connection":
