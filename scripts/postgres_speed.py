@@ -8,7 +8,7 @@ make transactions of one row each, as fast as they go, in rounds with and withou
 first with commits that wait for the disk, then with `synchronous_commit = off`, which shows more of the processors' work. Then
 it makes 1,000 transactions a second, and a probe commits a sale to a city of its own and asks for that city's cell until
 the sale is in it: the time from the end of the commit to the end of the answer, 500 times. Needs Debian's packages
-postgresql, postgresql-15-wal2json and python3-psycopg2, which is of Debian's Python; where one isn't there, the status is 77.
+postgresql and python3-psycopg2, which is of Debian's Python; where one isn't there, the status is 77.
 """
 import argparse
 import contextlib
@@ -179,11 +179,11 @@ def main():
         import psycopg2
     except ImportError:
         psycopg2 = None
-    if not binaries or not psycopg2 or not sql.has_plugin(binaries):
-        print("Debian's packages postgresql, postgresql-15-wal2json and python3-psycopg2 aren't all there for this Python")
+    if not binaries or not psycopg2:
+        print("Debian's packages postgresql and python3-psycopg2 aren't both there for this Python")
         return 77
     folder = lambda: tempfile.TemporaryDirectory(prefix="datacube-speed-")
-    with folder() as room, folder() as ours, sql.Server(binaries, room, SETTINGS + sql.settings_for_plugin(binaries)) as server:
+    with folder() as room, folder() as ours, sql.Server(binaries, room, SETTINGS) as server:
         bench = Bench(server, ours, given.rows)
         for waits in (True, False):
             cost(bench, given.rounds, given.seconds, waits)

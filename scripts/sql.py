@@ -47,9 +47,6 @@ IN_COPY = str.maketrans({"\\": r"\\", "\n": r"\n", "\r": r"\r", "\t": r"\t"})
 SETTINGS = ["listen_addresses=", "autovacuum=off", "fsync=off", "synchronous_commit=off", "full_page_writes=off",
             "jit=off", "max_parallel_workers_per_gather=0", "work_mem=64MB"]
 
-# (the plugin that followers read, and what names those that a server lets be read, where it knows that)
-PLUGIN, LIBRARIES = "wal2json", "output_plugin_libraries"
-
 IS_NUMBER = r"""
 CREATE FUNCTION is_number(field text) RETURNS boolean IMMUTABLE LANGUAGE sql AS $$
     SELECT CASE
@@ -268,19 +265,6 @@ def newest_server():
     """The folder of the newest PostgreSQL's programs, or None."""
     found = sorted(glob.glob("/usr/lib/postgresql/*/bin/initdb"), key=lambda it: float(it.split("/")[4]))
     return os.path.dirname(found[-1]) if found else None
-
-
-def has_plugin(binaries):
-    """Whether a server has the output plugin that followers read."""
-    return os.path.exists(f"{os.path.dirname(binaries)}/lib/{PLUGIN}.so")
-
-
-def settings_for_plugin(binaries):
-    """What a server has to be told so that it lets followers have their plugin: nothing, where it doesn't know the setting."""
-    how = {"stdin": subprocess.DEVNULL, "stdout": subprocess.PIPE, "text": True, "check": True}
-    known = subprocess.run([f"{binaries}/postgres", "--describe-config"], **how).stdout
-    is_known = any(line.startswith(f"{LIBRARIES}\t") for line in known.splitlines())
-    return [f"{LIBRARIES}=pgoutput,test_decoding,{PLUGIN}"] if is_known else []
 
 
 class Server:

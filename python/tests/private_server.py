@@ -37,8 +37,18 @@ CREATE TABLE {table} (
 """
 FACTS = """
 CREATE OR REPLACE TEMP VIEW facts AS
-SELECT city, product::text, is_paid::text, (price * 100)::bigint AS price, cents FROM {table}
+SELECT {city}, {product}, is_paid::text, (price * 100)::bigint AS price, cents FROM {table}
 """
+
+
+def escaped(column: str) -> str:
+    """A column of texts in SQL, as a follower's cube has it: one that begins with a backslash has one more."""
+    return rf"CASE WHEN left({column}, 1) = '\' THEN '\' ELSE '' END || {column} AS {column}"
+
+
+def facts(table: str) -> str:
+    """The statement that makes the view of the writers' facts."""
+    return FACTS.format(table=table, city=escaped("city"), product=escaped("product"))
 
 
 def missing() -> Optional[str]:
@@ -48,11 +58,8 @@ def missing() -> Optional[str]:
             importlib.import_module(module)
         except ImportError:
             return f"{package} isn't installed for this Python"
-    binaries = sql.newest_server()
-    if not binaries:
+    if not sql.newest_server():
         return "Debian's package postgresql isn't installed"
-    if not sql.has_plugin(binaries):
-        return "Debian's package postgresql-15-wal2json isn't installed"
     if not has_loopback():
         return "127.0.0.1 can't be reached"
     return None if shutil.which("setpriv") else "there is no setpriv"
@@ -72,9 +79,7 @@ class Private:
 
     def __init__(self) -> None:
         self.room = tempfile.mkdtemp(prefix="pg-")
-        binaries = sql.newest_server()
-        self.settings_for_plugin = sql.settings_for_plugin(binaries)
-        self.server = sql.Server(binaries, self.room, SETTINGS + self.settings_for_plugin)
+        self.server = sql.Server(sql.newest_server(), self.room, SETTINGS)
         self.server.__enter__()
         self.dsn = f"host={self.room} user=datacube dbname=postgres"
 

@@ -14,7 +14,7 @@ import psycopg2
 import psycopg2.errors
 
 TEXTS = [
-    "York", "Leeds", "", " ", "tea, green", 'say "tea"', '"', "two\nlines", "end\r\n", "\r", "a\ttab", "\\", "\\N ", "n\\N", "\\\\N", "\\n", "\\.", "NULL",
+    "York", "Leeds", "", " ", "tea, green", 'say "tea"', '"', "two\nlines", "end\r\n", "\r", "a\ttab", "\\", "\\N", "\\=", "\\N ", "n\\N", "\\\\N", "\\n", "\\.", "NULL",
     "null", "ALL", "?", "=York", "\\A", "it's", "é", "e\u0301", "ß", "Ω", "Ёж", "שלום", "مرحبا", "汉字", "日本語", "한국어", "ไทย", "हिन्दी", "😀", "👩‍👩‍👧",
     "\ufeffmark", "\u2028", "\u0085", "\x01", "\x7f", "\uffff", "\U0010ffff", "x" * 40,
 ]

@@ -7,6 +7,7 @@ import io
 from typing import Final, Iterable, List, Literal, Mapping, Sequence, Tuple, TypeVar, Union
 
 from ._errors import Unsayable
+from ._records import escaped
 
 T = TypeVar("T")
 
@@ -66,15 +67,18 @@ def text_of(value: object, what: str) -> str:
     return value
 
 
-def fields_of(dimensions: Sequence[str], pattern: Pattern) -> List[str]:
-    """The fields that spell a pattern or a cell; ALL stands where a mapping has no name."""
+def fields_of(dimensions: Sequence[str], pattern: Pattern, is_escaped: bool = False) -> List[str]:
+    """The fields that spell a pattern or a cell, of a cube whose texts may be escaped; ALL stands where a mapping has no name."""
     others: List[Wanted] = [ALL]
-    return [field_of(*it) for it in zip(dimensions, in_order(dimensions, pattern, others, "dimension"))]
+    return [field_of(*it, is_escaped) for it in zip(dimensions, in_order(dimensions, pattern, others, "dimension"))]
 
 
-def field_of(name: str, wanted: Wanted) -> str:
+def field_of(name: str, wanted: Wanted, is_escaped: bool = False) -> str:
     """The field that spells a coordinate that is wanted of a dimension."""
-    return MARKS[wanted] if wanted in MARKS else "=" + text_of(wanted, f"dimension {name}")
+    if wanted in MARKS:
+        return MARKS[wanted]
+    text = text_of(wanted, f"dimension {name}")
+    return "=" + (escaped(text) if is_escaped else text)
 
 
 def word_of(fields: Iterable[str]) -> bytes:

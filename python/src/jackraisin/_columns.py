@@ -11,7 +11,7 @@ from typing import TYPE_CHECKING, Any, Callable, Dict, List, Optional, Sequence,
 
 from ._cells import ALL
 from ._numbers import Number, number_of, whole_of
-from ._records import GREATEST, LEAST, NULL, Columns, head_of, records_of, unreadable
+from ._records import GREATEST, LEAST, NULL, Columns, head_of, records_of, unescaped, unreadable
 
 if TYPE_CHECKING:
     import pandas
@@ -107,7 +107,7 @@ def frame_of(text: str, columns: Columns) -> "pandas.DataFrame":
     import pandas
 
     fields, count = fields_of(text, columns), len(columns.dimensions)
-    levels = [level_of(fields[at], fields[count + at]) for at in range(count)]
+    levels = [level_of(fields[at], fields[count + at], columns.is_escaped) for at in range(count)]
     answers = {at: answers_of(name, fields[2 * count + at]) for at, name in enumerate(columns.aggregates)}
     frame = pandas.DataFrame(answers)
     frame.index, frame.columns = pandas.MultiIndex.from_arrays(levels, names=columns.dimensions), pandas.Index(columns.aggregates)
@@ -164,7 +164,7 @@ def wholes_in(column: Any) -> Any:
     return pandas.arrays.IntegerArray(floats.astype("int64"), is_null)
 
 
-def level_of(texts: Any, marks: Any) -> Any:
+def level_of(texts: Any, marks: Any, is_escaped: bool) -> Any:
     """The coordinates of a dimension, of its texts and its marks: texts in their order, ALL behind them, and null missing."""
     import numpy
     import pandas
@@ -175,7 +175,9 @@ def level_of(texts: Any, marks: Any) -> Any:
     ordered = sorted(it for it in present if it != NULL)
     places = {it: at for at, it in enumerate(ordered)}
     codes = numpy.array([places.get(it, -1) for it in known] or [-1])[texts.codes]
-    return pandas.Categorical.from_codes(numpy.where(is_all, len(ordered), codes), [*ordered, ALL], ordered=True)
+    # (texts are in the same order when they are escaped)
+    shown = map(unescaped, ordered) if is_escaped else ordered
+    return pandas.Categorical.from_codes(numpy.where(is_all, len(ordered), codes), [*shown, ALL], ordered=True)
 
 
 def answers_of(aggregate: str, column: Any) -> Any:

@@ -15,7 +15,7 @@ from typing import TYPE_CHECKING, Any, Dict, Iterable, List, NamedTuple, Optiona
 from . import _columns, _numbers, _show, _views
 from ._cells import ALL, Cell, Coordinate, Key, Pattern, in_order
 from ._program import Path
-from ._records import NULL, Columns, head_of, lines_of, records_of, unreadable
+from ._records import NULL, Columns, head_of, lines_of, records_of, unescaped, unreadable
 
 if TYPE_CHECKING:
     import pandas
@@ -45,18 +45,19 @@ class Row:
 
 class Cube(Sequence[Row]):
     """The rows of a cube, or of a part of it, in key order. `refused` says whether lines of the feeds were refused; it is
-    None in a session, and of merged cubes."""
+    None in a session, and of merged cubes. In a text that `is_escaped`, as a follower's is, a text of a dimension that begins with
+    a backslash has one more, which its rows and columns don't have."""
 
-    def __init__(self, text: str, refused: Optional[bool] = None) -> None:
+    def __init__(self, text: str, refused: Optional[bool] = None, *, is_escaped: bool = False) -> None:
         self.text, self.refused = text, refused
-        self._columns = Columns(head_of(text)[0])
+        self._columns = Columns(head_of(text)[0], is_escaped)
 
     @classmethod
-    def read(cls, path: Path) -> "Cube":
+    def read(cls, path: Path, *, is_escaped: bool = False) -> "Cube":
         """The cube of a file that has a printed one."""
         with open(os.fspath(path), encoding="utf-8", newline="") as file:
             try:
-                return cls(file.read())
+                return cls(file.read(), is_escaped=is_escaped)
             except UnicodeDecodeError:
                 raise unreadable("it isn't UTF-8") from None
 
@@ -143,7 +144,7 @@ class Cube(Sequence[Row]):
     def _part(self, places: Iterable[int]) -> "Cube":
         """The rows at some places, in their order, with the text that they have."""
         head, *lines = lines_of(self.text)
-        return Cube("".join([head, *(lines[it] for it in places)]), self.refused)
+        return Cube("".join([head, *(lines[it] for it in places)]), self.refused, is_escaped=self._columns.is_escaped)
 
     def to_csv(self, path: Optional[Path] = None) -> Optional[str]:
         """The text as the program prints it: it is written to a file, or given where no path is."""
@@ -156,7 +157,7 @@ class Cube(Sequence[Row]):
     def show(self, path: Optional[Path] = None, *, browser: bool = True) -> str:
         """Opens the cube in the explorer, a page in the browser, and gives the path of the page: a new file in the folder for
         temporary files, or the one that is named. It has the whole cube, asks nobody for anything, and is yours to delete."""
-        page = _show.page_with(self.text, "cube.csv")
+        page = _show.page_with(self.text, "cube.csv", self._columns.is_escaped)
         path = _show.new_file() if path is None else os.path.abspath(os.fspath(path))
         with open(path, "w", encoding="utf-8") as out:
             out.write(page)
@@ -184,13 +185,20 @@ def row_of(columns: Columns, record: List[str]) -> Row:
     """The row that a record says."""
     count = len(columns.dimensions)
     columns.checked(record)
-    key = tuple(map(coordinate_of, record[:count], record[count : 2 * count]))
+    read = escaped_coordinate_of if columns.is_escaped else coordinate_of
+    key = tuple(map(read, record[:count], record[count : 2 * count]))
     return Row(key, tuple(map(answer_of, columns.aggregates, record[2 * count :])), columns)
 
 
 def coordinate_of(text: str, mark: str) -> Coordinate:
     """The coordinate that a text says with its GROUPING column."""
     return ALL if mark == "1" else None if text == NULL else text
+
+
+def escaped_coordinate_of(text: str, mark: str) -> Coordinate:
+    """The same in a cube whose texts are escaped."""
+    coordinate = coordinate_of(text, mark)
+    return unescaped(coordinate) if isinstance(coordinate, str) else coordinate
 
 
 def answer_of(aggregate: str, text: str) -> Answer:

@@ -19,10 +19,22 @@ LONGEST = 2**31 - 1
 LIMIT = threading.RLock()
 
 
-class Columns:
-    """The names of a printed cube's columns."""
+def escaped(text: str) -> str:
+    """A text in a cube whose texts are escaped: one that begins with a backslash has one more, so that none is what means null, or
+    that a value is kept."""
+    return "\\" + text if text.startswith("\\") else text
 
-    def __init__(self, head: Sequence[str]) -> None:
+
+def unescaped(text: str) -> str:
+    """The text that is so escaped."""
+    return text[1:] if text.startswith("\\") else text
+
+
+class Columns:
+    """The names of a printed cube's columns, and whether its texts are escaped."""
+
+    def __init__(self, head: Sequence[str], is_escaped: bool = False) -> None:
+        self.is_escaped = is_escaped
         count = dimensions_in(head)
         self.width = len(head)
         self.dimensions: Tuple[str, ...] = tuple(head[:count])

@@ -13,7 +13,7 @@ PAGES = [os.path.join(HERE, "postgres", "explorer.html"), os.path.join(HERE, *["
 END = "</body>"
 
 
-def page_with(text: str, name: str) -> str:
+def page_with(text: str, name: str, is_escaped: bool = False) -> str:
     """The explorer with a script at its end that opens a printed cube, which is a text in it and nothing else."""
     path = next((it for it in PAGES if os.path.exists(it)), None)
     if path is None:
@@ -22,7 +22,8 @@ def page_with(text: str, name: str) -> str:
         start, end = file.read().rsplit(END, 1)
     # (no letter of it ends the script, or begins a comment)
     quoted, called = (json.dumps(it).replace("<", "\\u003c") for it in (text, name))
-    return f'{start}<script>\nopen(new File([{quoted}], {called}, {{ type: "text/csv" }}));\n</script>\n{END}{end}'
+    how = ", true" if is_escaped else ""
+    return f'{start}<script>\nopen(new File([{quoted}], {called}, {{ type: "text/csv" }}){how});\n</script>\n{END}{end}'
 
 
 def new_file() -> str:

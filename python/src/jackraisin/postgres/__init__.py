@@ -6,7 +6,7 @@
         follower.wait()
         follower.slice({"city": "York"})[0]["sum(cents)"]
 
-`python -m jackraisin.postgres` is the same as a command. It needs psycopg2, and in the server the output plugin wal2json.
+`python -m jackraisin.postgres` is the same as a command. It needs psycopg2, and nothing that isn't the server's own.
 """
 try:
     import psycopg2

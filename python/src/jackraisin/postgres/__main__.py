@@ -2,13 +2,16 @@
 
 Without --serve, questions are read from standard input as `datacube live` reads them (print, slice, drill, rollup), and
 answered so, after the follower has caught up; the end of the input ends it. Every answer is over all transactions until
-some commit. With --serve there is a page at http://127.0.0.1:PORT/, and /metrics for Prometheus, until it is interrupted.
+some commit. In both a text that begins with a backslash has one more, so that \\N is null alone. With --serve there is a page at
+http://127.0.0.1:PORT/, and /metrics for Prometheus, until it is interrupted.
 """
 from __future__ import annotations
 
 import argparse
+import contextlib
 import csv
 import logging
+import math
 import os
 import select
 import signal
@@ -30,6 +33,7 @@ if TYPE_CHECKING:
     from psycopg2.extensions import connection as Connection
 
 SECONDS_BETWEEN_LOOKS = 0.2
+SKIPPING = "always", "never"
 ENDING = signal.SIGTERM, signal.SIGHUP
 
 
@@ -41,7 +45,15 @@ def parser() -> argparse.ArgumentParser:
     asks.add_argument("--dimensions", type=names, metavar="NAMES", help="its columns for the dimensions of the schema, by default those of the same names")
     asks.add_argument("--measures", type=names, metavar="NAMES", help="its columns for the measures of the schema, likewise")
     asks.add_argument("--scale", type=scale, action="append", default=[], metavar="COLUMN=N", help="take N decimals of a numeric: 3.50 is 350 by 2")
-    asks.add_argument("--skip", action="store_true", help="leave rows out that can't be said, and count them")
+    asks.add_argument(
+        "--skip", nargs="?", choices=SKIPPING, const=SKIPPING[0], default=SKIPPING[0],
+        help="whether rows with a measure that can't be said, as NaN, are left out, counted and told, or end it; always by default"
+    )
+    asks.add_argument(
+        "--verify", type=seconds, metavar="SECONDS", default=600,
+        help="compare totals of the cube with the table's own each so many seconds, by default 600, or never by 0; where they differ the "
+        "table is copied again, and the status is 1 in the end",
+    )
     asks.add_argument("--slot", metavar="NAME", help=f"the replication slot, and the publication, by default {PREFIX}TABLE_OID; one of another prefix is never dropped")
     asks.add_argument("--publication", metavar="NAME", help="a publication that names the table, where the role may not make one")
     asks.add_argument("--drop", action="store_true", help="drop the slot and the publication of a follower that was killed, and end")
@@ -55,6 +67,13 @@ def names(text: str) -> List[str]:
     return next(csv.reader([text]), [])
 
 
+def seconds(text: str) -> float:
+    found = float(text)
+    if not 0 <= found < math.inf:
+        raise ValueError(text)
+    return found
+
+
 def scale(text: str) -> Tuple[str, int]:
     column, _, digits = text.rpartition("=")
     return column, int(digits)
@@ -63,7 +82,7 @@ def scale(text: str) -> Tuple[str, int]:
 def follower_of(given: argparse.Namespace) -> Follower:
     return Follower(
         given.dsn, given.table, given.schema, dimensions=given.dimensions, measures=given.measures, scale=dict(given.scale),
-        slot=given.slot, skip=given.skip, publication=given.publication,
+        slot=given.slot, skip=given.skip == SKIPPING[0], publication=given.publication, verify=given.verify,
     )
 
 
@@ -135,15 +154,17 @@ def slot_of(connection: "Connection", table: str) -> str:
     return slot_name(found[1], found[0])
 
 
-def run(given: argparse.Namespace) -> None:
+def run(given: argparse.Namespace) -> int:
+    """Does what is asked, and gives the status: 1 where the cube was found not to be the table's."""
     if given.drop:
         drop(given.dsn, given.table, given.slot)
-        return
-    with follower_of(given) as follower:
+        return 0
+    with follower_of(given) as follower, contextlib.suppress(KeyboardInterrupt):
         if given.serve is None:
             answer(follower)
         else:
             serve(follower, given.serve, given.slice)
+    return int(follower.state.differences > 0)
 
 
 def take_signals() -> None:
@@ -168,13 +189,12 @@ def main(words: Optional[Sequence[str]] = None) -> int:
     logging.basicConfig(format="jackraisin.postgres: %(message)s", level=logging.INFO)
     take_signals()
     try:
-        run(given)
+        return run(given)
     except KeyboardInterrupt:
         return 0
     except (DatacubeError, OSError, OverflowError, psycopg2.Error) as why:
         print(f"jackraisin.postgres: {why}", file=sys.stderr)
         return 1
-    return 0
 
 
 if __name__ == "__main__":

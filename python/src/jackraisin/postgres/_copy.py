@@ -3,22 +3,23 @@ from __future__ import annotations
 
 import csv
 import io
-from typing import TYPE_CHECKING, Iterable, Set, TextIO
+from dataclasses import replace
+from typing import TYPE_CHECKING, Iterable, TextIO
 
 from psycopg2 import sql
 
 from ._errors import BeginAnew, RowUnsayable
 from ._slot import snapshot_of
 from ._table import Table, look
-from ._values import Rows, row_of
+from ._values import Rows, Skipped, row_of
 
 if TYPE_CHECKING:
     from psycopg2.extensions import connection as Connection
 
 
 class FeedWriter(io.RawIOBase):
-    """Takes the rows that COPY sends, a line each, and writes them as a feed. `left_out` has the ids of those that can't be
-    said, where they are skipped."""
+    """Takes the rows that COPY sends, a line each, and writes them as a feed. `skipped` has those that can't be said, where they may be
+    skipped."""
 
     def __init__(self, rows: Rows, header: Iterable[str], out: TextIO, skip: bool) -> None:
         super().__init__()
@@ -26,32 +27,35 @@ class FeedWriter(io.RawIOBase):
         self._names = rows.names
         self._records.writerow(["op", "id", *header])
         self.count = 0
-        self.left_out: Set[str] = set()
+        self.skipped = Skipped()
 
     def write(self, line: bytes) -> int:  # type: ignore[override]
         values = dict(zip(self._names, row_of(bytes(line).decode("utf-8")[:-1])))
         self.count += 1
         try:
             self._records.writerow(["I", self._rows.id_of(values), *self._rows.fields_of(values)])
-        except RowUnsayable:
+        except RowUnsayable as why:
             if not self._skip:
                 raise
-            self.left_out.add(self._rows.id_of(values))
+            self.skipped.add(self._rows.id_of(values), why)
         return len(line)
 
 
 def copy_table(connection: "Connection", snapshot: str, rows: Rows, writer: FeedWriter) -> Table:
-    """Copies the rows of a snapshot into a feed, and gives the table as it is there. Raises `BeginAnew` where the table isn't there what it was when it was looked
-    at, or where its rows were written anew since, for then a snapshot of before may see none of them (of TRUNCATE, and of some
-    forms of ALTER TABLE)."""
+    """Copies the rows of a snapshot into a feed, and gives the table as it is there. Raises `BeginAnew` where the table isn't there
+    what it was when it was looked at, or where its rows were written anew since, for then a snapshot of before may see none of
+    them (of TRUNCATE, and of some forms of ALTER TABLE)."""
     name, columns = sql.Identifier(rows.table.schema, rows.table.name), sql.SQL(", ").join(map(sql.Identifier, rows.names))
+    # (the rows of a partitioned table lie in its partitions)
+    only = sql.SQL("ONLY ") if rows.table.partitions is None else sql.SQL("")
     with snapshot_of(connection, snapshot) as cursor:
         then = look(cursor, rows.table.oid)
-        if then is None or then != rows.table:
-            raise BeginAnew(f"table {rows.table} was altered while its copy began")
-        cursor.copy_expert(sql.SQL("COPY (SELECT {} FROM ONLY {}) TO STDOUT").format(columns, name), writer)
+        # (the publication was made since)
+        if then is None or then != replace(rows.table, publications=then.publications):
+            raise BeginAnew(f"table {rows.table} was altered before its copy began")
+        cursor.copy_expert(sql.SQL("COPY (SELECT {} FROM {}{}) TO STDOUT").format(columns, only, name), writer)
     with connection.cursor() as cursor:
         now = look(cursor, rows.table.oid)
-    if now is None or now.file != rows.table.file:
+    if now is None or now.file != then.file or now.partitions != then.partitions:
         raise BeginAnew(f"the rows of table {rows.table} were written anew while they were copied")
     return then

@@ -12,6 +12,13 @@ class ColumnsChanged(CantFollow):
     """The columns of the table aren't those that the follower began with."""
 
 
+class BadMessage(CantFollow):
+    """What the server sent is no message of its output plugin."""
+
+    def __str__(self) -> str:
+        return f"the server sent a message that can't be read: {super().__str__()}"
+
+
 class RowUnsayable(CantFollow, Unsayable):
     """A row that no feed can say: its table, its key and the column."""
 

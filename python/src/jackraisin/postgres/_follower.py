@@ -1,13 +1,14 @@
 """A cube that is kept as a table is."""
 from __future__ import annotations
 
+import collections
 import contextlib
 import os
 import tempfile
 import threading
 import time
 from dataclasses import dataclass, replace
-from typing import TYPE_CHECKING, Any, Callable, Dict, Iterator, Mapping, Optional, Sequence, Set, Tuple, TypeVar
+from typing import TYPE_CHECKING, Any, Callable, Deque, Iterator, Mapping, Optional, Sequence, Set, Tuple
 
 import psycopg2
 import psycopg2.errors
@@ -15,27 +16,28 @@ import psycopg2.errors
 from .._ask import Given
 from .._questions import Questions
 from .._schema import Schema, schema_of
+from ._comparison import Comparison
 from ._copy import FeedWriter, copy_table
 from ._errors import BeginAnew, CantFollow, NotCaughtUp
 from ._mirror import Mirror
 from ._publication import check_publication, drop_publication, fault_of, make_publication
 from ._running import Running
 from ._slot import (
-    LIBRARIES, TOLD, Place, cancel, check_server, connect, connect_to_replicate, drop_slot, lsn_text, make_slot, not_allowed, now_of,
-    place_of, slot_name,
+    TOLD, AnyConnection, Place, cancel, check_server, connect, connect_to_replicate, drop_slot, lsn_text, make_slot, now_of, place_of, slot_name,
 )
 from ._stream import Stream, Transaction
-from ._table import Table, check_same, look, read_table, trace_of
+from ._table import Table, check_same, look, read_table, untold
 from ._values import Rows
 
 if TYPE_CHECKING:
     from psycopg2.extensions import connection as Connection
 
-AnyConnection = TypeVar("AnyConnection", bound="Connection")
 # (how often the table's columns are looked at, and how long one wait for changes is)
 SECONDS_BETWEEN_LOOKS, SECONDS_TO_WAIT = 1.0, 0.2
 # (after which statements that the server is still at are cancelled)
 SECONDS_TO_END = 1.0
+# (how long nothing is taken at most, while a comparison gets its snapshot; and after how long one is begun again that got none)
+SECONDS_TO_BEGIN, SECONDS_AFTER_NONE = 2.0, 60.0
 FIRST_PAUSE, LONGEST_PAUSE = 0.1, 5.0
 # (classes of SQLSTATE: the connection is gone, the server has no room for one, the server is ending; a slot that is in use yet)
 OF_CONNECTIONS, IN_USE = ("08", "53", "57"), "55006"
@@ -45,7 +47,10 @@ OF_CONNECTIONS, IN_USE = ("08", "53", "57"), "55006"
 class State:
     """How far a follower is. All that was committed before `lsn` is in the cube, and nothing after it; `behind` is by how
     many bytes of log the server was ahead at the last look, once a second. Before `looked` the table wasn't changed in a way
-    that its log doesn't tell. `version` changes where the cube does."""
+    that its log doesn't tell. `last_commit` is when the last transaction that was taken was committed, by the server's clock, in
+    seconds since 1970 began. `is_verified` says whether the cube had the table's totals when they were compared last, and
+    `differences` how often it hadn't. All that was committed until `as_of`, a time of `time.monotonic`, is in the cube. `version` changes
+    where the cube does."""
 
     is_caught_up: bool = False
     is_connected: bool = False
@@ -56,12 +61,22 @@ class State:
     rows_copied: int = 0
     transactions: int = 0
     changes: int = 0
-    left_out: int = 0
+    skipped: int = 0
+    differences: int = 0
+    is_verified: Optional[bool] = None
+    last_commit: Optional[float] = None
+    as_of: Optional[float] = None
     failure: Optional[BaseException] = None
 
     @property
     def lsn_text(self) -> str:
         return lsn_text(self.lsn)
+
+    @property
+    def behind_seconds(self) -> Optional[float]:
+        """How long ago the moment is whose commits are all in the cube: it is behind by so many seconds at most, also where the
+        connection is lost. None before the follower has caught up for the first time."""
+        return None if self.as_of is None else time.monotonic() - self.as_of
 
     @property
     def version(self) -> Tuple[int, int]:
@@ -79,9 +94,13 @@ class Follower(Questions, Running):
 
     `dimensions` and `measures` are the columns for those of the schema, where their names differ. `scale` says of a column
     how many decimals are taken: by 2 the numeric 3.50 is 350. A measure that the schema gives decimals takes a numeric as it is.
-    With `skip` rows that can't be said are left out and counted. `slot` names the slot, and the publication with it; `publication`
-    one that is there, and names the table, where the role may make none.
+    A row with a measure that can't be said, as NaN, is left out, counted and told, or ends it where `skip` is false; a text of a
+    dimension may be any. In what `ask` is given and gives, a text that begins with a backslash has one more. `slot` names the slot, and the publication with it; `publication`
+    one that is there, and names the table, where the role may make none. Each `verify` seconds the totals of the cube are compared
+    with the table's own, where that isn't 0; where they differ the table is copied again.
     The schema's `version` and `max_records` are of feeds, and don't matter here."""
+
+    is_escaped = True
 
     def __init__(
         self,
@@ -93,8 +112,9 @@ class Follower(Questions, Running):
         measures: Optional[Sequence[str]] = None,
         scale: Optional[Mapping[str, int]] = None,
         slot: Optional[str] = None,
-        skip: bool = False,
+        skip: bool = True,
         publication: Optional[str] = None,
+        verify: float = 600,
     ) -> None:
         given = schema_of(schema)
         # (version 2 can say that a value is kept)
@@ -107,9 +127,14 @@ class Follower(Questions, Running):
         self._state = State()
         self._mirror: Optional[Mirror] = None
         self._has_slot = self._has_publication = False
-        self._table: Table
-        self._seen: Optional[Tuple[Table, int, int]] = None
-        self._truncated: Dict[str, int] = {}
+        self._table: Optional[Table] = None
+        self._names: Sequence[str] = ()
+        # (where the server's log ended, and when that was asked for, where the follower hasn't come to yet)
+        self._comparison: Optional[Comparison] = None
+        self._rows: Optional[Rows] = None
+        self._large: Set[int] = set()
+        self._verify, self._compared = verify, time.monotonic()
+        self._ends: Deque[Tuple[int, float]] = collections.deque()
         self._connections: Set["Connection"] = set()
         self._ending = threading.Event()
         self._thread = threading.Thread(target=self._run, name="datacube follower", daemon=True)
@@ -150,12 +175,19 @@ class Follower(Questions, Running):
     def catch_up(self, seconds: Optional[float] = None) -> State:
         """Waits until all that is committed now is in the cube. Where the table was altered since the last look, it waits for the
         next one, which may lead to a new copy."""
-        with contextlib.closing(connect(self.dsn)) as connection, connection.cursor() as cursor:
+        with contextlib.closing(connect(self.dsn)) as connection:
             lsn = now_of(connection)
             state = self.wait_for(lsn, seconds)
-            if trace_of(cursor, self._table.oid) == self._table.trace:
+            if self._is_as_looked(connection):
                 return state
         return self._wait(lambda it: it.is_caught_up and it.lsn >= lsn and it.looked >= lsn, seconds)
+
+    def _is_as_looked(self, connection: "Connection") -> bool:
+        """Whether nobody touched the table since the last look."""
+        table = self._table
+        with connection.cursor() as cursor, contextlib.suppress(CantFollow):
+            return table is not None and look(cursor, table.oid) == table
+        return False
 
     def ask(self, question: str, *fields: str) -> str:
         """The text that answers a question of a session: `print`, or `slice` with a field for each dimension."""
@@ -187,7 +219,7 @@ class Follower(Questions, Running):
         try:
             self._follow_copies()
         except psycopg2.Error as why:
-            failure = not_allowed(why) if LIBRARIES in str(why) else CantFollow(text_of_error(why))
+            failure = CantFollow(text_of_error(why))
         except BaseException as why:
             failure = why
         self._set(is_connected=False)
@@ -232,30 +264,40 @@ class Follower(Questions, Running):
         slot is, and the LSN at which the follower has caught up."""
         with self._open(connect(self.dsn)) as connection:
             check_server(connection)
-            with connection.cursor() as cursor:
-                table = read_table(cursor, self.name)
+            table = self._found(connection)
             rows = Rows(table, self.schema, *self._columns)
             slot = self.slot = self.slot or slot_name(table.name, table.oid)
             with self._open(connect_to_replicate(self.dsn)) as replication:
                 place = place_of(replication)
                 drop_slot(connection, slot, self._has_slot)
-                self._publish(connection, slot, table)
+                self._publish(connection, slot, rows)
                 TOLD.info("making the slot %s, which waits for the transactions that are open", slot)
                 start, snapshot = make_slot(replication, slot)
                 self._has_slot = True
                 mirror, count, table = self._mirror_of(connection, snapshot, rows)
-            self._table, self._seen, self._truncated = table, None, {}
+            self._table, self._names, self._rows, self._large = table, rows.names, rows, set()
             self._put_mirror(mirror)
-            self._set(lsn=start, looked=start, copies=self._state.copies + 1, rows_copied=count, left_out=len(mirror.left_out))
-            TOLD.info("copied %d rows of table %s, of which %d were left out", count, table, len(mirror.left_out))
-            return place, now_of(connection)
+            self._ends.clear()
+            self._set(lsn=start, looked=start, copies=self._state.copies + 1, rows_copied=count, skipped=len(mirror.skipped.ids))
+            TOLD.info("copied %d rows of table %s, of which %d were left out", count, table, len(mirror.skipped.ids))
+            return place, self._end_of(connection)
 
-    def _publish(self, connection: "Connection", name: str, table: Table) -> None:
+    def _found(self, connection: "Connection") -> Table:
+        """The table as it is now: that of the name, and from the first copy on that of its number, whatever its name is."""
+        with connection.cursor() as cursor:
+            if self._table is None:
+                return read_table(cursor, self.name)
+            now = look(cursor, self._table.oid)
+        check_same(self._table, now, self._names)
+        assert now is not None
+        return now
+
+    def _publish(self, connection: "Connection", name: str, rows: Rows) -> None:
         """Sees that the table has a publication: the one that was given, or one that this follower makes."""
         if self.publication is not None:
-            check_publication(connection, self.publication, table)
+            check_publication(connection, self.publication, rows.table, rows.names)
         else:
-            self._has_publication |= make_publication(connection, name, table)
+            self._has_publication |= make_publication(connection, name, rows.table, rows.names)
 
     def _mirror_of(self, connection: "Connection", snapshot: str, rows: Rows) -> Tuple[Mirror, int, Table]:
         """A session with the rows of a snapshot, their number, and the table as it is there."""
@@ -264,7 +306,7 @@ class Follower(Questions, Running):
             with open(path, "w", encoding="utf-8", newline="") as out:
                 writer = FeedWriter(rows, [*self.schema.dimensions, *self.schema.measures], out, self.skip)
                 table = copy_table(connection, snapshot, rows, writer)
-            return Mirror(rows, self.schema, path, writer.left_out, self.skip), writer.count, table
+            return Mirror(rows, self.schema, path, writer.skipped, self.skip), writer.count, table
 
     def _follow(self, place: Place, target: int) -> None:
         """Takes the changes behind the slot, over as many connections as it takes."""
@@ -290,21 +332,74 @@ class Follower(Questions, Running):
         with self._open(connect(self.dsn)) as connection, self._open(connect_to_replicate(self.dsn)) as replication:
             if place_of(replication) != place:
                 raise BeginAnew("the server is another one, or was set back")
-            self._look(connection)
+            table = self._look(connection)
             assert self.slot is not None
-            stream = Stream(replication, self.slot, self._table, self._state.lsn)
+            stream = Stream(replication, self.slot, self.publication or self.slot, table, self._state.lsn)
             self._set(is_connected=True)
-            last_look = time.monotonic()
-            while not self._ending.is_set():
-                transaction = stream.next(SECONDS_TO_WAIT)
-                if transaction:
-                    self._take(transaction, connection)
-                self._arrive(max(self._state.lsn, stream.seen), target)
-                self._judge()
-                stream.confirm(self._state.lsn)
-                if time.monotonic() >= last_look + SECONDS_BETWEEN_LOOKS:
-                    self._look(connection)
-                    last_look = time.monotonic()
+            try:
+                self._take_all(stream, connection, target)
+            finally:
+                self._end_comparison()
+
+    def _take_all(self, stream: Stream, connection: "Connection", target: int) -> None:
+        """Takes what comes, and looks at the table between, until the end."""
+        last_look = time.monotonic()
+        while not self._ending.is_set():
+            self._begin_comparison()
+            transaction = stream.next(SECONDS_TO_WAIT)
+            self._compare(transaction.end if transaction else max(self._state.lsn, stream.seen), transaction is None)
+            if transaction:
+                self._take(transaction, connection)
+            self._arrive(max(self._state.lsn, stream.seen), target)
+            stream.confirm(self._state.lsn)
+            if time.monotonic() >= last_look + SECONDS_BETWEEN_LOOKS:
+                self._look(connection)
+                last_look = time.monotonic()
+
+    def _begin_comparison(self) -> None:
+        """Begins to compare the cube with the table, where it is time. Until the snapshot is there nothing is taken, so that the cube
+        isn't past it; that takes as long as the transactions that are open, so it may be given up."""
+        if not self._verify or self._comparison or not self._state.is_caught_up or time.monotonic() < self._compared + self._verify:
+            return
+        assert self._rows is not None
+        self._comparison = Comparison(self.dsn, self._rows, self.schema, self._large)
+        if not self._comparison.has_begun.wait(SECONDS_TO_BEGIN):
+            self._end_comparison()
+            self._compared += min(SECONDS_AFTER_NONE, self._verify)
+            TOLD.info("the cube isn't compared with the table now, since there are transactions that stay open")
+
+    def _compare(self, lsn: int, has_come: bool) -> None:
+        """Takes the totals of the cube for a comparison where it has come to the snapshot's place, or where the next transaction
+        would bring it past that; and says what came of a comparison."""
+        comparison = self._comparison
+        if comparison is None:
+            return
+        if comparison.lsn is not None and not comparison.is_taken and (lsn >= comparison.lsn if has_come else lsn > comparison.lsn):
+            with self._lock:
+                assert self._mirror is not None
+                comparison.take(self._mirror)
+        if comparison.is_over:
+            self._end_comparison()
+            self._conclude(comparison.failure, None if comparison.failure else comparison.difference())
+
+    def _conclude(self, failure: Optional[str], difference: Optional[str]) -> None:
+        """Says what came of a comparison; where the cube isn't the table's, that is copied again."""
+        if failure is not None:
+            TOLD.warning("the cube couldn't be compared with table %s: %s", self._table, failure)
+            return
+        self._set(is_verified=difference is None, differences=self._state.differences + (difference is not None))
+        if difference is not None:
+            TOLD.error(
+                "the cube isn't that of table %s: %s. That is a fault of the follower, or somebody changed the table past its log: report it",
+                self._table, difference,
+            )
+            raise BeginAnew("the cube isn't the table's")
+
+    def _end_comparison(self) -> None:
+        comparison, self._comparison = self._comparison, None
+        if comparison is not None:
+            self._compared = time.monotonic()
+            comparison.close()
 
     def _take(self, transaction: Transaction, connection: "Connection") -> None:
         """Makes the changes of a transaction, all between two questions. One that was there before the connection was lost comes
@@ -314,12 +409,10 @@ class Follower(Questions, Running):
         assert self._mirror is not None
         try:
             work, state = self._mirror.prepare(transaction), self._state
-        except CantFollow:
-            # (it may be that the table was altered, and then it is copied again)
+        except (CantFollow, BeginAnew):
+            # (it may be that the table was altered, and then it is copied again, or what was altered is told by its name)
             self._look(connection)
             raise
-        if work.is_truncated:
-            self._truncated[transaction.number] = transaction.end
         with self._changed:
             try:
                 self._mirror.apply(work)
@@ -328,54 +421,43 @@ class Follower(Questions, Running):
                 self._put_mirror(None)
                 raise
             self._set(
-                lsn=transaction.end, transactions=state.transactions + 1, changes=state.changes + work.count, left_out=len(self._mirror.left_out)
+                lsn=transaction.end, transactions=state.transactions + 1, changes=state.changes + work.count,
+                skipped=len(self._mirror.skipped.ids), last_commit=transaction.committed,
             )
 
     def _arrive(self, lsn: int, target: int) -> None:
         """Takes note of an LSN to which the follower has come."""
-        is_caught_up = self._state.is_caught_up or lsn >= target
-        if lsn > self._state.lsn or is_caught_up != self._state.is_caught_up:
-            self._set(lsn=lsn, is_caught_up=is_caught_up)
+        is_caught_up, as_of = self._state.is_caught_up or lsn >= target, self._state.as_of
+        while self._ends and self._ends[0][0] <= lsn:
+            as_of = self._ends.popleft()[1]
+        if lsn > self._state.lsn or (is_caught_up, as_of) != (self._state.is_caught_up, self._state.as_of):
+            self._set(lsn=lsn, is_caught_up=is_caught_up, as_of=as_of)
 
-    def _look(self, connection: "Connection") -> None:
-        """Sees that the table is what it was and has its publication, and that the session refused nothing. What only the changes
-        until now can say of the table is left to be judged when they are taken."""
-        before = now_of(connection)
-        with connection.cursor() as cursor:
-            now = look(cursor, self._table.oid)
-        check_same(self._table, now)
-        assert now is not None and self.slot is not None
-        if now.trace != self._table.trace and not self._may_be_truncated(now):
-            raise self._altered(now)
-        fault = fault_of(connection, self.publication or self.slot, now)
+    def _end_of(self, connection: "Connection") -> int:
+        """Where the server's log ends now; that is kept until the follower has come there."""
+        asked = time.monotonic()
+        end = now_of(connection)
+        self._ends.append((end, asked))
+        return end
+
+    def _look(self, connection: "Connection") -> Table:
+        """Sees that the table is what it was or was only altered in ways that its log tells, that it has its publication, and that
+        the session refused nothing. Gives the table as it is now."""
+        before, now = now_of(connection), self._found(connection)
+        assert self._table is not None and self.slot is not None
+        publication = self.publication or self.slot
+        fault = fault_of(connection, publication, now, self._names) or untold(self._table, now, self._names, publication)
         if fault is not None:
             raise BeginAnew(fault)
-        after = now_of(connection)
-        self._seen = self._seen or (now, before, after)
-        with self._lock:
-            if self._mirror is not None and now.trace == self._table.trace:
-                self._mirror.check()
-        self._set(behind=max(after - self._state.lsn, 0))
-
-    def _judge(self) -> None:
-        """Judges the table as it was seen, once all that was committed by then is taken: where somebody wrote its row, that has to
-        be a TRUNCATE which was taken, for nothing of before it matters."""
-        if self._seen is None or self._state.lsn < self._seen[2]:
-            return
-        (now, before, _), self._seen = self._seen, None
-        if now.trace != self._table.trace and not (self._may_be_truncated(now) and now.trace.table in self._truncated):
-            raise self._altered(now)
         self._table = now
-        # (a commit is in the log a moment before others see it, so those since the look before are kept)
-        self._truncated = {number: end for number, end in self._truncated.items() if end > self._state.looked}
-        self._set(looked=before)
-
-    def _may_be_truncated(self, now: Table) -> bool:
-        """Whether TRUNCATE alone may have made the table what it is now."""
-        return now.trace.may_be_truncated_from(self._table.trace) and now.columns == self._table.columns
-
-    def _altered(self, now: Table) -> BeginAnew:
-        return BeginAnew(f"table {now} was altered, and what became of its rows meanwhile isn't known")
+        with self._lock:
+            if self._mirror is not None:
+                self._mirror.check()
+                why = self._mirror.skipped.taken()
+                if why is not None:
+                    TOLD.warning("rows are left out, %d of them now; the last one: %s", self._state.skipped, why)
+        self._set(looked=before, behind=max(self._end_of(connection) - self._state.lsn, 0))
+        return now
 
     @contextlib.contextmanager
     def _open(self, connection: AnyConnection) -> Iterator[AnyConnection]:

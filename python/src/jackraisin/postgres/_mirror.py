@@ -5,15 +5,17 @@ import contextlib
 import csv
 import io
 import tempfile
-from typing import IO, Final, Iterable, Iterator, List, Optional, Set
+from typing import IO, Final, Iterable, Iterator, List, Optional, Union
 
 from .._errors import Ended
 from .._live import Live
 from .._program import Path
 from .._schema import Schema
-from ._errors import BeginAnew, CantFollow, ColumnsChanged, RowUnsayable
+from ._errors import BeginAnew, CantFollow, RowUnsayable
+from ._messages import Before, Delete, Insert, Relation, Truncate, Update
 from ._stream import Change
-from ._values import KEPT, Rows, Values, values_of
+from ._table import misfit
+from ._values import KEPT, Rows, Skipped, Values
 
 SOURCE: Final = "1"
 IN_MEMORY: Final = 16 * 2**20
@@ -33,10 +35,6 @@ class Work:
     def _clear(self) -> None:
         self._text, self._file = io.StringIO(newline=""), None
         self._records = csv.writer(self._text)
-
-    @property
-    def is_truncated(self) -> bool:
-        return self.empty is not None
 
     def put(self, op: str, id: str, *fields: str) -> None:
         self._records.writerow([SOURCE, op, id, *fields])
@@ -67,10 +65,11 @@ class Mirror:
     """The rows of a table in a session, under their keys as ids. A caller prepares whole transactions, makes them, and asks
     between them."""
 
-    def __init__(self, rows: Rows, schema: Schema, feed: Path, left_out: Set[str], skip: bool) -> None:
+    def __init__(self, rows: Rows, schema: Schema, feed: Path, skipped: Skipped, skip: bool) -> None:
         self._rows, self._schema, self._skip = rows, schema, skip
-        self.left_out = set(left_out)
+        self.skipped = skipped
         self._live = Live(self._schema, feed)
+        self._relation: Optional[Relation] = None
 
     def ask(self, question: str, *fields: str) -> str:
         with anew_where_full():
@@ -108,32 +107,39 @@ class Mirror:
             )
 
     def _change(self, work: Work, change: Change) -> None:
-        kind = change["action"]
-        if kind == "I":
-            self._insert(work, self._new(change))
-        elif kind == "U":
-            self._update(work, values_of(change["identity"]), self._new(change))
-        elif kind == "D":
-            self._delete(work, self._rows.id_of(values_of(change["identity"])))
-        elif kind == "T":
+        message, relation = change.message, change.relation
+        self._check_relation(relation)
+        if isinstance(message, Insert):
+            self._insert(work, relation.values(message.row))
+        elif isinstance(message, Update):
+            values = relation.values(message.row)
+            self._update(work, self._before(relation, message.before) if message.before else values, values)
+        elif isinstance(message, Delete):
+            self._delete(work, self._rows.id_of(self._before(relation, message.before)))
+        elif isinstance(message, Truncate):
             work.truncate()
-            self.left_out.clear()
+            self.skipped.ids.clear()
 
-    def _new(self, change: Change) -> Values:
-        """The values of a changed row, whose columns have to be those that the table had."""
-        columns = self._rows.table.columns
-        for it in change["columns"]:
-            if it["name"] not in columns or str(columns[it["name"]].number) != it["position"]:
-                raise ColumnsChanged(
-                    f"the columns of table {self._rows.table} changed: column {it['name']} is number {it['position']} now. Start the "
-                    "follower again: it takes the table as it is then"
-                )
-        return values_of(change["columns"])
+    def _check_relation(self, relation: Relation) -> None:
+        """Raises where the table wasn't, when a row was written, what it was when it was copied."""
+        if relation == self._relation:
+            return
+        table = self._rows.table
+        fault = misfit(table, relation, self._rows.names)
+        if fault is not None:
+            raise BeginAnew(f"table {table} was altered: {fault}")
+        self._relation = relation
+
+    def _before(self, relation: Relation, before: Before) -> Values:
+        """What is told of a row as it was: all of it, or its key alone. Of a partitioned table the server says that it is all where
+        that is the replica identity of the whole table, whatever that of the partition is, by which it was written."""
+        values, table = relation.values(before.fields), self._rows.table
+        return values if before.is_whole and table.partitions is None else {it: values.get(it) for it in table.key}
 
     def _insert(self, work: Work, values: Values) -> None:
         id, fields = self._rows.id_of(values), self._fields(values)
-        if fields is None:
-            self.left_out.add(id)
+        if isinstance(fields, RowUnsayable):
+            self.skipped.add(id, fields)
         elif KEPT in fields:
             raise self._not_told(values)
         else:
@@ -145,33 +151,34 @@ class Mirror:
         whole = {**before, **values}
         old, new = self._rows.id_of(before), self._rows.id_of(whole)
         fields = self._fields(whole)
-        if old == new and old not in self.left_out and fields is not None:
+        if old == new and old not in self.skipped.ids and not isinstance(fields, RowUnsayable):
             work.put("U", old, *fields)
         else:
             self._delete(work, old)
             self._insert(work, whole)
 
     def _delete(self, work: Work, id: str) -> None:
-        if id in self.left_out:
-            self.left_out.remove(id)
+        if id in self.skipped.ids:
+            self.skipped.ids.remove(id)
         else:
             work.put("D", id)
 
-    def _fields(self, values: Values) -> Optional[List[str]]:
-        """The fields of a row, or none where it can't be said and is left out."""
+    def _fields(self, values: Values) -> Union[List[str], RowUnsayable]:
+        """The fields of a row, or why it can't be said, where it is left out for that."""
         try:
             return self._rows.fields_of(values)
-        except RowUnsayable:
+        except RowUnsayable as why:
             if not self._skip:
                 raise
-            return None
+            return why
 
-    def _not_told(self, values: Values) -> CantFollow:
+    def _not_told(self, values: Values) -> BeginAnew:
         missing = next(it for it in self._rows.names if it not in values)
         table = self._rows.table
-        return CantFollow(
-            f"table {table}, key {self._rows.key_of(values)}: the row is put anew, and the log doesn't tell its column {missing}, whose "
-            f"long text didn't change: ALTER TABLE {table} REPLICA IDENTITY FULL, and start the follower again"
+        mend = "" if table.partitions is not None else f", which ALTER TABLE {table} REPLICA IDENTITY FULL would spare"
+        return BeginAnew(
+            f"table {table}, key {self._rows.key_of(values)}: the key of the row is another one, and the log doesn't tell its column "
+            f"{missing}, whose long text didn't change{mend}"
         )
 
 

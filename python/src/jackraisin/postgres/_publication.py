@@ -1,9 +1,9 @@
-"""The publication of a followed table. Nothing is read from it: it makes the server itself refuse changes of the table that
-its log wouldn't tell, as updates while rows have no identity, and SET UNLOGGED."""
+"""The publication of a followed table, which says what the server sends of it. It also makes the server refuse changes of the table
+that its log wouldn't tell, as updates while rows have no identity, and SET UNLOGGED."""
 from __future__ import annotations
 
 import contextlib
-from typing import TYPE_CHECKING, Optional
+from typing import TYPE_CHECKING, Optional, Sequence
 
 import psycopg2
 import psycopg2.errors
@@ -16,36 +16,58 @@ from ._table import Table
 if TYPE_CHECKING:
     from psycopg2.extensions import connection as Connection
 
-# (a publication of all tables, or of a schema, doesn't keep a table of it from becoming unlogged)
+VIA_ROOT = " WITH (publish_via_partition_root = true)"
+# (a publication of all tables, or of a schema, doesn't keep a table of it from becoming unlogged. That of filters and of lists of
+# columns is told since PostgreSQL 15)
 FIND = """
-SELECT p.pubupdate AND p.pubdelete, EXISTS (SELECT FROM pg_publication_rel AS r WHERE r.prpubid = p.oid AND r.prrelid = %s)
-FROM pg_publication AS p WHERE p.pubname = %s
+SELECT p.pubinsert AND p.pubupdate AND p.pubdelete AND p.pubtruncate,
+    EXISTS (SELECT FROM pg_publication_rel AS r WHERE r.prpubid = p.oid AND r.prrelid = %(table)s),
+    EXISTS (SELECT FROM pg_publication_rel AS r WHERE r.prpubid = p.oid AND r.prrelid <> %(table)s),
+    t.tablename IS NOT NULL, to_jsonb(t) ->> 'rowfilter', to_jsonb(t) -> 'attnames'
+FROM pg_publication AS p
+    LEFT JOIN pg_publication_tables AS t ON t.pubname = p.pubname AND (t.schemaname, t.tablename) = (
+        SELECT n.nspname, c.relname FROM pg_class AS c JOIN pg_namespace AS n ON n.oid = c.relnamespace WHERE c.oid = %(table)s
+    )
+WHERE p.pubname = %(publication)s
 """
 
 
-def fault_of(connection: "Connection", name: str, table: Table) -> Optional[str]:
-    """What keeps a publication from guarding a table, or none where it does."""
+def fault_of(connection: "Connection", name: str, table: Table, columns: Sequence[str]) -> Optional[str]:
+    """What keeps a publication from guarding a table and from telling some of its columns in full, or none where it does both."""
     with connection.cursor() as cursor:
-        cursor.execute(FIND, [table.oid, name])
+        cursor.execute(FIND, {"publication": name, "table": table.oid})
         row = cursor.fetchone()
     if row is None:
         return f"there is no publication {name}"
-    if not row[1]:
+    is_whole, has_table, has_others, is_by_name, filter, sent = row
+    if not has_table:
         return f"the publication {name} doesn't name table {table}"
-    return None if row[0] else f"the publication {name} leaves updates or deletes out"
+    if not is_whole:
+        return f"the publication {name} leaves inserts, updates, deletes or truncates out"
+    if not is_by_name:
+        how = "true, and names what it is a partition of" if table.partitions is None else "false"
+        return f"the publication {name} doesn't send the rows of table {table} as its own: it has publish_via_partition_root = {how}"
+    if table.partitions is not None and has_others:
+        return f"the publication {name} names other tables beside {table}, from which its partitions can't be told"
+    if filter is not None:
+        return f"the publication {name} leaves rows of table {table} out, by WHERE {filter}"
+    missing = [it for it in columns if sent is not None and it not in sent]
+    return f"the publication {name} leaves column {missing[0]} of table {table} out" if missing else None
 
 
-def make_publication(connection: "Connection", name: str, table: Table) -> bool:
+def make_publication(connection: "Connection", name: str, table: Table, columns: Sequence[str]) -> bool:
     """Makes the publication of a follower, unless it is there already, and says whether it is one of a follower."""
-    fault = fault_of(connection, name, table)
+    fault = fault_of(connection, name, table, columns)
     if fault is None:
         return name.startswith(PREFIX)
     if name.startswith(PREFIX):
         drop_publication(connection, name)
-    relation = sql.Identifier(table.schema, table.name)
+    statement = sql.SQL("CREATE PUBLICATION {} FOR TABLE ONLY {}{}").format(
+        sql.Identifier(name), sql.Identifier(table.schema, table.name), sql.SQL("" if table.partitions is None else VIA_ROOT)
+    )
     try:
         with connection.cursor() as cursor:
-            cursor.execute(sql.SQL("CREATE PUBLICATION {} FOR TABLE ONLY {}").format(sql.Identifier(name), relation))
+            cursor.execute(statement)
     except psycopg2.errors.InsufficientPrivilege as why:
         raise CantFollow(
             f"the role may not make a publication of table {table}, without which changes of the table could be missed: "
@@ -56,15 +78,15 @@ def make_publication(connection: "Connection", name: str, table: Table) -> bool:
     return True
 
 
-def check_publication(connection: "Connection", name: str, table: Table) -> None:
-    """Raises `CantFollow` where a publication that was given doesn't guard a table."""
-    fault = fault_of(connection, name, table)
+def check_publication(connection: "Connection", name: str, table: Table, columns: Sequence[str]) -> None:
+    """Raises `CantFollow` where a publication that was given doesn't guard a table or tell it in full."""
+    fault = fault_of(connection, name, table, columns)
     if fault is not None:
         raise CantFollow(f"{fault}: {mend(table)}, and give that one")
 
 
 def mend(table: Table) -> str:
-    return f"have the table's owner CREATE PUBLICATION NAME FOR TABLE {table}"
+    return f"have the table's owner CREATE PUBLICATION NAME FOR TABLE {table}{'' if table.partitions is None else VIA_ROOT}"
 
 
 def drop_publication(connection: "Connection", name: str) -> bool:

@@ -21,12 +21,13 @@ HERE = os.path.dirname(os.path.abspath(__file__))
 ADDRESS = "127.0.0.1"
 SECONDS_BETWEEN_LOOKS = 0.1
 # (the explorer asks nobody for anything; this one asks where it comes from)
+PLAIN = "text/plain; charset=utf-8"
 POLICY, END = "img-src data:", "</body>"
 
 
 class Server(Running):
-    """Serves `/`, the explorer over the live cube, `/cube.csv`, the printed cube, and `/metrics`, a slice of it for monitors,
-    on a port of 127.0.0.1, in threads of its own between `start` and `close`, or in a `with` block. Port 0 is any free one.
+    """Serves `/`, the explorer over the live cube, `/cube.csv`, the printed cube, `/metrics`, a slice of it for monitors, `/healthz`,
+    whether the follower runs, and `/readyz`, whether it answers, on a port of 127.0.0.1, in threads of its own between `start` and `close`, or in a `with` block. Port 0 is any free one.
     The slice is given by its fields, as `datacube slice` takes them; without them it is of each value of the first dimension."""
 
     def __init__(self, follower: Follower, port: int = 0, slice: Optional[Sequence[str]] = None) -> None:
@@ -67,11 +68,13 @@ class Handler(BaseHTTPRequestHandler):
 
     def do_GET(self) -> None:
         path = self.path.partition("?")[0]
-        answers = {"/": self._page, "/cube.csv": self._cube, "/metrics": self._metrics}
+        answers = {
+            "/": self._page, "/cube.csv": self._cube, "/metrics": self._metrics, "/healthz": self._health, "/readyz": self._readiness,
+        }
         if not self._is_for_us():
-            self._send(HTTPStatus.MISDIRECTED_REQUEST, "text/plain", b"This is served under the names 127.0.0.1 and localhost alone.\n")
+            self._send(HTTPStatus.MISDIRECTED_REQUEST, PLAIN, b"This is served under the names 127.0.0.1 and localhost alone.\n")
         elif path not in answers:
-            self._send(HTTPStatus.NOT_FOUND, "text/plain", b"There are /, /cube.csv and /metrics.\n")
+            self._send(HTTPStatus.NOT_FOUND, PLAIN, f"There are {', '.join(answers)}.\n".encode())
         else:
             answers[path]()
 
@@ -90,10 +93,36 @@ class Handler(BaseHTTPRequestHandler):
                 state, answer = self.follower.ask_with_state("print")
                 tag, text = self._tag(state), answer.encode("utf-8")
         except DatacubeError as why:
-            self._send(HTTPStatus.SERVICE_UNAVAILABLE, "text/plain; charset=utf-8", f"{why}\n".encode("utf-8"))
+            self._unavailable(why)
             return
-        headers = {"ETag": tag, "Datacube-Table": self.follower.name.encode("ascii", "replace").decode(), "Datacube-Connected": str(int(state.is_connected))}
+        name = self.follower.name.encode("ascii", "replace").decode()
+        headers = {"ETag": tag, "Datacube-Table": name, "Datacube-Connected": str(int(state.is_connected)), "Datacube-Skipped": str(state.skipped)}
+        if state.is_verified is not None:
+            headers["Datacube-Verified"] = str(int(state.is_verified))
         self._send(HTTPStatus.OK if text else HTTPStatus.NOT_MODIFIED, "text/csv; charset=utf-8", text, headers)
+
+    def _health(self) -> None:
+        """Whether the follower runs: one that stopped doesn't begin again."""
+        if self._runs():
+            self._send(HTTPStatus.OK, PLAIN, b"It runs.\n")
+
+    def _runs(self) -> bool:
+        """Whether the follower runs; where it stopped, that is the answer."""
+        failure = self.follower.state.failure
+        if failure is not None:
+            self._unavailable(failure)
+        return failure is None
+
+    def _readiness(self) -> None:
+        """Whether a question has an answer, which is of the last commit that is there, also where the connection is lost."""
+        if self._runs():
+            if self.follower.state.is_caught_up:
+                self._send(HTTPStatus.OK, PLAIN, b"It answers.\n")
+            else:
+                self._unavailable(NotCaughtUp("The table is being copied, or what was written meanwhile is being taken."))
+
+    def _unavailable(self, why: BaseException) -> None:
+        self._send(HTTPStatus.SERVICE_UNAVAILABLE, PLAIN, f"{why}\n".encode("utf-8"))
 
     def _tag(self, state: State) -> str:
         """The version of the cube of a state as an entity tag, which no other start of a server gives."""
@@ -105,11 +134,11 @@ class Handler(BaseHTTPRequestHandler):
         state = self.follower.state
         try:
             state, text = self.follower.ask_with_state("slice", *self.fields)
-            cube = Cube(text)
+            cube = Cube(text, is_escaped=True)
         except NotCaughtUp:
             pass
         except DatacubeError as why:
-            self._send(HTTPStatus.SERVICE_UNAVAILABLE, "text/plain; charset=utf-8", f"{why}\n".encode("utf-8"))
+            self._unavailable(why)
             return
         self._send(HTTPStatus.OK, CONTENT_TYPE, metrics_text(self.follower.name, state, cube).encode("utf-8"))
 

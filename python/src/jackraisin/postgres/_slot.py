@@ -6,7 +6,7 @@ import logging
 import re
 import time
 from dataclasses import dataclass
-from typing import TYPE_CHECKING, Any, Iterator, Optional, Sequence, Tuple
+from typing import TYPE_CHECKING, Any, Dict, Iterator, Optional, Sequence, Tuple, TypeVar
 
 import psycopg2
 import psycopg2.errors
@@ -20,11 +20,12 @@ if TYPE_CHECKING:
     from psycopg2.extensions import connection as Connection
     from psycopg2.extras import LogicalReplicationConnection
 
+AnyConnection = TypeVar("AnyConnection", bound="Connection")
 TOLD = logging.getLogger("jackraisin.postgres")
-PLUGIN, LIBRARIES = "wal2json", "output_plugin_libraries"
+PLUGIN = "pgoutput"
 # (what a follower's own slots and publications are named by)
 PREFIX = "jackraisin_"
-# (values are written alike by COPY and by the plugin, and no row is hidden)
+# (values are written alike by COPY and by the output plugin, and no row is hidden)
 SETTINGS = "-c DateStyle=ISO -c TimeZone=UTC -c IntervalStyle=postgres -c row_security=off -c statement_timeout=0 -c lock_timeout=0 -c idle_in_transaction_session_timeout=0"
 # (a connection whose other end is silent is given up after half a minute)
 DEFAULTS = {
@@ -32,6 +33,7 @@ DEFAULTS = {
     "fallback_application_name": "datacube",
 }
 SECONDS_TO_BE_FREE = 10
+NO_TEXTS = ("SQL_ASCII", "MULE_INTERNAL")
 
 SERVER = """
 SELECT current_setting('wal_level'), pg_encoding_to_char(encoding), pg_is_in_recovery(), current_setting('server_version_num')::int
@@ -45,9 +47,26 @@ SELECT plugin, database = current_database(), active_pid FROM pg_replication_slo
 
 def dsn_of(dsn: str) -> str:
     """A connection string with the settings that a follower wants; what the caller says goes before."""
-    given = psycopg2.extensions.parse_dsn(dsn)
+    given = options_in(dsn)
     options = " ".join(it for it in (given.pop("options", ""), SETTINGS) if it)
     return str(psycopg2.extensions.make_dsn(**{**DEFAULTS, **given, "options": options, "client_encoding": "UTF8"}))
+
+
+def options_in(dsn: str) -> Dict[str, str]:
+    """What a connection string says. Where it can't be read, or where a part of its password would be taken for a host, libpq's own
+    error would show that part."""
+    try:
+        given: Dict[str, str] = psycopg2.extensions.parse_dsn(dsn)
+    except psycopg2.ProgrammingError:
+        raise CantFollow(
+            "the connection string can't be read. It isn't shown here, since it may have a password; in a URI % is written %25, and @ "
+            "of a password %40"
+        ) from None
+    # (a socket without a file has a name that begins so)
+    places = [*(it[1:] for it in given.get("host", "").split(",")), given.get("port", "")]
+    if any("@" in it for it in places):
+        raise CantFollow("the host or the port of the connection string has an @ in it: in a URI, @ of a password is written %40")
+    return given
 
 
 def connect(dsn: str) -> "Connection":
@@ -89,40 +108,27 @@ def check_server(connection: "Connection") -> None:
         level, encoding, is_standby, version = one(cursor)
     if level != "logical":
         raise CantFollow(f"the server has wal_level = {level}: ALTER SYSTEM SET wal_level = logical, and restart it")
-    if encoding != "UTF8":
-        raise CantFollow(f"the database is written in {encoding}, and only UTF8 is followed")
+    if encoding in NO_TEXTS:
+        raise CantFollow(f"the database is written in {encoding}, of which the server can't make UTF-8")
     if is_standby:
         raise CantFollow("the server is a standby: follow its primary")
     if version < 120000:
         raise CantFollow("the server is older than PostgreSQL 12")
 
 
-def make_slot(connection: "LogicalReplicationConnection", slot: str) -> Tuple[int, str]:
-    """Makes the slot; gives the LSN from which it tells, and the snapshot of that moment, which holds until the connection is
-    used again."""
+def make_slot(connection: "LogicalReplicationConnection", slot: str, is_temporary: bool = False) -> Tuple[int, str]:
+    """Makes the slot, which may be one that goes with its connection; gives the LSN from which it tells, and the snapshot of that
+    moment, which holds until the connection is used again."""
     cursor: Any
     with connection.cursor() as cursor:
         try:
-            cursor.create_replication_slot(slot, output_plugin=PLUGIN)
-        except psycopg2.errors.UndefinedFile as why:
-            raise CantFollow(f"the server has no output plugin {PLUGIN}: install it (Debian: postgresql-15-wal2json). {why}") from None
+            cursor.execute(f'CREATE_REPLICATION_SLOT "{slot}" {"TEMPORARY " if is_temporary else ""}LOGICAL "{PLUGIN}"')
         except psycopg2.errors.InsufficientPrivilege as why:
-            raise not_allowed(why) from None
+            raise CantFollow(f"the role may make no slot, for which it has to have ALTER ROLE .. REPLICATION. {why}") from None
         except psycopg2.errors.ConfigurationLimitExceeded as why:
             raise CantFollow(f"the server has no room for a slot: drop one that nobody uses, or raise max_replication_slots. {why}") from None
         _, start, snapshot = one(cursor)[:3]
     return lsn_of(start), snapshot
-
-
-def not_allowed(why: psycopg2.Error) -> CantFollow:
-    """What is told where the server doesn't let a slot be made: it doesn't let the plugin be read, or the role may not
-    replicate."""
-    if LIBRARIES not in str(why):
-        return CantFollow(f"the role may not replicate: ALTER ROLE .. REPLICATION. {why}")
-    return CantFollow(
-        f"the server doesn't let the output plugin {PLUGIN} be read, since its setting {LIBRARIES} doesn't name it: "
-        f"ALTER SYSTEM SET {LIBRARIES} = pgoutput, test_decoding, {PLUGIN}, without quotes, and SELECT pg_reload_conf(). {why}"
-    )
 
 
 def drop_slot(connection: "Connection", slot: str, is_own: bool = False) -> bool:
@@ -151,7 +157,10 @@ def drop_slot(connection: "Connection", slot: str, is_own: bool = False) -> bool
 def check_ours(slot: str, is_own: bool, plugin: Optional[str], is_of_database: Optional[bool]) -> None:
     """Raises `CantFollow` where a slot isn't one that a follower of this database made."""
     if plugin != PLUGIN or not is_of_database:
-        raise CantFollow(f"the slot {slot} is of {plugin or 'a standby'}{'' if is_of_database else ' in another database'}: give this follower another slot")
+        mend = f", or, if no earlier version of the follower runs with it, SELECT pg_drop_replication_slot('{slot}')" if slot.startswith(PREFIX) else ""
+        raise CantFollow(
+            f"the slot {slot} is of {plugin or 'a standby'}{'' if is_of_database else ' in another database'}: give this follower another slot{mend}"
+        )
     if not is_own and not slot.startswith(PREFIX):
         raise CantFollow(
             f"the slot {slot} is there, and may be another's, so it is left alone: only slots whose names begin with {PREFIX} are dropped. "

@@ -1,45 +1,67 @@
 """The changes behind a replication slot, transaction by transaction."""
 from __future__ import annotations
 
-import json
 import select
+import struct
 import tempfile
 import time
-from typing import IO, TYPE_CHECKING, Any, Dict, Iterator, Optional
+from typing import IO, TYPE_CHECKING, Any, Iterator, NamedTuple, Optional, Union
 
-from ._slot import lsn_of
+from ._errors import BadMessage, BeginAnew
+from ._messages import Commit, Delete, Insert, Relation, Truncate, Update, message_of
 from ._table import Table
 
 if TYPE_CHECKING:
     from psycopg2.extras import LogicalReplicationConnection
 
-Change = Dict[str, Any]
-# (numbers stay as they are written)
-READ = json.JSONDecoder(parse_float=str, parse_int=str).decode
 IN_MEMORY = 16 * 2**20
-OPTIONS = {"format-version": "2", "include-lsn": "1", "include-column-positions": "1", "include-types": "0", "include-xids": "1"}
+SIZE = struct.Struct("=I")
+# (what they say of a transaction's origin, of types and of messages in the log is of no table's rows)
+OF_ROWS, OF_NO_ROWS = (b"I", b"U", b"D"), (b"O", b"Y", b"M")
+
+
+class Change(NamedTuple):
+    """A change of a table, and the table as it was then."""
+
+    relation: Relation
+    message: Union[Insert, Update, Delete, Truncate]
 
 
 class Transaction:
-    """The changes of a committed transaction, in their order; those of a long one lie in a file. `end` is the LSN behind
-    its commit, and `number` that which the server gave it."""
+    """The changes of a committed transaction, in their order; those of a long one lie in a file. `end` is the LSN behind its
+    commit, and `committed` when that was, in seconds since 1970 began. It begins with the table as it was told before."""
 
-    def __init__(self, changes: IO[bytes], end: int, number: str) -> None:
-        self._changes, self.end, self.number = changes, end, number
+    def __init__(self, messages: IO[bytes], commit: Commit, relation: Optional[Relation]) -> None:
+        self._messages, self._relation = messages, relation
+        self.end, self.committed = commit.end, commit.seconds
 
     def __iter__(self) -> Iterator[Change]:
-        self._changes.seek(0)
-        for line in self._changes:
-            yield READ(line.decode("utf-8"))
+        self._messages.seek(0)
+        relation = self._relation
+        while True:
+            size = self._messages.read(SIZE.size)
+            if not size:
+                return
+            message = message_of(self._messages.read(SIZE.unpack(size)[0]))
+            if isinstance(message, Relation):
+                relation = message
+            elif isinstance(message, (Insert, Update, Delete, Truncate)):
+                if relation is None:
+                    raise BadMessage("a change came before its table was told")
+                yield Change(relation, message)
 
 
 class Stream:
-    """What comes from a slot about a table, from an LSN on. A transaction comes whole or not at all."""
+    """What comes from a slot about a table, from an LSN on, by way of a publication. A transaction comes whole or not at all."""
 
-    def __init__(self, connection: "LogicalReplicationConnection", slot: str, table: Table, start: int) -> None:
+    def __init__(self, connection: "LogicalReplicationConnection", slot: str, publication: str, table: Table, start: int) -> None:
         self._cursor: Any = connection.cursor()
+        self._table, self._oid = table, struct.pack(">I", table.oid)
+        # (the table as it was told last, and as it was before the transaction that is coming)
+        self._relation: Optional[Relation] = None
+        self._first: Optional[Relation] = None
         self._pending: Optional[IO[bytes]] = None
-        options = {**OPTIONS, "add-tables": table.as_plugin_wants()}
+        options = {"proto_version": "1", "publication_names": '"{}"'.format(publication.replace('"', '""'))}
         self._cursor.start_replication(slot, start_lsn=start, decode=False, status_interval=1, options=options)
 
     def next(self, seconds: float) -> Optional[Transaction]:
@@ -56,19 +78,45 @@ class Stream:
 
     def _take(self, payload: bytes) -> Optional[Transaction]:
         """Takes a message, and gives the transaction that it ends."""
-        kind = payload[:12]
-        if kind == b'{"action":"B':
-            self._pending = None
-        elif kind == b'{"action":"C':
-            pending, self._pending = self._pending, None
-            commit = READ(payload.decode())
-            return Transaction(pending, lsn_of(commit["nextlsn"]), commit["xid"]) if pending else None
-        elif kind != b'{"action":"M':
-            # (a message that somebody wrote to the log is of no table, and may stand outside of a transaction)
-            if self._pending is None:
-                self._pending = tempfile.SpooledTemporaryFile(IN_MEMORY, prefix="datacube-")
-            self._pending.write(payload + b"\n")
+        kind = payload[:1]
+        if kind == b"B":
+            self._pending, self._first = None, self._relation
+        elif kind == b"C":
+            return self._committed(message_of(payload))
+        elif kind == b"R":
+            self._tell(message_of(payload), payload)
+        elif kind in OF_ROWS:
+            # (a publication that was given may have other tables too)
+            if payload[1:5] == self._oid:
+                self._keep(payload)
+        elif kind == b"T":
+            message = message_of(payload)
+            if isinstance(message, Truncate) and self._table.oid in message.oids:
+                self._keep(payload)
+        elif kind not in OF_NO_ROWS:
+            raise BadMessage(f"{kind!r} is no kind of a message")
         return None
+
+    def _committed(self, commit: object) -> Optional[Transaction]:
+        assert isinstance(commit, Commit)
+        pending, self._pending = self._pending, None
+        return Transaction(pending, commit, self._first) if pending else None
+
+    def _tell(self, relation: object, payload: bytes) -> None:
+        """Takes note of a table as it is from here on. The partitions of a table are told beside it: one that it didn't have when
+        it was looked at has rows that were never copied."""
+        assert isinstance(relation, Relation)
+        if relation.oid == self._table.oid:
+            self._relation = relation
+            self._keep(payload)
+        elif self._table.partitions is not None and str(relation.oid) not in self._table.partitions:
+            raise BeginAnew(f"table {self._table} has another partition, {relation.schema}.{relation.name}")
+
+    def _keep(self, payload: bytes) -> None:
+        if self._pending is None:
+            self._pending = tempfile.SpooledTemporaryFile(IN_MEMORY, prefix="datacube-")
+        self._pending.write(SIZE.pack(len(payload)))
+        self._pending.write(payload)
 
     @property
     def seen(self) -> int:

@@ -4,21 +4,20 @@ from __future__ import annotations
 import json
 import re
 from fractions import Fraction
-from typing import Dict, Final, List, Mapping, Optional, Sequence, Union
+from typing import Final, List, Mapping, Optional, Sequence, Set
 
 from .._numbers import spelled
-from .._records import GREATEST, LEAST, NULL
+from .._records import GREATEST, LEAST, NULL, escaped
 from .._schema import Schema
 from ._errors import CantFollow, RowUnsayable
 from ._table import TEXTS, Column, Table
 
-# (a value as COPY and wal2json write it; one that the log leaves out, since it is long and didn't change, isn't there)
-Value = Union[str, bool, None]
-Values = Mapping[str, Value]
+# (values as the server writes them; one that the log leaves out, since it is long and didn't change, isn't there)
+Values = Mapping[str, Optional[str]]
 
+LONGEST_SHOWN: Final = 100
 KEPT: Final = "\\="
-SPECIAL: Final = {NULL: "null", KEPT: "that a value is kept"}
-BOOLS: Final[Mapping[Value, str]] = {True: "true", False: "false", "t": "true", "f": "false", "true": "true", "false": "false"}
+BOOLS: Final = {"t": "true", "f": "false"}
 ESCAPE = re.compile(r"\\(.)", re.DOTALL)
 ESCAPES: Final = {"b": "\b", "f": "\f", "n": "\n", "r": "\r", "t": "\t", "v": "\v"}
 
@@ -41,6 +40,8 @@ class Rows:
             check_measure(table, column)
         self._key = [table.columns[it] for it in table.key]
         self._is_bare = len(self._key) == 1 and self._key[0].base not in TEXTS
+        for column in [*self._key, *self.dimensions, *self.measures]:
+            check_sent(table, column)
         for column in self._key:
             if not column.is_exact and column.base != "numeric":
                 raise CantFollow(f"table {table} has a key with column {column.name} of type {column.type}, which can't name rows here")
@@ -63,8 +64,8 @@ class Rows:
 
     def key_of(self, values: Values) -> str:
         """The key of a row as errors say it."""
-        shown = [str(text_of(it, values.get(it.name))) for it in self._key]
-        return f"({', '.join(it.name for it in self._key)})=({', '.join(shown)})"
+        said = [shown(it, text_of(it, values.get(it.name))) for it in self._key]
+        return f"({', '.join(it.name for it in self._key)})=({', '.join(said)})"
 
     def fields_of(self, values: Values) -> List[str]:
         """The fields of a row's dimensions and measures as a feed has them, KEPT where the row doesn't tell one; raises
@@ -76,32 +77,42 @@ class Rows:
         if column.name not in values:
             return KEPT
         text = text_of(column, values[column.name])
-        if text is None:
-            return NULL
-        if text in SPECIAL:
-            raise self._unsayable(column, values, f"the text {text} can't be said, since it means {SPECIAL[text]} in a feed")
-        return text
+        return NULL if text is None else escaped(text)
 
     def _number(self, column: Column, factor: int, places: int, values: Values) -> str:
         if column.name not in values:
             return KEPT
         value = values[column.name]
-        if value is None and column.is_not_null:
-            raise self._unsayable(column, values, f"NaN or an infinity is no {kind_of(places)}")
         if value is None:
             return NULL
         try:
-            units = int(value) * 10**places if factor == 1 and column.is_whole else whole(str(value), factor * 10**places)
+            units = int(value) * 10**places if factor == 1 and column.is_whole else whole(value, factor * 10**places)
         except ValueError:
-            scaled = f", times {factor}," if factor != 1 else ""
-            raise self._unsayable(column, values, f"{value}{scaled} is no {kind_of(places)}") from None
-        number = spelled(units, places)
+            raise self._unsayable(column, factor, values, f"is no {kind_of(places)}") from None
         if not LEAST <= units <= GREATEST:
-            raise self._unsayable(column, values, f"{number} doesn't fit 64 bits")
-        return number
+            raise self._unsayable(column, factor, values, f"doesn't fit 64 bits{f' with {places} decimals' if places else ''}")
+        return spelled(units, places)
 
-    def _unsayable(self, column: Column, values: Values, why: str) -> RowUnsayable:
-        return RowUnsayable(str(self.table), self.key_of(values), column.name, why)
+    def _unsayable(self, column: Column, factor: int, values: Values, why: str) -> RowUnsayable:
+        said = shown(column, values[column.name]) + (f", times {factor}," if factor != 1 else "")
+        return RowUnsayable(str(self.table), self.key_of(values), column.name, f"{said} {why}")
+
+
+class Skipped:
+    """The ids of the rows that are left out, since they can't be said, and why the last one is, until that is told."""
+
+    def __init__(self) -> None:
+        self.ids: Set[str] = set()
+        self.last: Optional[RowUnsayable] = None
+
+    def add(self, id: str, why: RowUnsayable) -> None:
+        self.ids.add(id)
+        self.last = why
+
+    def taken(self) -> Optional[RowUnsayable]:
+        """Why the last one is left out, where that wasn't told yet."""
+        why, self.last = self.last, None
+        return why
 
 
 def kind_of(places: int) -> str:
@@ -127,11 +138,18 @@ def factors_of(measures: Sequence[Column], scale: Mapping[str, int]) -> List[int
     return [10 ** scale.get(it.name, 0) for it in measures]
 
 
+def check_sent(table: Table, column: Column) -> None:
+    if column.is_generated:
+        raise CantFollow(
+            f"column {column.name} of table {table} is generated, and the server sends no such columns: follow one that a trigger fills"
+        )
+
+
 def check_dimension(table: Table, column: Column) -> None:
     if not column.is_exact:
         raise CantFollow(
             f"column {column.name} of table {table} is of type {column.type}, of which equal values may have different texts, so it "
-            "is no dimension: follow a generated column of type text, or numeric(P,S)"
+            "is no dimension: follow a column of type text or numeric(P,S) that a trigger fills"
         )
 
 
@@ -140,11 +158,17 @@ def check_measure(table: Table, column: Column) -> None:
         raise CantFollow(f"column {column.name} of table {table} is of type {column.type}: a measure is a whole number or a numeric")
 
 
-def text_of(column: Column, value: Value) -> Optional[str]:
+def text_of(column: Column, value: Optional[str]) -> Optional[str]:
     """A value as SQL casts it to text."""
-    if value is None:
-        return None
-    return BOOLS[value] if column.is_bool else str(value)
+    return BOOLS[value] if column.is_bool and value is not None else value
+
+
+def shown(column: Column, text: Optional[str]) -> str:
+    """A value as errors and logs say it: a text in quotes, and no more of it than a line has."""
+    if text is None:
+        return "null"
+    start = text if len(text) <= LONGEST_SHOWN else text[:LONGEST_SHOWN] + ".."
+    return start if column.is_whole or column.base == "numeric" else repr(start)
 
 
 def whole(text: str, factor: int) -> int:
@@ -164,8 +188,3 @@ def field_of(text: str) -> Optional[str]:
     if "\\" not in text:
         return text
     return None if text == "\\N" else ESCAPE.sub(lambda it: ESCAPES.get(it[1], it[1]), text)
-
-
-def values_of(columns: Sequence[Dict[str, Value]]) -> Dict[str, Value]:
-    """The values of a change by the names of their columns."""
-    return {str(it["name"]): it["value"] for it in columns}

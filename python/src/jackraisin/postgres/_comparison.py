@@ -1,0 +1,190 @@
+"""The cube beside what the database itself says of the table, at the same moment."""
+from __future__ import annotations
+
+import contextlib
+import io
+import secrets
+import threading
+from fractions import Fraction
+from typing import TYPE_CHECKING, Dict, Final, List, Optional, Sequence, Set, Tuple
+
+import psycopg2
+from psycopg2 import sql
+
+from .._cells import ALL, ANY, MARKS, Mark
+from .._cube import Cube, Row
+from .._records import GREATEST, LEAST
+from .._schema import Schema
+from ._mirror import Mirror
+from ._slot import PREFIX, AnyConnection, connect, connect_to_replicate, make_slot, snapshot_of
+from ._table import look
+from ._values import Rows, row_of, shown, text_of
+
+if TYPE_CHECKING:
+    from psycopg2.extensions import connection as Connection
+    from psycopg2.extensions import cursor as Cursor
+
+# (a dimension with more values isn't compared by them)
+MOST_VALUES: Final = 10_000
+MOST_JOINS, SECONDS_TO_JOIN = 20, 0.1
+PER_MEASURE: Final = ("count", "sum", "min", "max")
+
+Answers = Tuple[Optional[Fraction], ...]
+# (the answers of the values of a dimension; those of the grand total are under null)
+Totals = Dict[Optional[str], Answers]
+
+
+class Comparison:
+    """Compares the grand total of a cube, and the totals of the values of each dimension, with the database's own. That is asked in a
+    thread of its own, in the snapshot of a slot that lasts as long. `lsn` is where the snapshot is in the log, once it `has_begun`;
+    when the cube has come there, and no further, its totals are taken."""
+
+    def __init__(self, dsn: str, rows: Rows, schema: Schema, large: Set[int]) -> None:
+        self._dsn, self._rows, self._schema, self._large = dsn, rows, schema, large
+        self._connections: List["Connection"] = []
+        self._of_table: Dict[Optional[int], Totals] = {}
+        self._of_cube: Dict[Optional[int], Totals] = {}
+        self.lsn: Optional[int] = None
+        self.failure: Optional[str] = None
+        self.is_taken = self._is_given_up = False
+        self.has_begun, self._has_ended = threading.Event(), threading.Event()
+        self._thread = threading.Thread(target=self._run, name="datacube comparison", daemon=True)
+        self._thread.start()
+
+    @property
+    def is_over(self) -> bool:
+        """Whether both totals are there, or there is a failure."""
+        return self._has_ended.is_set() and (self.is_taken or self.failure is not None)
+
+    def close(self) -> None:
+        """Ends it, whatever it is at. One that is still connecting ends once it is connected, or can't be, and isn't waited for."""
+        self._is_given_up = True
+        for _ in range(MOST_JOINS):
+            for it in list(self._connections):
+                with contextlib.suppress(psycopg2.Error):
+                    it.cancel()
+            self._thread.join(SECONDS_TO_JOIN)
+            if not self._thread.is_alive():
+                return
+
+    def take(self, mirror: Mirror) -> None:
+        """Takes the totals of the cube."""
+        for at in self._sets():
+            fields = [MARKS[ANY if it == at else ALL] for it in range(len(self._schema.dimensions))]
+            rows = Cube(mirror.ask("slice", *fields), is_escaped=True)
+            self._of_cube[at] = dict(total_of(it, at) for it in rows if at is None or it.key[at] is not ALL)
+        self.is_taken = True
+
+    def difference(self) -> Optional[str]:
+        """The first total in which the table and the cube differ, or none."""
+        for at in self._sets():
+            of_table, of_cube = self._of_table[at], self._of_cube[at]
+            for value in {**of_table, **of_cube}:
+                if of_table.get(value) != of_cube.get(value):
+                    return f"{self._name_of(at, value)}: the table has {self._said(of_table.get(value))}, and the cube {self._said(of_cube.get(value))}"
+        return None
+
+    def _name_of(self, at: Optional[int], value: Optional[str]) -> str:
+        return "in all" if at is None else f"{self._schema.dimensions[at]} {shown(self._rows.dimensions[at], value)}"
+
+    def _said(self, answers: Optional[Answers]) -> str:
+        return "nothing" if answers is None else ", ".join(f"{name} {it}" for name, it in zip(self._schema.aggregates, answers))
+
+    def _sets(self) -> List[Optional[int]]:
+        """The dimensions that are compared by their values, and none for the grand total, where the cube has them."""
+        kept, names = self._schema.grouping, self._schema.dimensions
+        if kept == "rollup":
+            found: List[Optional[int]] = [None, 0]
+        elif isinstance(kept, str):
+            found = [None, *range(len(names))]
+        else:
+            found = [names.index(it[0]) if it else None for it in kept if len(it) < 2]
+        return [it for it in dict.fromkeys(found) if it not in self._large]
+
+    def _run(self) -> None:
+        try:
+            with contextlib.closing(self._kept(connect_to_replicate(self._dsn))) as replication:
+                self.lsn, snapshot = make_slot(replication, f"{PREFIX}compared_{secrets.token_hex(8)}", is_temporary=True)
+                self.has_begun.set()
+                with contextlib.closing(self._kept(connect(self._dsn))) as connection:
+                    self._ask(connection, snapshot)
+        except Exception as why:
+            self.failure = " ".join(str(why).split())
+        finally:
+            self._has_ended.set()
+            self.has_begun.set()
+
+    def _kept(self, connection: AnyConnection) -> AnyConnection:
+        """A connection whose work `close` may cut short."""
+        self._connections.append(connection)
+        if self._is_given_up:
+            raise psycopg2.InterfaceError("the comparison was given up")
+        return connection
+
+    def _ask(self, connection: "Connection", snapshot: str) -> None:
+        """Asks for the table's totals. A snapshot sees no rows that were written anew since, so then there is nothing to compare."""
+        oid = self._rows.table.oid
+        with snapshot_of(connection, snapshot) as cursor:
+            then = look(cursor, oid)
+            for at in self._sets():
+                self._of_table[at] = self._totals(cursor, at)
+                if at is not None and len(self._of_table[at]) > MOST_VALUES:
+                    self._large.add(at)
+        with connection.cursor() as cursor:
+            now = look(cursor, oid)
+        if then is None or now is None or (then.file, then.partitions) != (now.file, now.partitions):
+            self.failure = "the rows of the table were written anew meanwhile"
+
+    def _totals(self, cursor: "Cursor", at: Optional[int]) -> Totals:
+        """The totals of the values of a dimension, or of all rows."""
+        out = io.BytesIO()
+        cursor.copy_expert(sql.SQL("COPY ({}) TO STDOUT").format(self._query(at)), out)
+        records = [row_of(it) for it in out.getvalue().decode("utf-8").split("\n")[:-1]]
+        if at is None:
+            return {None: self._answers(it) for it in records}
+        return {text_of(self._rows.dimensions[at], it[0]): self._answers(it) for it in records}
+
+    def _query(self, at: Optional[int]) -> sql.Composable:
+        table = self._rows.table
+        value = sql.SQL("NULL") if at is None else sql.Identifier(self._rows.dimensions[at].name)
+        measures = [sql.Identifier(it.name) for it in self._rows.measures]
+        asked = [sql.SQL("{}({})").format(sql.SQL(kind), it) for it in measures for kind in PER_MEASURE]
+        units = [factor * 10**places for factor, places in zip(self._rows.factors, self._rows.places)]
+        sayable: List[sql.Composable] = [SAYABLE.format(name=name, units=sql.Literal(it)) for name, it in zip(measures, units)] or [sql.SQL("true")]
+        return sql.SQL("SELECT {value}, count(*){asked} FROM {only}{table} WHERE {sayable}{grouped}").format(
+            value=value, asked=sql.SQL("").join(sql.SQL(", ") + it for it in asked), table=sql.Identifier(table.schema, table.name),
+            only=sql.SQL("ONLY " if table.partitions is None else ""), sayable=sql.SQL(" AND ").join(sayable),
+            grouped=sql.SQL("" if at is None else f" GROUP BY 1 LIMIT {MOST_VALUES + 1}"),
+        )
+
+    def _answers(self, record: Sequence[Optional[str]]) -> Answers:
+        """The answers to the schema's aggregates that a record of the database says."""
+        numbers = [None if it is None else Fraction(it) for it in record[1:]]
+        return tuple(self._answer(it, numbers) for it in self._schema.aggregates)
+
+    def _answer(self, aggregate: str, numbers: Sequence[Optional[Fraction]]) -> Optional[Fraction]:
+        if aggregate == "count(*)":
+            return numbers[0]
+        kind, name = aggregate.split("(", 1)
+        at = self._schema.measures.index(name[:-1])
+        found = dict(zip(PER_MEASURE, numbers[1 + len(PER_MEASURE) * at :]))
+        if kind == "count":
+            return found[kind]
+        number, count = found["sum" if kind == "avg" else kind], found["count"]
+        if number is None or not count:
+            return None
+        return number * self._rows.factors[at] / (count if kind == "avg" else 1)
+
+
+def total_of(row: Row, at: Optional[int]) -> Tuple[Optional[str], Answers]:
+    """A row of the cube as a value of a dimension and its answers."""
+    value = None if at is None else row.key[at]
+    assert not isinstance(value, Mark)
+    return value, tuple(None if it is None else Fraction(it) for it in row.answers)
+
+
+# (a row with a measure that can't be said isn't in the cube; NaN is more than any number)
+SAYABLE: Final = sql.SQL(
+    f"({{name}} IS NULL OR {{name}}::numeric * {{units}} BETWEEN {LEAST} AND {GREATEST} "
+    "AND {name}::numeric * {units} = trunc({name}::numeric * {units}))"
+)
