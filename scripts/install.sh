@@ -52,7 +52,7 @@ END
         examples/first/cube.csv examples/live/README.md; do
         echo "$file $documents/$file 644"
     done
-    for name in EXPLORER FORMATS POSTGRES PYTHON SQL STORE TUTORIAL; do
+    for name in EXPLORER FORMATS POSTGRES PYTHON SERVE SQL STORE TUTORIAL; do
         echo "docs/$name.md $documents/docs/$name.md 644"
     done
     for name in dark days heat million start table; do

@@ -1,0 +1,213 @@
+"""The paths of the server: what each answers, and to whom."""
+from __future__ import annotations
+
+import asyncio
+import logging
+from http import HTTPStatus
+from typing import Awaitable, Callable, Dict, Mapping, NamedTuple, Optional, Sequence
+from urllib.parse import unquote
+
+from aiohttp import web
+
+from .._errors import Failure
+from ._access import Right, Tokens, token_of_header
+from ._connections import SECONDS_OF_REST, Connections
+from ._errors import BadBody, BadQuery, CantServe
+from ._forms import SUFFIXES, Form, form_accepted
+from ._query import OWN_WORDS, TOKEN, Words, question_of, words_of
+from ._reading import Room, reader_of
+from ._replies import Refusal, Reply, json_reply, not_yet
+from ._served import LONG, Made, ServedCube, beside
+
+TOLD = logging.getLogger("jackraisin.serve")
+
+SECONDS_FOR_A_PART = 30.0
+PART = 2**16
+READS = ("GET", "HEAD")
+
+
+class Limits(NamedTuple):
+    """The bytes of a body and of all bodies that are read at a time, and the number of connections."""
+
+    body: int = 8 * 2**20
+    bodies: int = 64 * 2**20
+    connections: int = 1000
+
+
+class Path(NamedTuple):
+    """What answers at a path: its methods, the right that it wants, and its work."""
+
+    methods: Sequence[str]
+    right: Optional[Right]
+    work: "Callable[[Asked], Awaitable[Reply]]"
+
+
+class Asked(NamedTuple):
+    """A request: what came, its path and the words of its query."""
+
+    request: web.BaseRequest
+    path: str
+    words: Words
+
+    @property
+    def headers(self) -> Mapping[str, str]:
+        headers: Mapping[str, str] = self.request.headers
+        return headers
+
+
+class Site:
+    """Answers requests over a served cube. A token is wanted where there are tokens."""
+
+    def __init__(self, cube: ServedCube, meaning: Callable[[int], str], tokens: Optional[Tokens], limits: Limits = Limits()) -> None:
+        self.cube, self.limits = cube, limits
+        self._meaning, self._tokens = meaning, tokens
+        self._room = Room(limits.body, limits.bodies)
+        self._busy = 0
+        self._rest = asyncio.Event()
+        self.is_ending = False
+        handlers = web.Server(self._answer, keepalive_timeout=SECONDS_OF_REST, access_log=None, auto_decompress=False)
+        self._handlers = handlers
+        self.connections = Connections(handlers, limits.connections)
+        self._paths = self._all_paths()
+
+    def _all_paths(self) -> Dict[str, Path]:
+        paths = {
+            "/changes": Path(["POST"], Right.CHANGE, self._changes),
+            "/healthz": Path(READS, None, self._health),
+            "/readyz": Path(READS, None, self._readiness),
+        }
+        for name in OWN_WORDS:
+            for suffix in ("", *(f".{it}" for it in SUFFIXES)):
+                paths[f"/{name}{suffix}"] = Path(READS, Right.READ, self._question)
+        return paths
+
+    async def end(self, seconds: float) -> None:
+        """Waits until the requests that came are answered, for so long at most, and closes all connections."""
+        self.is_ending = True
+        self._rest.clear()
+        if self._busy:
+            try:
+                await asyncio.wait_for(self._rest.wait(), seconds)
+            except asyncio.TimeoutError:
+                TOLD.warning("%d requests weren't answered in time", self._busy)
+        await self._handlers.shutdown(1.0)
+
+    # Requests and replies.
+
+    async def _answer(self, request: web.BaseRequest) -> web.StreamResponse:
+        connection = self.connections.of(request.protocol)
+        connection.begin()
+        self._busy += 1
+        try:
+            return await self._sent(request, await self._reply(request))
+        finally:
+            connection.rest()
+            self._busy -= 1
+            if not self._busy:
+                self._rest.set()
+
+    async def _reply(self, request: web.BaseRequest) -> Reply:
+        try:
+            return await self._replied(request)
+        except Refusal as why:
+            return why.reply
+        except (BadBody, BadQuery) as why:
+            return Refusal(HTTPStatus.BAD_REQUEST, str(why)).reply
+        except CantServe as why:
+            return not_yet(str(why)).reply
+        except Failure as why:
+            return Refusal(HTTPStatus.BAD_REQUEST, told_of(why)).reply
+        except (asyncio.CancelledError, ConnectionError):
+            raise
+        except Exception:
+            TOLD.exception("a request failed")
+            return Refusal(HTTPStatus.INTERNAL_SERVER_ERROR, "the server failed at this request").reply
+
+    async def _replied(self, request: web.BaseRequest) -> Reply:
+        raw, _, query = request.raw_path.partition("?")
+        name = unquote(raw)
+        path = self._paths.get(name)
+        words = words_of(query)
+        self._check_right(request, words, path.right if path else Right.READ)
+        if path is None:
+            raise Refusal(HTTPStatus.NOT_FOUND, f"there are {', '.join(sorted(it for it in self._paths if '.' not in it))}")
+        if request.method not in path.methods:
+            raise Refusal(HTTPStatus.METHOD_NOT_ALLOWED, f"{name} takes {' and '.join(path.methods)}", {"Allow": ", ".join(path.methods)})
+        if self.is_ending and path.right is not None:
+            raise not_yet("the server is ending")
+        return await path.work(Asked(request, name, words))
+
+    def _check_right(self, request: web.BaseRequest, words: Words, wanted: Optional[Right]) -> None:
+        if wanted is None or self._tokens is None:
+            return
+        token = token_of_header(request.headers.get("Authorization", "")) or words.own.get(TOKEN)
+        if token is None:
+            raise Refusal(HTTPStatus.UNAUTHORIZED, "a token is wanted: Authorization: Bearer TOKEN", {"WWW-Authenticate": "Bearer"})
+        right = self._tokens.right_of(token)
+        if right is None:
+            raise Refusal(HTTPStatus.UNAUTHORIZED, "the token isn't known", {"WWW-Authenticate": 'Bearer error="invalid_token"'})
+        if not right.allows(wanted):
+            raise Refusal(HTTPStatus.FORBIDDEN, "the token may read, and not change")
+
+    async def _sent(self, request: web.BaseRequest, reply: Reply) -> web.StreamResponse:
+        """A reply as it goes out: a long one in parts, each of which has its time, so that a slow reader costs no memory, and one
+        that stands still is cut off."""
+        headers = {"Content-Type": reply.kind, "Cache-Control": "no-store", "X-Content-Type-Options": "nosniff", **reply.headers}
+        if self.is_ending:
+            headers["Connection"] = "close"
+        if len(reply.body) <= PART or request.method == "HEAD":
+            return web.Response(status=reply.status.value, body=reply.body, headers=headers)
+        response = web.StreamResponse(status=reply.status.value, headers=headers)
+        response.content_length = len(reply.body)
+        await response.prepare(request)
+        for at in range(0, len(reply.body), PART):
+            try:
+                await asyncio.wait_for(response.write(reply.body[at : at + PART]), SECONDS_FOR_A_PART)
+            except asyncio.TimeoutError:
+                self.connections.of(request.protocol).cut()
+                break
+        return response
+
+    # What the paths do.
+
+    async def _question(self, asked: Asked) -> Reply:
+        name, _, suffix = asked.path[1:].partition(".")
+        question = question_of(name, asked.words, self.cube.schema)
+        form = SUFFIXES[suffix] if suffix else form_accepted(asked.headers.get("Accept", ""))
+        self._check_ready()
+        answer = await self.cube.ask(question)
+        headers = {"Datacube-State": str(answer.state)}
+        return Reply(HTTPStatus.OK, await answer.form(form), form.value, headers)
+
+    async def _changes(self, asked: Asked) -> Reply:
+        read = reader_of(asked.headers)
+        self._check_ready()
+        with self._room.held(asked.request):
+            data = await self._room.read(asked.request)
+            records = await beside(len(data), lambda: read(data, self.cube.schema))
+            made = await self.cube.make(records)
+            return json_reply(await beside(LONG if made.refused else 0, lambda: self._told_of(made)))
+
+    async def _health(self, asked: Asked) -> Reply:
+        return Reply(HTTPStatus.OK, b"ok\n")
+
+    async def _readiness(self, asked: Asked) -> Reply:
+        self._check_ready()
+        if self.is_ending:
+            raise not_yet("the server is ending")
+        return Reply(HTTPStatus.OK, b"ok\n")
+
+    def _check_ready(self) -> None:
+        if self.cube.state is None:
+            raise not_yet("the session isn't there: it is still reading, or it has ended")
+
+    def _told_of(self, made: Made) -> Dict[str, object]:
+        """What became of changes, as it is told."""
+        refused = [{**it._asdict(), "means": self._meaning(it.code)} for it in made.refused]
+        return {"taken": made.taken, "refused": refused, "state": made.state}
+
+
+def told_of(why: Failure) -> str:
+    """A code, and what it means in the program's words."""
+    means = [it.partition(":")[2].strip() for it in why.meaning.splitlines() if it.strip().startswith("means:")]
+    return f"{why.line}: {means[0]}" if means else why.line

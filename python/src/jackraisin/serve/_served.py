@@ -1,0 +1,213 @@
+"""The cube that is served: changes of many go in together, and each answer is made once for all who ask."""
+from __future__ import annotations
+
+import asyncio
+from collections import OrderedDict
+from concurrent.futures import ThreadPoolExecutor
+from typing import Callable, Dict, List, NamedTuple, Optional, Sequence, TypeVar, Union
+
+from .._errors import DatacubeError, Ended, Failure
+from .._schema import Schema
+from ._bodies import Record
+from ._errors import CantServe
+from ._forms import Form, text_in_form
+from ._query import Question
+from ._stored import Refused, StoredSession, refused_at
+
+T = TypeVar("T")
+
+# (so many changes go in together, and more wait; and so many bytes of a state's answers are kept)
+MOST_CHANGES, MOST_BYTES = 20_000, 64 * 2**20
+# (what is made of a text that is longer is made in a thread of its own)
+LONG = 2**15
+
+
+class Made(NamedTuple):
+    """What became of a body: how many changes were taken, which were refused, and the state behind them."""
+
+    taken: int
+    refused: List[Refused]
+    state: int
+
+
+class Answer:
+    """The answer to a question in a state, which is the number of changes in the store. Each form of it is made once."""
+
+    def __init__(self, state: int, text: str, schema: Schema) -> None:
+        self.state, self.size = state, len(text)
+        self._text, self._schema = text, schema
+        self._forms: Dict[Form, "asyncio.Task[bytes]"] = {}
+
+    async def form(self, form: Form) -> bytes:
+        if form not in self._forms:
+            self._forms[form] = asyncio.ensure_future(beside(self.size, lambda: self._made(form)))
+        return await asyncio.shield(self._forms[form])
+
+    def _made(self, form: Form) -> bytes:
+        return text_in_form(self._text, form, self._schema).encode("utf-8")
+
+
+Answered = Union[Answer, Failure, CantServe]
+
+
+class Post:
+    """A body of changes that waits for its turn."""
+
+    def __init__(self, records: Sequence[Record]) -> None:
+        self.records = records
+        self.made: "asyncio.Future[Union[Made, DatacubeError]]" = asyncio.get_running_loop().create_future()
+
+
+class ServedCube:
+    """A session in a thread of its own, over which many ask and change. `run` goes on until `end`, or until the session ends."""
+
+    def __init__(self, schema: Schema, begin: Callable[[], StoredSession]) -> None:
+        self.schema = schema
+        self.state: Optional[int] = None
+        self._begin = begin
+        self._thread = ThreadPoolExecutor(1, "datacube session")
+        self._posts: List[Post] = []
+        self._questions: Dict[Question, "asyncio.Future[Answered]"] = {}
+        self._answers: "OrderedDict[Question, Answer]" = OrderedDict()
+        self._kept = 0
+        self._wake = asyncio.Event()
+        self._is_ending = False
+
+    # What others call.
+
+    async def make(self, records: Sequence[Record]) -> Made:
+        """Makes the changes of a body; they are certain when it returns."""
+        post = Post(records)
+        self._posts.append(post)
+        self._wake.set()
+        made = await asyncio.shield(post.made)
+        if isinstance(made, DatacubeError):
+            raise made
+        return made
+
+    async def ask(self, question: Question) -> Answer:
+        """The answer to a question in the state that is there, or in a later one; a refused question raises `Failure`."""
+        found = self._answers.get(question)
+        if found is not None:
+            self._answers.move_to_end(question)
+            return found
+        if question not in self._questions:
+            self._questions[question] = asyncio.get_running_loop().create_future()
+            self._wake.set()
+        answer = await asyncio.shield(self._questions[question])
+        if isinstance(answer, Failure):
+            raise Failure(answer.line, answer.meaning, answer.status)
+        if isinstance(answer, CantServe):
+            raise CantServe(str(answer))
+        return answer
+
+    def end(self) -> None:
+        """Lets `run` end, once what waits is done."""
+        self._is_ending = True
+        self._wake.set()
+
+    async def run(self, ready: Callable[[StoredSession], None]) -> int:
+        """Begins the session, serves until the end, and gives its status; where the session ends by itself, that is raised."""
+        session = await self._in_thread(self._begin)
+        try:
+            self.state = session.number
+            ready(session)
+            await self._serve(session)
+            return await self._in_thread(session.close)
+        finally:
+            await self._in_thread(session.stop)
+            self._thread.shutdown()
+
+    # What the loop does.
+
+    async def _serve(self, session: StoredSession) -> None:
+        try:
+            while self._posts or self._questions or not self._is_ending:
+                await self._wake.wait()
+                self._wake.clear()
+                if self._posts:
+                    await self._make(session)
+                if self._questions:
+                    await self._answer(session)
+                if self._posts or self._questions or self._is_ending:
+                    self._wake.set()
+        except Exception as why:
+            self._give_up(CantServe(f"the session ended: {why}"))
+            raise
+
+    async def _make(self, session: StoredSession) -> None:
+        """Makes the changes of the bodies that wait, with one commit."""
+        posts = self._next_posts()
+        try:
+            made = await self._in_thread(lambda: make_all(session, posts))
+        except Exception:
+            self._posts = posts + self._posts
+            raise
+        if session.number != self.state:
+            self.state = session.number
+            self._answers.clear()
+            self._kept = 0
+        for post, it in zip(posts, made):
+            post.made.set_result(it)
+
+    def _next_posts(self) -> List[Post]:
+        count = 0
+        posts: List[Post] = []
+        while self._posts and (not posts or count + len(self._posts[0].records) <= MOST_CHANGES):
+            posts.append(self._posts.pop(0))
+            count += len(posts[-1].records)
+        return posts
+
+    async def _answer(self, session: StoredSession) -> None:
+        """Answers the questions that wait, over one state."""
+        asked = list(self._questions)
+        texts = await self._in_thread(lambda: [answer_of(session, it) for it in asked])
+        for question, text in zip(asked, texts):
+            assert self.state is not None
+            answer: Answered = text if isinstance(text, Failure) else Answer(self.state, text, self.schema)
+            if isinstance(answer, Answer):
+                self._keep(question, answer)
+            self._questions.pop(question).set_result(answer)
+
+    def _keep(self, question: Question, answer: Answer) -> None:
+        """Keeps an answer for those who ask the same in this state, and of all the latest ones."""
+        self._answers[question] = answer
+        self._kept += answer.size
+        while self._kept > MOST_BYTES and len(self._answers) > 1:
+            self._kept -= self._answers.popitem(last=False)[1].size
+
+    def _give_up(self, why: CantServe) -> None:
+        """Tells all who wait that the session is over."""
+        for post in self._posts:
+            post.made.set_result(why)
+        for question in self._questions.values():
+            question.set_result(why)
+        self._posts, self._questions, self.state = [], {}, None
+
+    async def _in_thread(self, work: Callable[[], T]) -> T:
+        return await asyncio.get_running_loop().run_in_executor(self._thread, work)
+
+
+def make_all(session: StoredSession, posts: Sequence[Post]) -> List[Made]:
+    """Makes the changes of all bodies, and says what became of each."""
+    places = [session.place(it.records) for it in posts]
+    session.make([record for it in posts for record in it.records])
+    codes = session.codes_at(places)
+    refused = [refused_at(place, post.records, codes) for place, post in zip(places, posts)]
+    return [Made(len(post.records) - len(it), it, session.number) for post, it in zip(posts, refused)]
+
+
+def answer_of(session: StoredSession, question: Question) -> Union[str, Failure]:
+    try:
+        return session.ask(*question)
+    except Ended:
+        raise
+    except Failure as why:
+        return why
+
+
+async def beside(size: int, work: Callable[[], T]) -> T:
+    """Does some work at once, or where it takes its time beside what else there is to do."""
+    if size < LONG:
+        return work()
+    return await asyncio.get_running_loop().run_in_executor(None, work)

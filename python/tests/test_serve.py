@@ -1,0 +1,657 @@
+"""One cube for a team, over HTTP: beside scripts/oracle.py, the program's own forms, and a session that is asked directly."""
+import asyncio
+import contextlib
+import csv
+import http.client
+import importlib.util
+import io
+import json
+import os
+import random
+import re
+import signal
+import socket
+import stat
+import subprocess
+import sys
+import tempfile
+import threading
+import time
+import unittest
+from unittest import mock
+
+import beside
+import jackraisin
+import oracle
+from jackraisin import ALL, ANY
+
+WHY = None if importlib.util.find_spec("aiohttp") else "aiohttp (Debian: python3-aiohttp) isn't installed for this Python"
+if WHY is None:
+    from jackraisin._errors import Failure
+    from jackraisin.serve import _connections, _served, _stored, _words
+    from jackraisin.serve._errors import CantServe
+
+SECONDS = 30
+SHOP = [f"{beside.SHOP}/{it}.csv" for it in ("market", "street", "online")]
+SCHEMA = f"{beside.SHOP}/schema.toml"
+CSV, JSON = {"Content-Type": "text/csv"}, {"Content-Type": "application/x-ndjson"}
+NAMED = """dimensions = ["city", "_kind"]
+measures = ["price"]
+aggregates = ["count(*)", "sum(price)", "avg(price)"]
+version = 2
+feed = { null = ["", "NA"], delimiter = ";", columns = { city = "Town" } }
+decimals = { price = 2 }
+"""
+
+
+def setUpModule():
+    if WHY:
+        raise unittest.SkipTest(f"a cube that is served: {WHY}")
+
+
+def command(words):
+    return [sys.executable, "-B", "-m", "jackraisin.serve", *words]
+
+
+def environment(**more):
+    return {**os.environ, "PYTHONPATH": f"{beside.ROOT}/python/src", **more}
+
+
+class UnixConnection(http.client.HTTPConnection):
+    """A connection to a Unix socket."""
+
+    def __init__(self, path):
+        super().__init__("localhost", timeout=SECONDS)
+        self.path = path
+
+    def connect(self):
+        self.sock = socket.socket(socket.AF_UNIX)
+        self.sock.settimeout(SECONDS)
+        self.sock.connect(self.path)
+
+
+class Server:
+    """A running server, over the shop's feeds where nothing else is given."""
+
+    def __init__(self, store, *words, schema=SCHEMA, feeds=SHOP, listen="127.0.0.1:0", is_awaited=True, **env):
+        line = command([schema, *feeds, "--store", store, "--listen", listen, *words])
+        self.process = subprocess.Popen(line, stdout=subprocess.PIPE, stderr=subprocess.PIPE, text=True, env=environment(**env))
+        self.address = self.process.stdout.readline().strip()
+        at, _, self.token = self.address.partition("?_token=")
+        self.path = at[len("unix:") :] if at.startswith("unix:") else None
+        self.port = None if self.path or not at else int(at.rstrip("/").rpartition(":")[2])
+        if is_awaited:
+            self.wait()
+
+    def wait(self):
+        until(lambda: self.get("/readyz").status == 200 or self.process.poll() is not None)
+
+    def connection(self):
+        return UnixConnection(self.path) if self.path else http.client.HTTPConnection("127.0.0.1", self.port, timeout=SECONDS)
+
+    def ask(self, method, path, body=None, headers={}, token=True):
+        with contextlib.closing(self.connection()) as connection:
+            given = {"Authorization": f"Bearer {self.token}"} if token and self.token else {}
+            connection.request(method, path, body, {**given, **headers})
+            answer = connection.getresponse()
+            answer.text = answer.read().decode()
+            return answer
+
+    def get(self, path, **how):
+        return self.ask("GET", path, **how)
+
+    def change(self, body, headers=CSV, **how):
+        return self.ask("POST", "/changes", body, headers, **how)
+
+    def made(self, body, headers=CSV):
+        answer = self.change(body, headers)
+        assert answer.status == 200, answer.text
+        return json.loads(answer.text)
+
+    def end(self, signal=signal.SIGTERM):
+        """The status, and what was told."""
+        if self.process.poll() is None:
+            self.process.send_signal(signal)
+        told = self.process.communicate(timeout=SECONDS)[1]
+        return self.process.returncode, told
+
+
+def until(is_so):
+    last = time.monotonic() + SECONDS
+    while not is_so():
+        if time.monotonic() > last:
+            raise AssertionError("it didn't come in time")
+        time.sleep(0.02)
+
+
+def records(rows):
+    out = io.StringIO(newline="")
+    csv.writer(out).writerows(rows)
+    return out.getvalue().encode()
+
+
+class Case(unittest.TestCase):
+    """A test with a folder, and servers that end behind it."""
+
+    def setUp(self):
+        folder = tempfile.TemporaryDirectory(prefix="datacube-test-")
+        self.addCleanup(folder.cleanup)
+        self.folder = folder.name
+        self.store = f"{self.folder}/sales.db"
+
+    def server(self, *words, **how):
+        server = Server(self.store, *words, **how)
+        self.addCleanup(server.process.stdout.close)
+        self.addCleanup(server.process.stderr.close)
+        self.addCleanup(lambda: server.process.poll() is None and (server.process.kill(), server.process.wait()))
+        return server
+
+    def written(self, name, text):
+        path = f"{self.folder}/{name}"
+        with open(path, "w", encoding="utf-8", newline="") as out:
+            out.write(text)
+        return path
+
+    def stored(self, *question):
+        """What a command over the store of an ended server says."""
+        command, *words = question
+        ran = subprocess.run([jackraisin.program(), command, "--store", self.store, SCHEMA, *words, *SHOP], stdout=subprocess.PIPE, text=True)
+        self.assertIn(ran.returncode, (0, 4))
+        return ran.stdout
+
+
+class Questions(Case):
+    """Over the shop's feeds, beside the program's own commands."""
+
+    def setUp(self):
+        super().setUp()
+        self.shop = self.server()
+
+    def program(self, command, *words):
+        return subprocess.run([jackraisin.program(), command, *words], stdout=subprocess.PIPE, text=True).stdout
+
+    def test_each_question_in_each_form(self):
+        questions = {
+            "cube": ("print", []), "slice?city=*": ("slice", ["?,\\A,\\A"]), "slice?product=tea,%20green&payment=*": ("slice", ['\\A,"=tea, green",?']),
+            "slice?city=%5CN&product=*": ("slice", ["\\N,?,\\A"]), "drill?_along=product&city=Leeds": ("drill", ["=Leeds,\\A,\\A", "product"]),
+            "rollup?_along=product&city=York&product=tea": ("rollup", ["=York,=tea,\\A", "product"]), "slice": ("slice", ["\\A,\\A,\\A"]),
+        }
+        for asked, (command, words) in questions.items():
+            path, _, query = asked.partition("?")
+            wanted = self.program(command, SCHEMA, *words, *SHOP)
+            self.assertEqual(self.shop.get(f"/{asked}").text, wanted)
+            self.assertEqual(self.shop.get(f"/{path}.csv?{query}").text, wanted)
+            objects = [json.loads(it) for it in self.program(command, "--json", SCHEMA, *words, *SHOP).splitlines()]
+            self.assertEqual(json.loads(self.shop.get(f"/{path}.json?{query}").text), objects)
+            self.assertEqual(self.shop.get(f"/{path}.txt?{query}").text, self.program(command, "--aligned", SCHEMA, *words, *SHOP))
+
+    def test_the_form_that_is_accepted(self):
+        kinds = {
+            "": "text/csv; charset=utf-8", "*/*": "text/csv; charset=utf-8", "application/json": "application/json",
+            "text/plain;q=0.5, application/json;q=0.9": "application/json", "text/plain": "text/plain; charset=utf-8",
+            "text/csv;q=0, image/png": "text/csv; charset=utf-8",
+        }
+        for accept, kind in kinds.items():
+            answer = self.shop.get("/slice?city=*", headers={"Accept": accept})
+            self.assertEqual((answer.status, answer.headers["Content-Type"], accept), (200, kind, accept))
+
+    def test_refusals(self):
+        self.assertEqual(self.shop.get("/refusals").text, self.program("refusals", SCHEMA, *SHOP))
+        self.assertEqual(self.shop.get("/refusals?_source=3&_after=3").text, "source,record,code\n3,4,5\n")
+        self.assertEqual(json.loads(self.shop.get("/refusals.json?_source=2").text), [{"source": 2, "record": 5, "code": 7}])
+        self.assertEqual(self.shop.get("/refusals.txt?_source=2").text, "source  record  code\n     2       5     7\n")
+
+    def test_what_is_refused(self):
+        told = {
+            "/slice?town=York": "no dimension is named town", "/slice?city=York&city=Leeds": "city stands twice", "/slice?city=*a": "city=*a: ",
+            "/slice?city=%5CA": "city=\\A: ", "/slice?_form=x": "/slice has no word _form", "/cube?city=York": "/cube takes no dimension",
+            "/drill?city=York": "/drill goes along a dimension", "/drill?_along=city&city=York": "P4: ", "/drill?_along=town": "P5: ",
+            "/drill?_along=city&product=*": "P3: ", "/refusals?_source=70": "Q2: ", "/refusals?_after=1": "_after goes with _source",
+            "/refusals?_source=a": "_source is a whole number", "/slice?city=%ff": "the address can't be read", "/rollup?_along=x": "P5: ",
+        }
+        for path, why in told.items():
+            answer = self.shop.get(path)
+            self.assertEqual((path, answer.status, answer.text[: len(why)]), (path, 400, why))
+        self.assertEqual(self.shop.get("/nothing").status, 404)
+        self.assertEqual(self.shop.ask("DELETE", "/cube").status, 405)
+        self.assertEqual(self.shop.get("/changes").headers["Allow"], "POST")
+        head = self.shop.ask("HEAD", "/cube.csv")
+        self.assertEqual((head.status, head.text, head.headers["Content-Length"]), (200, "", str(len(self.shop.get("/cube").text.encode()))))
+
+
+class Words(Case):
+    def test_texts_and_names_that_look_like_words(self):
+        feed = self.written("feed.csv", "Town;_kind;price\n*;=;1\n\\x;a&b;2.50\n=*;;3\nNA;é;4\n")
+        server = self.server(schema=self.written("schema.toml", NAMED), feeds=[feed])
+        wanted = {
+            "city==*": "1.00", "city==%5Cx": "2.50", "city===*": "3.00", "city=%5CN": "4.00", "__kind==%3D": "1.00", "__kind=a%26b": "2.50",
+            "__kind=%C3%A9&city=%5CN": "4.00", "__kind=%5CN": "3.00",
+        }
+        for query, total in wanted.items():
+            lines = list(csv.reader(io.StringIO(server.get(f"/slice?{query}").text, newline="")))
+            self.assertEqual((query, lines[1][5]), (query, total))
+        self.assertEqual(server.get("/slice?_kind=a").status, 400)
+        self.assertEqual(len(server.get("/drill?_along=_kind").text.splitlines()), 5)
+
+
+class Changes(Case):
+    def test_generated(self):
+        """Bodies of CSV and of JSON lines, beside the oracle's session: what was taken, what was refused, and the cube."""
+        for seed in range(4):
+            rng = random.Random(f"served {seed}")
+            schema, feeds = beside.small_case(rng)
+            schema.max_records, feeds = 2**32 - 1, feeds[: rng.choice([0, 1, 3])]
+            self.store = f"{self.folder}/{seed}.db"
+            with self.subTest(seed=seed), beside.written(schema, feeds, rng) as paths:
+                given, played = beside.schema_like(schema), oracle.Session(schema, feeds)
+                server = self.server(schema=self.written(f"{seed}.toml", given.toml()), feeds=paths)
+                for _ in range(12):
+                    body, wanted = self.body(rng, given)
+                    known = set(played.refused())
+                    for it in wanted:
+                        played.reply([field.encode() for field in it])
+                    new = set(played.refused()) - known
+                    made = server.made(*body)
+                    self.assertEqual((made["taken"], len(made["refused"])), (len(wanted) - len(new), len(new)))
+                    told = {(it["source"], it["record"], it["code"]): wanted[it["change"] - 1] for it in made["refused"]}
+                    self.assertEqual(sorted(told), sorted(new))
+                    self.assertTrue(all(int(record[0]) == source for (source, _, _), record in told.items()))
+                    self.assertTrue(all(it["means"] for it in made["refused"]))
+                    self.assertEqual(server.get("/cube.csv").text.encode(), played.run().print())
+                self.assertEqual(server.end()[0], 0)
+
+    def body(self, rng, schema):
+        """A body with its headers, and the records that it stands for."""
+        made = [self.change(rng, schema) for _ in range(rng.choice([0, 1, 5, 30]))]
+        lines = [record for record, _ in made]
+        if rng.random() < 0.5:
+            return (records(lines), CSV), lines
+        return ("\n".join(json.dumps(it) for _, it in made).encode(), JSON), lines
+
+    def change(self, rng, schema):
+        """A change as a record, and as an object."""
+        source, name, op = rng.choice([1, 2, 5]), f"id {rng.randrange(8)}", rng.choice("IIUD")
+        said = {"source": source, "op": op, "id": name}
+        if op == "D":
+            return [str(source), op, name], said
+        texts = {it: rng.choice([None, "west", "a,b", 'say "no"', "é\n", "x" * 200]) for it in schema.dimensions}
+        numbers = {it: rng.choice([None, 0, -7, 7 if schema.decimals.get(it) else 2**63 - 1]) for it in schema.measures}
+        said.update(texts, **{it: value if rng.random() < 0.5 or value is None else str(value) for it, value in numbers.items()})
+        fields = ["\\N" if it is None else str(it) for it in [*texts.values(), *numbers.values()]]
+        return [str(source), op, name, *fields], said
+
+    def test_what_isnt_whole_changes_nothing(self):
+        shop = self.server()
+        good = b"1,I,new,York,tea,card,1,100\n"
+        bodies = {
+            good + b'1,I,other,"York,tea,card,1,100\n': "record 2: ", good + b"x,I,other\n": "record 2: it begins with 'x'",
+            good + b"0,D,other\n": "record 2: ", good + b"65,D,a\n": "record 2: ", good + b"01,D,a\n": "record 2: ", b"print\n": "record 1: ",
+            good + b"1,I,\xff": "byte 33 isn't UTF-8", b'""\n': "record 1: ", b'1,I,"a"b\n': "record 1: ", b" 1,D,a\n": "record 1: ",
+        }
+        for body, why in bodies.items():
+            answer = shop.change(body)
+            self.assertEqual((body, answer.status, answer.text[: len(why)]), (body, 400, why))
+        line = '{"source": 1, "op": "I", "id": "j", "city": "York", "product": "tea", "payment": null, "pieces": 1, "cents": %s}'
+        lines = {
+            line % "1.5": "line 1: 1.5 is no whole number", line % "1e2": "line 1: ", line % "NaN": "line 1: ", line % "true": "line 1: ",
+            line % '"1.5"': "line 1: measure cents", line % '"many"': "line 1: measure cents: 'many' is no number", line % str(2**63): "line 1: measure cents",
+            (line % "1").replace('"York"', '"\\\\N"'): "line 1: dimension city", line % '1, "cents": 2': "line 1: a name stands twice",
+            line % '1, "colour": "red"': "line 1: no column is named 'colour'", "[1]": "line 1: it is no object", line[:40]: "line 1: ", "[" * 100000: "line 1: ",
+            line % "1" + "\n\n" + (line % "1").replace('"op": "I"', '"op": "X"'): "line 2: 'op' is one of", '{"source": 1, "op": "D"}': "line 1: 'id' is missing",
+            (line % "1").replace(', "city": "York"', ""): "line 1: dimension city is missing", (line % "1").replace('"source": 1', '"source": 65'): "line 1: a source",
+            (line % "1").replace('"op": "I"', '"op": "P"'): "line 1: what is put", (line % "1").replace('"j"', '""'): "line 1: an id isn't empty",
+        }
+        for body, why in lines.items():
+            answer = shop.change(body.encode(), JSON)
+            self.assertEqual((body[:200], answer.status, answer.text[: len(why)]), (body[:200], 400, why))
+        self.assertEqual(shop.made(b"\r\n\n"), {"taken": 0, "refused": [], "state": 0})
+        self.assertEqual(shop.get("/slice").headers["Datacube-State"], "0")
+
+    def test_puts_and_keeps_by_names(self):
+        feed = self.written("feed.csv", "Town;_kind;price\nYork;a;1\n")
+        server = self.server(schema=self.written("schema.toml", NAMED), feeds=[feed])
+        said = [{"source": 1, "op": "P", "id": "1", "city": "Leeds", "_kind": 7, "price": "3.50"}, {"source": 1, "op": "U", "id": 1, "city": "Hull"},
+                {"source": 2, "op": "R", "id": "none"}, {"source": 2, "op": "P", "id": "b", "city": None, "_kind": None, "price": 2}]
+        made = server.made("\n".join(map(json.dumps, said)).encode(), JSON)
+        self.assertEqual((made["taken"], made["refused"], made["state"]), (4, [], 4))
+        cube = jackraisin.Cube(server.get("/cube").text)
+        self.assertEqual([(it.key, it["count(*)"], str(it["sum(price)"])) for it in cube.where({"city": ANY, "_kind": ANY})][:1], [(("Hull", "7"), 1, "3.50")])
+        self.assertEqual(cube.at({"city": None})["count(*)"], 1)
+
+    def test_an_answer_means_that_it_is_in_the_store(self):
+        """What was answered is there however the server ends, and goes on from there; other commands take the store."""
+        server = self.server()
+        self.assertEqual(server.made(b"7,I,a,York,tea,card,1,100\n7,I,a,York,tea,card,1,100\n")["refused"][0]["record"], 2)
+        server.process.kill()
+        server.process.wait()
+        server = self.server()
+        self.assertEqual(server.made(b"7,I,a,York,tea,card,1,100\n7,I,b,York,tea,card,1,100\n"), {
+            "taken": 1, "refused": [{"change": 1, "source": 7, "record": 3, "code": 7, "means": "An insert of an id that is present."}], "state": 4})
+        served = server.get("/cube.csv").text
+        self.assertEqual(server.end()[0], 0)
+        self.assertEqual(self.stored("print"), served)
+        self.assertEqual(self.stored("refusals").splitlines()[-2:], ["7,2,7", "7,3,7"])
+
+    def test_limits(self):
+        server = self.server("--max-body", "1K")
+        self.assertEqual(server.change(b"1,D,a\n" * 200).status, 413)
+        self.assertEqual(server.change(iter([b"1,D,a\n" * 100] * 5), CSV).status, 413)
+        for headers in ({}, {"Content-Type": "text/html"}, {"Content-Type": "text/csv; charset=latin-1"}, {**CSV, "Content-Encoding": "gzip"}):
+            self.assertEqual(server.change(b"1,D,a\n", headers).status, 415)
+        self.assertEqual(server.change(b"1,D,a\n", {"Content-Type": "text/csv; header=absent; charset=UTF-8"}).status, 200)
+        self.assertEqual(server.change(iter([b"1,D,", b"a\n"]), {**CSV, "Expect": "100-continue"}).status, 200)
+        self.assertEqual(server.get("/slice").headers["Datacube-State"], "2")
+
+
+class Rights(Case):
+    def test_tokens(self):
+        file = self.written("tokens", "# the team's\nread reader-1\n\nchange changer-1\n")
+        server = self.server("--token-file", file)
+        self.assertEqual((server.token, server.get("/readyz").status, server.get("/healthz").status), ("", 200, 200))
+        for token, read, change in ((None, 401, 401), ("reader-1", 200, 403), ("changer-1", 200, 200), ("changer-", 401, 401), ("", 401, 401)):
+            headers = {} if token is None else {"Authorization": f"Bearer {token}"}
+            self.assertEqual((token, server.get("/slice", headers=headers).status), (token, read))
+            self.assertEqual((token, server.change(b"9,D,a\n", {**CSV, **headers}).status), (token, change))
+            query = "" if token is None else f"?_token={token}"
+            self.assertEqual((token, server.get(f"/cube.csv{query}").status), (token, read))
+        self.assertEqual(server.get("/nothing").status, 401)
+        self.assertEqual(server.get("/slice").headers["WWW-Authenticate"], "Bearer")
+        self.assertEqual(server.get("/slice", headers={"Authorization": "Basic cmVhZGVyLTE="}).status, 401)
+
+    def test_a_drawn_token(self):
+        server = self.server()
+        self.assertRegex(server.address, r"^http://127\.0\.0\.1:[0-9]+/\?_token=[\w-]{32}$")
+        self.assertEqual((server.get("/slice").status, server.get("/slice", token=False).status), (200, 401))
+        told = server.end()[1]
+        self.assertNotIn(server.token, told)
+
+    def test_a_unix_socket(self):
+        path = f"{self.folder}/cube.sock"
+        server = self.server("--no-token", listen=f"unix:{path}")
+        self.assertEqual((server.address, stat.S_IMODE(os.lstat(path).st_mode)), (f"unix:{path}", 0o600))
+        self.assertEqual(server.get("/slice").status, 200)
+        server.process.kill()
+        server.process.wait()
+        server = self.server(listen=f"unix:{path}")
+        self.assertEqual((server.get("/slice").status, server.get("/slice", token=False).status), (200, 401))
+        self.assertEqual(server.end()[0], 0)
+        self.assertFalse(os.path.exists(path))
+
+
+class Commands(Case):
+    """What the command says where it can't begin: one line, and status 1."""
+
+    def said(self, *words, **env):
+        ran = subprocess.run(command(words), stdout=subprocess.PIPE, stderr=subprocess.PIPE, text=True, env=environment(**env), timeout=SECONDS)
+        return ran.returncode, ran.stdout, ran.stderr
+
+    def test_where_it_may_listen(self):
+        tokens = self.written("tokens", "read reader-1\n")
+        lines = {
+            ("--listen", "0.0.0.0:0"): "wants --token-file", ("--listen", "0.0.0.0:0", "--token-file", tokens): "wants --tls-cert and --tls-key, or --behind-tls",
+            ("--listen", "127.0.0.1"): "is no address", ("--listen", "127.0.0.1:0", "--no-token"): "--no-token is for a Unix socket",
+            ("--listen", "[::]:0"): "wants --token-file", ("--listen", "unix:"): "wants the path", ("--tls-cert", tokens): "go together",
+            ("--token-file", f"{self.folder}/none"): "can't be read", ("--token-file", self.written("wrong", "write token-12\n")): "line 1",
+        }
+        for words, why in lines.items():
+            with self.subTest(words=words), self.assertRaisesRegex(CantServe, why):
+                _words.given_by([SCHEMA, "--store", self.store, *words])
+        for words in (("--listen", "0.0.0.0:0", "--token-file", tokens, "--behind-tls"), ("--listen", "localhost:0"), ("--listen", "[::1]:0"), ("--listen", "127.9.9.9:0")):
+            self.assertIsNotNone(_words.given_by([SCHEMA, "--store", self.store, *words]).tokens)
+        pair = "--tls-cert", tokens, "--tls-key", tokens, "--listen", "127.0.0.1:0"
+        for words, why in ((pair, "the certificate or its key"), (("--listen", "0.0.0.0:0"), "wants --token-file")):
+            status, out, told = self.said(SCHEMA, "--store", self.store, *words)
+            self.assertEqual((words, status, out, told.count("\n")), (words, 1, "", 1))
+            self.assertTrue(told.startswith("jackraisin.serve: ") and why in told, told)
+        self.assertFalse(os.path.exists(self.store))
+
+    def test_what_the_session_says(self):
+        self.assertEqual(self.said(f"{self.folder}/none.toml", "--store", self.store)[0], 1)
+        self.written("sales.db", "no store")
+        for store, line in ((self.store, "D3"), (f"{self.folder}/none/sales.db", "D2")):
+            status, _, told = self.said(SCHEMA, *SHOP, "--store", store, "--listen", "127.0.0.1:0")
+            self.assertEqual((status, told.splitlines()[0]), (1, f"jackraisin.serve: {line}"))
+        with open(self.store) as file:
+            self.assertEqual(file.read(), "no store")
+
+    def test_tls(self):
+        pair = [f"{self.folder}/{it}.pem" for it in ("cert", "key")]
+        made = subprocess.run(["openssl", "req", "-x509", "-newkey", "rsa:2048", "-nodes", "-subj", "/CN=localhost", "-out", pair[0], "-keyout", pair[1]],
+                              stderr=subprocess.DEVNULL) if os.path.exists("/usr/bin/openssl") else None
+        if made is None or made.returncode:
+            self.skipTest("openssl isn't installed")
+        import ssl
+        server = self.server("--tls-cert", pair[0], "--tls-key", pair[1], is_awaited=False)
+        self.assertTrue(server.address.startswith("https://"))
+        context = ssl.create_default_context(cafile=pair[0])
+        context.check_hostname = False
+        server.connection = lambda: http.client.HTTPSConnection("127.0.0.1", server.port, context=context, timeout=SECONDS)
+        server.wait()
+        self.assertEqual(server.get("/slice").status, 200)
+
+    def test_without_aiohttp(self):
+        os.mkdir(f"{self.folder}/aiohttp")
+        self.written("aiohttp/__init__.py", "raise ImportError('there is none')\n")
+        path = f"{self.folder}:{beside.ROOT}/python/src"
+        self.assertEqual(self.said(SCHEMA, "--store", self.store, PYTHONPATH=path), (1, "", "jackraisin.serve: it needs aiohttp (Debian: python3-aiohttp)\n"))
+        call = [sys.executable, "-B", "-c", "import jackraisin, sys; print('aiohttp' in sys.modules)"]
+        self.assertEqual(subprocess.run(call, stdout=subprocess.PIPE, text=True, env=environment(PYTHONPATH=path)).stdout, "False\n")
+
+
+class Ends(Case):
+    def test_before_it_is_ready(self):
+        slow = self.written("slow", f'#!/bin/sh\n[ "$1" != live ] || sleep 1.5\nexec "{jackraisin.program()}" "$@"\n')
+        os.chmod(slow, 0o755)
+        server = self.server(is_awaited=False, DATACUBE=slow)
+        for path in ("/readyz", "/cube.csv"):
+            answer = server.get(path)
+            self.assertEqual((path, answer.status, answer.headers["Retry-After"]), (path, 503, "1"))
+        self.assertEqual((server.change(b"1,D,a\n").status, server.get("/healthz").status), (503, 200))
+        server.wait()
+        self.assertEqual(server.get("/cube.csv").status, 200)
+
+    def test_each_signal_ends_it_well(self):
+        """While many post: what was answered is in the store, which a command takes then."""
+        for it in (signal.SIGTERM, signal.SIGINT, signal.SIGHUP):
+            server = self.server()
+            answered, number = [], iter(range(10**9))
+
+            def post(server=server, answered=answered, number=number, it=it):
+                with contextlib.suppress(OSError, http.client.HTTPException):
+                    while True:
+                        name = f"{it.name} {next(number)}"
+                        answer = server.change(records([[20, "I", name, "Hull", "tea", "cash", 1, 1]]))
+                        if answer.status != 200:
+                            return
+                        answered.append(name)
+            threads = [threading.Thread(target=post) for _ in range(8)]
+            for each in threads:
+                each.start()
+            until(lambda: len(answered) > 50)
+            self.assertEqual(server.end(it)[0], 0)
+            for each in threads:
+                each.join()
+            with contextlib.closing(__import__("sqlite3").connect(self.store)) as connection:
+                stored = {row[0].decode().split(",")[2] for row in connection.execute("SELECT record FROM changes")}
+            self.assertLessEqual(set(answered), stored)
+        self.assertIn("Hull", self.stored("slice", "?,\\A,\\A"))
+
+    def test_a_session_that_ends(self):
+        server = self.server()
+        children = subprocess.run(["ps", "-o", "pid=", "--ppid", str(server.process.pid)], stdout=subprocess.PIPE, text=True).stdout.split()
+        os.kill(int(children[0]), signal.SIGKILL)
+        server.change(b"1,D,a\n")
+        status, told = server.end()
+        self.assertEqual((status, told.splitlines()[-1]), (1, "jackraisin.serve: the program ended, killed by SIGKILL"))
+
+    def test_a_slow_reader_holds_nobody_up(self):
+        server = self.server()
+        server.made(records([[30, "I", n, f"city {n}", f"product {n}", "card", 1, 1] for n in range(20000)]))
+        idle = []
+        for _ in range(20):
+            it = socket.create_connection(("127.0.0.1", server.port))
+            self.addCleanup(it.close)
+            it.sendall(f"GET /cube.csv HTTP/1.1\r\nHost: localhost\r\nAuthorization: Bearer {server.token}\r\n\r\n".encode())
+            idle.append(it)
+        start = time.monotonic()
+        for at in range(50):
+            self.assertEqual(server.made(records([[31, "I", at, "York", "tea", "card", 1, 1]]))["taken"], 1)
+            self.assertEqual(server.get("/slice?city=York").status, 200)
+        self.assertLess(time.monotonic() - start, 10)
+        with open(f"/proc/{server.process.pid}/status", encoding="utf-8") as file:
+            said = dict(line.split(":", 1) for line in file)
+        self.assertLess(int(said["Threads"]), 20)
+
+    def test_too_many_connections(self):
+        server = self.server("--max-connections", "3")
+        held = [socket.create_connection(("127.0.0.1", server.port)) for _ in range(3)]
+        time.sleep(0.2)
+        answer = server.get("/healthz")
+        self.assertEqual((answer.status, answer.text), (503, "There are too many connections\n"))
+        for it in held:
+            it.close()
+        until(lambda: server.get("/healthz").status == 200)
+
+
+class Page(Case):
+    """The first minutes of docs/SERVE.md behind the installation, word for word."""
+
+    def test_five_minutes(self):
+        with open(f"{beside.ROOT}/docs/SERVE.md", encoding="utf-8") as file:
+            part = file.read().partition("\n## Five minutes from nothing\n")[2].partition("\n## ")[0]
+        with socket.socket() as it:
+            it.bind(("127.0.0.1", 0))
+            port = str(it.getsockname()[1])
+        blocks = [(kind, text.replace("8000", port)) for kind, text in re.findall(r"^```(\w*)\n(.*?)^```$", part, re.MULTILINE | re.DOTALL)]
+        self.assertIn("pip install", blocks[0][1])
+        script = "set -e\n"
+        for kind, text in blocks[1:]:
+            if kind and "jackraisin.serve" in text:
+                script += f"{text.rstrip()} > said 2>&1 &\nuntil grep -q ready said; do sleep 0.1; done; cat said\n"
+            elif kind:
+                script += ("kill %1; wait; " if "--store" in text else "") + text
+        for it in ("examples", "release"):
+            os.symlink(f"{beside.ROOT}/{it}", f"{self.folder}/{it}")
+        script = script.replace("v/bin/python", f"{sys.executable} -B").replace("cd examples/shop\n", "cd -P examples/shop\n").replace("../../", f"{self.folder}/")
+        ran = subprocess.run(["bash"], input=script, cwd=self.folder, env=environment(), stdout=subprocess.PIPE, stderr=subprocess.STDOUT, text=True, timeout=SECONDS)
+        self.assertEqual(ran.stdout, "".join(text for kind, text in blocks if not kind))
+
+
+class Pretended:
+    """A session that counts what it is asked; each answer takes a while."""
+
+    def __init__(self):
+        self.number, self.commits, self.questions = 0, 0, []
+
+    def place(self, records, begin=0):
+        self.number += len(records)
+        return _stored.Place(begin, len(records), self.number, {1: 0})
+
+    def make(self, records):
+        self.sent = len(records)
+
+    def codes_at(self, places):
+        time.sleep(0.02)
+        self.commits += 1
+        return {}
+
+    def ask(self, *question):
+        time.sleep(0.02)
+        self.questions.append(question)
+        if question == ("bad",):
+            raise Failure("P4")
+        return f"text of {question[0]} {self.number}"
+
+    def close(self):
+        return 0
+
+    def stop(self):
+        pass
+
+
+class Together(unittest.TestCase):
+    """What many ask and change at once."""
+
+    def served(self, work):
+        """What some work over a pretended session gives."""
+        session = Pretended()
+
+        async def run():
+            cube = _served.ServedCube(jackraisin.Schema(["a"], ["n"], ["count(*)"]), lambda: session)
+            running = asyncio.ensure_future(cube.run(lambda _: None))
+            while cube.state is None:
+                await asyncio.sleep(0.001)
+            try:
+                return await work(cube)
+            finally:
+                cube.end()
+                await running
+        return asyncio.run(run()), session
+
+    def test_requests_that_come_together_share_a_commit(self):
+        async def work(cube):
+            return await asyncio.gather(*(cube.make([["1", "D", str(it)]] * 3) for it in range(200)))
+        made, session = self.served(work)
+        self.assertEqual(([it.taken for it in made], session.number), ([3] * 200, 600))
+        self.assertLessEqual(session.commits, 2)
+
+    def test_an_answer_is_made_once_in_a_state(self):
+        async def work(cube):
+            first = await asyncio.gather(*(cube.ask(("print",)) for _ in range(100)))
+            again = await cube.ask(("print",))
+            await cube.make([["1", "D", "a"]])
+            return first, again, await cube.ask(("print",))
+        (first, again, later), session = self.served(work)
+        self.assertEqual(({it.state for it in first}, again.state, later.state), ({0}, 0, 1))
+        self.assertEqual(session.questions, [("print",), ("print",)])
+
+    def test_a_form_is_made_once(self):
+        async def work(cube):
+            answer = await cube.ask(("print",))
+            with mock.patch.object(_served, "text_in_form", side_effect=lambda text, *_: text) as made:
+                await asyncio.gather(*(answer.form(_served.Form.JSON) for _ in range(50)))
+                return made.call_count
+        self.assertEqual(self.served(work)[0], 1)
+
+    def test_a_question_that_is_refused(self):
+        async def work(cube):
+            found = await asyncio.gather(*(cube.ask(("bad",)) for _ in range(5)), cube.ask(("print",)), return_exceptions=True)
+            return [getattr(it, "line", it) for it in found[:5]], found[5].state
+        self.assertEqual(self.served(work)[0], (["P4"] * 5, 0))
+
+    def test_what_is_kept_of_a_state_is_bounded(self):
+        async def work(cube):
+            for at in range(50):
+                await cube.ask((f"question {at}",))
+            return len(cube._answers), list(cube._answers)[-1]
+        with mock.patch.object(_served, "MOST_BYTES", 100):
+            (count, last), _ = self.served(work)
+        self.assertLess(count, 7)
+        self.assertEqual(last, ("question 49",))
+
+
+class Heads(unittest.TestCase):
+    def test_a_connection_whose_request_doesnt_come_is_cut(self):
+        """Also one that sends a byte now and then."""
+        async def run():
+            connections = _connections.Connections(asyncio.Protocol, 5)
+            server = await asyncio.get_running_loop().create_server(connections, "127.0.0.1", 0)
+            port = server.sockets[0].getsockname()[1]
+            reader, writer = await asyncio.open_connection("127.0.0.1", port)
+            start = time.monotonic()
+            with contextlib.suppress(ConnectionError):
+                while not reader.at_eof() and time.monotonic() < start + 5:
+                    writer.write(b"G")
+                    with contextlib.suppress(asyncio.TimeoutError):
+                        await asyncio.wait_for(reader.read(1), 0.05)
+            writer.close()
+            server.close()
+            return time.monotonic() - start, len(connections)
+        with mock.patch.object(_connections, "SECONDS_FOR_A_HEAD", 0.3):
+            seconds, left = asyncio.run(run())
+        self.assertTrue(0.2 < seconds < 3, seconds)
+        self.assertEqual(left, 0)
+
+
+if __name__ == "__main__":
+    unittest.main()
