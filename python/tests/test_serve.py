@@ -1,16 +1,19 @@
 """One cube for a team, over HTTP: beside scripts/oracle.py, the program's own forms, and a session that is asked directly."""
 import asyncio
+import collections
 import contextlib
 import csv
 import http.client
 import importlib.util
 import io
+import itertools
 import json
 import os
 import random
 import re
 import signal
 import socket
+import sqlite3
 import stat
 import subprocess
 import sys
@@ -28,7 +31,7 @@ from jackraisin import ALL, ANY
 WHY = None if importlib.util.find_spec("aiohttp") else "aiohttp (Debian: python3-aiohttp) isn't installed for this Python"
 if WHY is None:
     from jackraisin._errors import Failure
-    from jackraisin.serve import _connections, _served, _stored, _words
+    from jackraisin.serve import _connections, _keys, _making, _places, _served, _words
     from jackraisin.serve._errors import CantServe
 
 SECONDS = 30
@@ -343,6 +346,146 @@ class Changes(Case):
         self.assertEqual(server.get("/slice").headers["Datacube-State"], "2")
 
 
+class Keys(Case):
+    """Bodies under an `Idempotency-Key`."""
+
+    def keyed(self, key, **more):
+        return {**CSV, "Idempotency-Key": key, **more}
+
+    def test_once_however_often_it_comes(self):
+        server = self.server()
+        body = b"5,I,a,York,tea,card,1,100\n5,I,a,York,tea,card,1,100\n6,D,none\n"
+        first = server.made(body, self.keyed("till 1, bill 7"))
+        self.assertEqual((first["taken"], [it["change"] for it in first["refused"]], first["state"]), (1, [2, 3], 3))
+        server.made(b"5,D,other\n6,D,other\n")
+        self.assertEqual(server.made(body, self.keyed("till 1, bill 7")), {**first, "state": 5})
+        self.assertEqual(server.change(body + b"\n", self.keyed("till 1, bill 7")).status, 422)
+        self.assertEqual(server.made(b"", self.keyed("empty"))["taken"], 0)
+        self.assertEqual(server.change(b"1,D,a\n", self.keyed("empty")).status, 422)
+        for key in ("", "x" * 65, "\x7f", "\xe9"):
+            self.assertEqual((key, server.change(body, self.keyed(key)).status), (key, 400))
+        self.assertEqual(server.made(b"5,D,a\n", self.keyed("x" * 64))["state"], 6)
+        self.assertEqual(stat.S_IMODE(os.stat(f"{self.store}-keys").st_mode), 0o600)
+        self.assertEqual(server.end()[0], 0)
+        server = self.server()
+        self.assertEqual(server.made(body, self.keyed("till 1, bill 7")), {**first, "state": 6})
+
+    def test_a_body_that_a_kill_cut_short(self):
+        """Of five changes a kill leaves two, or none, in the store; under the key the rest is made, once."""
+        body = records([[8, "I", n % 4, "York", "tea", "card", 1, 100] for n in range(5)])
+        state = 0
+        for left in (2, 0, 5):
+            server = self.server()
+            before = server.get("/slice").headers["Datacube-State"]
+            wanted = server.made(body, self.keyed(f"left {left}"))
+            server.process.kill()
+            server.process.wait()
+            with contextlib.closing(sqlite3.connect(self.store, timeout=SECONDS)) as connection:
+                connection.execute("DELETE FROM changes WHERE number > ?", [int(before) + left])
+                connection.commit()
+            server = self.server()
+            server.made(b"9,D,a\n")
+            made = server.made(body, self.keyed(f"left {left}"))
+            self.assertEqual((made["taken"], made["state"]), (wanted["taken"], int(before) + 6))
+            self.assertEqual([it["change"] for it in made["refused"]], [it["change"] for it in wanted["refused"]])
+            self.assertEqual({**server.made(body, self.keyed(f"left {left}"))}, made)
+            server.end()
+
+    def test_a_note_is_there_before_the_session_is_told(self):
+        """A session that fails has its key noted, with nothing made."""
+        session = Pretended()
+        session.keys = _keys.KeyNotes(self.store, 0)
+        self.addCleanup(session.keys.close)
+
+        def fails(records):
+            with contextlib.closing(_keys.KeyNotes(self.store, 0)) as others:
+                self.assertEqual(others.of("a").digest, b"digest")
+            raise CantServe("it failed")
+        session.make = fails
+        self.assertRaises(CantServe, _making.make_all, session, [_making.Body([["1", "D", "a"]], b"digest", "a")])
+
+    def test_a_day(self):
+        notes = _keys.KeyNotes(self.store, 100)
+        self.addCleanup(notes.close)
+        place = _places.Place(0, 3, 5, {1: 7, 64: 0})
+        notes.begin()
+        notes.add("a", b"digest", place, True)
+        notes.commit()
+        self.assertEqual((notes.of("a"), notes.of("b")), (_keys.Note(b"digest", [place]), None))
+        start = _keys.now()
+        with mock.patch.object(_keys, "now", return_value=start + 24 * 3600 - 60):
+            self.assertEqual(notes.of("a").length, 3)
+        with mock.patch.object(_keys, "now", return_value=start + 24 * 3600 + 60):
+            self.assertIsNone(notes.of("a"))
+            notes.begin()
+            notes.commit()
+        self.assertIsNone(notes.of("a"))
+
+
+class Kills(Case):
+    """The server and its program are killed again and again while clients post, each until it is answered, then the next body."""
+
+    KILLS = 30 if os.environ.get("DATACUBE_LONG") == "1" else 5
+
+    def test_what_was_acknowledged_is_there_once(self):
+        rng = random.Random("kills")
+        path = f"{self.folder}/cube.sock"
+        self.is_over, self.acknowledged = False, set()
+        server = self.server("--no-token", listen=f"unix:{path}")
+        clients = [threading.Thread(target=self.client, args=(path, at)) for at in range(8)]
+        for it in clients:
+            it.start()
+        for _ in range(self.KILLS):
+            time.sleep(rng.uniform(0.05, 0.6))
+            with open(f"/proc/{server.process.pid}/task/{server.process.pid}/children", encoding="ascii") as file:
+                victims = [server.process.pid, *map(int, file.read().split())]
+            known = len(self.acknowledged)
+            for it in rng.sample(victims, len(victims)):
+                with contextlib.suppress(ProcessLookupError):
+                    os.kill(it, signal.SIGKILL)
+            server.process.wait()
+            server = self.server("--no-token", listen=f"unix:{path}")
+        until(lambda: len(self.acknowledged) > known + 20)
+        self.is_over = True
+        for it in clients:
+            it.join()
+        self.assertEqual(server.end()[0], 0)
+        with contextlib.closing(sqlite3.connect(self.store)) as connection:
+            found = [row[0].decode().split(",")[2] for row in connection.execute("SELECT record FROM changes")]
+        counts = collections.Counter(found)
+        lost = [it for it in self.acknowledged if it not in counts]
+        twice = [it for it, count in counts.items() if count > 1 and not it.startswith("free")]
+        self.assertEqual((lost, twice), ([], []))
+        self.assertEqual({it for it in counts if not it.startswith("free")}, {it for it in self.acknowledged if not it.startswith("free")})
+
+    def client(self, path, at):
+        """Posts bodies, of which the most are under keys, and comes again with each of those until it is answered."""
+        rng = random.Random(f"client {at}")
+        for body in itertools.count():
+            if self.is_over:
+                return
+            kind, count = rng.choice(["keyed", "keyed", "free"]), rng.choice([1, 10, 10, 300, 12000 if at == 0 else 30])
+            name = f"{kind}-{at}-{body}"
+            rows = [[at + 1, "I", f"{name}-{it}", "York", "tea", "card", 1, 1] for it in range(count)]
+            headers = {**CSV, **({"Idempotency-Key": name} if kind == "keyed" else {})}
+            while True:
+                try:
+                    with contextlib.closing(UnixConnection(path)) as connection:
+                        connection.request("POST", "/changes", records(rows), headers)
+                        answer = connection.getresponse()
+                        text = answer.read()
+                    if answer.status == 200:
+                        said = json.loads(text)
+                        assert said["taken"] == count and not said["refused"], said
+                        self.acknowledged.update(it[2] for it in rows)
+                        break
+                except (OSError, http.client.HTTPException):
+                    pass
+                if kind == "free":
+                    break
+                time.sleep(0.02)
+
+
 class Rights(Case):
     def test_tokens(self):
         file = self.written("tokens", "# the team's\nread reader-1\n\nchange changer-1\n")
@@ -471,7 +614,7 @@ class Ends(Case):
             self.assertEqual(server.end(it)[0], 0)
             for each in threads:
                 each.join()
-            with contextlib.closing(__import__("sqlite3").connect(self.store)) as connection:
+            with contextlib.closing(sqlite3.connect(self.store)) as connection:
                 stored = {row[0].decode().split(",")[2] for row in connection.execute("SELECT record FROM changes")}
             self.assertLessEqual(set(answered), stored)
         self.assertIn("Hull", self.stored("slice", "?,\\A,\\A"))
@@ -545,7 +688,7 @@ class Pretended:
 
     def place(self, records, begin=0):
         self.number += len(records)
-        return _stored.Place(begin, len(records), self.number, {1: 0})
+        return _places.Place(begin, len(records), self.number, {1: 0})
 
     def make(self, records):
         self.sent = len(records)
@@ -590,7 +733,7 @@ class Together(unittest.TestCase):
 
     def test_requests_that_come_together_share_a_commit(self):
         async def work(cube):
-            return await asyncio.gather(*(cube.make([["1", "D", str(it)]] * 3) for it in range(200)))
+            return await asyncio.gather(*(cube.make(_making.Body([["1", "D", str(it)]] * 3)) for it in range(200)))
         made, session = self.served(work)
         self.assertEqual(([it.taken for it in made], session.number), ([3] * 200, 600))
         self.assertLessEqual(session.commits, 2)
@@ -599,7 +742,7 @@ class Together(unittest.TestCase):
         async def work(cube):
             first = await asyncio.gather(*(cube.ask(("print",)) for _ in range(100)))
             again = await cube.ask(("print",))
-            await cube.make([["1", "D", "a"]])
+            await cube.make(_making.Body([["1", "D", "a"]]))
             return first, again, await cube.ask(("print",))
         (first, again, later), session = self.served(work)
         self.assertEqual(({it.state for it in first}, again.state, later.state), ({0}, 0, 1))

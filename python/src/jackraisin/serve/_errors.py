@@ -14,3 +14,7 @@ class BadQuery(DatacubeError, ValueError):
 
 class CantServe(DatacubeError):
     """What keeps the server from beginning, or from going on."""
+
+
+class OtherBody(DatacubeError):
+    """A body under a key that another one came under. Nothing of it was made."""

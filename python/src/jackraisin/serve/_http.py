@@ -3,6 +3,7 @@ from __future__ import annotations
 
 import asyncio
 import logging
+from hashlib import sha256
 from http import HTTPStatus
 from typing import Awaitable, Callable, Dict, Mapping, NamedTuple, Optional, Sequence
 from urllib.parse import unquote
@@ -12,12 +13,13 @@ from aiohttp import web
 from .._errors import Failure
 from ._access import Right, Tokens, token_of_header
 from ._connections import SECONDS_OF_REST, Connections
-from ._errors import BadBody, BadQuery, CantServe
-from ._forms import SUFFIXES, Form, form_accepted
+from ._errors import BadBody, BadQuery, CantServe, OtherBody
+from ._forms import SUFFIXES, form_accepted
+from ._making import Body, Made
 from ._query import OWN_WORDS, TOKEN, Words, question_of, words_of
-from ._reading import Room, reader_of
+from ._reading import Room, key_of, reader_of
 from ._replies import Refusal, Reply, json_reply, not_yet
-from ._served import LONG, Made, ServedCube, beside
+from ._served import LONG, ServedCube, beside
 
 TOLD = logging.getLogger("jackraisin.serve")
 
@@ -113,6 +115,8 @@ class Site:
             return why.reply
         except (BadBody, BadQuery) as why:
             return Refusal(HTTPStatus.BAD_REQUEST, str(why)).reply
+        except OtherBody as why:
+            return Refusal(HTTPStatus.UNPROCESSABLE_ENTITY, str(why)).reply
         except CantServe as why:
             return not_yet(str(why)).reply
         except Failure as why:
@@ -180,12 +184,11 @@ class Site:
         return Reply(HTTPStatus.OK, await answer.form(form), form.value, headers)
 
     async def _changes(self, asked: Asked) -> Reply:
-        read = reader_of(asked.headers)
+        read, key = reader_of(asked.headers), key_of(asked.request)
         self._check_ready()
         with self._room.held(asked.request):
             data = await self._room.read(asked.request)
-            records = await beside(len(data), lambda: read(data, self.cube.schema))
-            made = await self.cube.make(records)
+            made = await self.cube.make(await beside(len(data), lambda: Body(read(data, self.cube.schema), sha256(data).digest(), key)))
             return json_reply(await beside(LONG if made.refused else 0, lambda: self._told_of(made)))
 
     async def _health(self, asked: Asked) -> Reply:

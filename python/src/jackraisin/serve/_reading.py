@@ -3,9 +3,10 @@ from __future__ import annotations
 
 import asyncio
 import contextlib
+import re
 from email.message import Message
 from http import HTTPStatus
-from typing import Callable, Iterator, List, Mapping
+from typing import Callable, Iterator, List, Mapping, Optional
 
 from aiohttp import web
 
@@ -15,6 +16,7 @@ from ._replies import Refusal, not_yet
 
 SECONDS_FOR_A_BODY = 60.0
 CONTINUE = b"HTTP/1.1 100 Continue\r\n\r\n"
+KEY = re.compile(r"[ -~]{1,64}")
 UTF_8 = ("utf-8", "utf8", "us-ascii")
 
 
@@ -71,3 +73,11 @@ def reader_of(headers: Mapping[str, str]) -> Callable[[bytes, Schema], List[Reco
     if headers.get("Content-Encoding", "identity").lower() != "identity":
         raise Refusal(HTTPStatus.UNSUPPORTED_MEDIA_TYPE, "a body isn't packed", {"Accept-Encoding": "identity"})
     return READERS[kind]
+
+
+def key_of(request: web.BaseRequest) -> Optional[str]:
+    """The `Idempotency-Key` that a request comes under."""
+    keys: List[str] = request.headers.getall("Idempotency-Key", [])
+    if len(keys) > 1 or any(not KEY.fullmatch(it) for it in keys):
+        raise Refusal(HTTPStatus.BAD_REQUEST, "an Idempotency-Key is one text of 1 to 64 printable characters of ASCII")
+    return keys[0] if keys else None

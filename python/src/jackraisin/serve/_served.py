@@ -4,15 +4,15 @@ from __future__ import annotations
 import asyncio
 from collections import OrderedDict
 from concurrent.futures import ThreadPoolExecutor
-from typing import Callable, Dict, List, NamedTuple, Optional, Sequence, TypeVar, Union
+from typing import Callable, Dict, List, Optional, TypeVar, Union
 
 from .._errors import DatacubeError, Ended, Failure
 from .._schema import Schema
-from ._bodies import Record
 from ._errors import CantServe
 from ._forms import Form, text_in_form
+from ._making import Body, Made, make_all
 from ._query import Question
-from ._stored import Refused, StoredSession, refused_at
+from ._stored import StoredSession
 
 T = TypeVar("T")
 
@@ -20,14 +20,6 @@ T = TypeVar("T")
 MOST_CHANGES, MOST_BYTES = 20_000, 64 * 2**20
 # (what is made of a text that is longer is made in a thread of its own)
 LONG = 2**15
-
-
-class Made(NamedTuple):
-    """What became of a body: how many changes were taken, which were refused, and the state behind them."""
-
-    taken: int
-    refused: List[Refused]
-    state: int
 
 
 class Answer:
@@ -53,8 +45,8 @@ Answered = Union[Answer, Failure, CantServe]
 class Post:
     """A body of changes that waits for its turn."""
 
-    def __init__(self, records: Sequence[Record]) -> None:
-        self.records = records
+    def __init__(self, body: Body) -> None:
+        self.body = body
         self.made: "asyncio.Future[Union[Made, DatacubeError]]" = asyncio.get_running_loop().create_future()
 
 
@@ -75,14 +67,14 @@ class ServedCube:
 
     # What others call.
 
-    async def make(self, records: Sequence[Record]) -> Made:
+    async def make(self, body: Body) -> Made:
         """Makes the changes of a body; they are certain when it returns."""
-        post = Post(records)
+        post = Post(body)
         self._posts.append(post)
         self._wake.set()
         made = await asyncio.shield(post.made)
         if isinstance(made, DatacubeError):
-            raise made
+            raise type(made)(*made.args)
         return made
 
     async def ask(self, question: Question) -> Answer:
@@ -139,7 +131,7 @@ class ServedCube:
         """Makes the changes of the bodies that wait, with one commit."""
         posts = self._next_posts()
         try:
-            made = await self._in_thread(lambda: make_all(session, posts))
+            made = await self._in_thread(lambda: make_all(session, [it.body for it in posts]))
         except Exception:
             self._posts = posts + self._posts
             raise
@@ -153,9 +145,9 @@ class ServedCube:
     def _next_posts(self) -> List[Post]:
         count = 0
         posts: List[Post] = []
-        while self._posts and (not posts or count + len(self._posts[0].records) <= MOST_CHANGES):
+        while self._posts and (not posts or count + len(self._posts[0].body.records) <= MOST_CHANGES):
             posts.append(self._posts.pop(0))
-            count += len(posts[-1].records)
+            count += len(posts[-1].body.records)
         return posts
 
     async def _answer(self, session: StoredSession) -> None:
@@ -186,15 +178,6 @@ class ServedCube:
 
     async def _in_thread(self, work: Callable[[], T]) -> T:
         return await asyncio.get_running_loop().run_in_executor(self._thread, work)
-
-
-def make_all(session: StoredSession, posts: Sequence[Post]) -> List[Made]:
-    """Makes the changes of all bodies, and says what became of each."""
-    places = [session.place(it.records) for it in posts]
-    session.make([record for it in posts for record in it.records])
-    codes = session.codes_at(places)
-    refused = [refused_at(place, post.records, codes) for place, post in zip(places, posts)]
-    return [Made(len(post.records) - len(it), it, session.number) for post, it in zip(posts, refused)]
 
 
 def answer_of(session: StoredSession, question: Question) -> Union[str, Failure]:

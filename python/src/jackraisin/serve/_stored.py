@@ -4,7 +4,7 @@ from __future__ import annotations
 import contextlib
 import os
 import sqlite3
-from typing import Any, ContextManager, Dict, Iterable, List, Mapping, NamedTuple, Optional, Sequence, Tuple, Union
+from typing import Any, ContextManager, Dict, Iterable, List, Mapping, Optional, Sequence, Tuple, Union
 
 from .._ask import Given, cube, refusals
 from .._errors import Ended
@@ -13,33 +13,17 @@ from .._program import Path, explain
 from .._schema import Schema
 from ._bodies import Record
 from ._errors import CantServe
+from ._keys import KeyNotes
+from ._places import Place
 
 # (how long a process that ends may still have the store)
 SECONDS_IN_USE = 10.0
 COUNTED = "SELECT source, count(*) FROM changes GROUP BY source"
 
 
-class Place(NamedTuple):
-    """Where changes of a body stand: which of them, so many from the one at `begin` on, the number that the store has of the first
-    one, and of each source the last record before them."""
-
-    begin: int
-    length: int
-    first: int
-    before: Mapping[int, int]
-
-
-class Refused(NamedTuple):
-    """A refused change of a body: its number there, from 1, and its source, record and code, as a session notes it."""
-
-    change: int
-    source: int
-    record: int
-    code: int
-
-
 class StoredSession(Live):
-    """A session over a store, which any SQLite could count before it began. `number` is how many changes the store has."""
+    """A session over a store, which any SQLite could count before it began. `number` is how many changes the store has, and `keys`
+    what is noted beside it."""
 
     def __init__(self, schema: Path, feeds: Sequence[Path], store: Path, *, wary: bool = False, threads: Optional[int] = None) -> None:
         counts = stored_counts(store)
@@ -48,10 +32,11 @@ class StoredSession(Live):
             self._last = {source: records_in(feed, self.schema) for source, feed in enumerate(feeds, 1)}
             if counts is None:
                 raise CantServe(f"the changes of {os.fspath(store)} couldn't be counted")
+            self.number = sum(counts.values())
+            self.keys = KeyNotes(store, self.number)
         except BaseException:
             self._kill()
             raise
-        self.number = sum(counts.values())
         for source, count in counts.items():
             self._last[source] = self._last.get(source, 0) + count
 
@@ -62,6 +47,7 @@ class StoredSession(Live):
 
     def stop(self) -> None:
         """Ends it well, where it isn't over."""
+        self.keys.close()
         if self.status is None:
             with contextlib.suppress(Ended):
                 self.close()
@@ -89,18 +75,6 @@ class StoredSession(Live):
         if not after:
             self.sync()
         return {(it.source, it.record): it.code for it in found}
-
-
-def refused_at(place: Place, records: Sequence[Record], codes: Mapping[Tuple[int, int], int]) -> List[Refused]:
-    """Those of a place's changes that were refused."""
-    last, found = dict(place.before), []
-    for at in range(place.begin, place.begin + place.length):
-        source = int(records[at][0])
-        last[source] += 1
-        code = codes.get((source, last[source]))
-        if code is not None:
-            found.append(Refused(at + 1, source, last[source], code))
-    return found
 
 
 def stored_counts(store: Path) -> Optional[Dict[int, int]]:
