@@ -53,7 +53,7 @@ Architecture: amd64
 Maintainer: $(git -C "$root" log -1 --format='%an <%ae>' 2>/dev/null || echo "datacube <root@localhost>")
 Depends: libc6 (>= 2.34)
 Recommends: python3 (>= 3.9)
-Suggests: python3-aiohttp, python3-pandas, python3-psycopg2
+Suggests: python3-aiohttp, python3-pandas, python3-prometheus-client, python3-psycopg2
 Section: utils
 Priority: optional
 Installed-Size: $(du -sk "$files" | cut -f 1)

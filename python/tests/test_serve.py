@@ -3,6 +3,7 @@ import asyncio
 import collections
 import contextlib
 import csv
+import gzip
 import http.client
 import importlib.util
 import io
@@ -20,6 +21,7 @@ import sys
 import tempfile
 import threading
 import time
+import types
 import unittest
 from unittest import mock
 
@@ -31,7 +33,7 @@ from jackraisin import ALL, ANY
 WHY = None if importlib.util.find_spec("aiohttp") else "aiohttp (Debian: python3-aiohttp) isn't installed for this Python"
 if WHY is None:
     from jackraisin._errors import Failure
-    from jackraisin.serve import _connections, _keys, _making, _places, _served, _words
+    from jackraisin.serve import _connections, _events, _keys, _making, _places, _served, _words
     from jackraisin.serve._errors import CantServe
 
 SECONDS = 30
@@ -92,12 +94,13 @@ class Server:
     def connection(self):
         return UnixConnection(self.path) if self.path else http.client.HTTPConnection("127.0.0.1", self.port, timeout=SECONDS)
 
-    def ask(self, method, path, body=None, headers={}, token=True):
+    def ask(self, method, path, body=None, headers={}, token=True, is_text=True):
         with contextlib.closing(self.connection()) as connection:
             given = {"Authorization": f"Bearer {self.token}"} if token and self.token else {}
             connection.request(method, path, body, {**given, **headers})
             answer = connection.getresponse()
-            answer.text = answer.read().decode()
+            answer.body = answer.read()
+            answer.text = answer.body.decode() if is_text else None
             return answer
 
     def get(self, path, **how):
@@ -117,6 +120,14 @@ class Server:
             self.process.send_signal(signal)
         told = self.process.communicate(timeout=SECONDS)[1]
         return self.process.returncode, told
+
+
+    def close(self):
+        if self.process.poll() is None:
+            self.process.kill()
+        self.process.wait()
+        self.process.stdout.close()
+        self.process.stderr.close()
 
 
 def until(is_so):
@@ -144,9 +155,7 @@ class Case(unittest.TestCase):
 
     def server(self, *words, **how):
         server = Server(self.store, *words, **how)
-        self.addCleanup(server.process.stdout.close)
-        self.addCleanup(server.process.stderr.close)
-        self.addCleanup(lambda: server.process.poll() is None and (server.process.kill(), server.process.wait()))
+        self.addCleanup(server.close)
         return server
 
     def written(self, name, text):
@@ -163,12 +172,21 @@ class Case(unittest.TestCase):
         return ran.stdout
 
 
-class Questions(Case):
-    """Over the shop's feeds, beside the program's own commands."""
+class Shared(Case):
+    """Tests that ask one server, and change nothing."""
 
-    def setUp(self):
-        super().setUp()
-        self.shop = self.server()
+    words = ()
+
+    @classmethod
+    def setUpClass(cls):
+        folder = tempfile.TemporaryDirectory(prefix="datacube-test-")
+        cls.addClassCleanup(folder.cleanup)
+        cls.shop = Server(f"{folder.name}/sales.db", *cls.words)
+        cls.addClassCleanup(cls.shop.close)
+
+
+class Questions(Shared):
+    """Over the shop's feeds, beside the program's own commands."""
 
     def program(self, command, *words):
         return subprocess.run([jackraisin.program(), command, *words], stdout=subprocess.PIPE, text=True).stdout
@@ -240,7 +258,7 @@ class Words(Case):
 class Changes(Case):
     def test_generated(self):
         """Bodies of CSV and of JSON lines, beside the oracle's session: what was taken, what was refused, and the cube."""
-        for seed in range(4):
+        for seed in range(3):
             rng = random.Random(f"served {seed}")
             schema, feeds = beside.small_case(rng)
             schema.max_records, feeds = 2**32 - 1, feeds[: rng.choice([0, 1, 3])]
@@ -374,7 +392,7 @@ class Keys(Case):
         """Of five changes a kill leaves two, or none, in the store; under the key the rest is made, once."""
         body = records([[8, "I", n % 4, "York", "tea", "card", 1, 100] for n in range(5)])
         state = 0
-        for left in (2, 0, 5):
+        for left in (2, 0):
             server = self.server()
             before = server.get("/slice").headers["Datacube-State"]
             wanted = server.made(body, self.keyed(f"left {left}"))
@@ -425,7 +443,7 @@ class Keys(Case):
 class Kills(Case):
     """The server and its program are killed again and again while clients post, each until it is answered, then the next body."""
 
-    KILLS = 30 if os.environ.get("DATACUBE_LONG") == "1" else 5
+    KILLS = 30 if os.environ.get("DATACUBE_LONG") == "1" else 4
 
     def test_what_was_acknowledged_is_there_once(self):
         rng = random.Random("kills")
@@ -583,7 +601,7 @@ class Commands(Case):
 
 class Ends(Case):
     def test_before_it_is_ready(self):
-        slow = self.written("slow", f'#!/bin/sh\n[ "$1" != live ] || sleep 1.5\nexec "{jackraisin.program()}" "$@"\n')
+        slow = self.written("slow", f'#!/bin/sh\n[ "$1" != live ] || sleep 0.8\nexec "{jackraisin.program()}" "$@"\n')
         os.chmod(slow, 0o755)
         server = self.server(is_awaited=False, DATACUBE=slow)
         for path in ("/readyz", "/cube.csv"):
@@ -656,6 +674,133 @@ class Ends(Case):
         until(lambda: server.get("/healthz").status == 200)
 
 
+class Versions(Shared):
+    """Tags, conditional requests and gzip."""
+
+    def test_what_a_client_has_isnt_sent_again(self):
+        plain = self.shop.get("/cube.csv")
+        packed = self.shop.get("/cube.csv", headers={"Accept-Encoding": "br, gzip;q=0.5"}, is_text=False)
+        self.assertEqual(gzip.decompress(packed.body).decode(), plain.text)
+        self.assertEqual((packed.headers["Content-Encoding"], plain.headers["Content-Encoding"]), ("gzip", None))
+        self.assertNotEqual(packed.headers["ETag"], plain.headers["ETag"])
+        self.assertEqual(plain.headers["Vary"], "Accept, Accept-Encoding")
+        for tag in (plain.headers["ETag"], packed.headers["ETag"], f'"x", W/{plain.headers["ETag"]}', "*"):
+            answer = self.shop.get("/cube.csv", headers={"If-None-Match": tag})
+            self.assertEqual((tag, answer.status, answer.text), (tag, 304, ""))
+        for tag in ('"x"', self.shop.get("/cube.json").headers["ETag"], ""):
+            self.assertEqual((tag, self.shop.get("/cube.csv", headers={"If-None-Match": tag}).status), (tag, 200))
+        for coding in ("gzip;q=0", "identity", ""):
+            self.assertIsNone(self.shop.get("/cube.csv", headers={"Accept-Encoding": coding}).headers["Content-Encoding"])
+        self.assertIsNone(self.shop.get("/slice.csv", headers={"Accept-Encoding": "gzip"}).headers["Content-Encoding"])
+
+    def test_a_change_and_a_start_make_other_tags(self):
+        server = self.server()
+        tag = server.get("/slice").headers["ETag"]
+        server.made(b"9,D,a\n")
+        answer = server.get("/slice", headers={"If-None-Match": tag})
+        self.assertEqual(answer.status, 200)
+        tag = answer.headers["ETag"]
+        server.end()
+        server = self.server()
+        self.assertEqual((server.get("/slice", headers={"If-None-Match": tag}).status, server.get("/slice").headers["Datacube-State"]), (200, "1"))
+
+
+class Events(Case):
+    def test_a_line_for_each_state(self):
+        server = self.server()
+        with contextlib.closing(server.connection()) as connection:
+            connection.request("GET", "/events", headers={"Authorization": f"Bearer {server.token}"})
+            answer = connection.getresponse()
+            self.assertEqual((answer.status, answer.headers["Content-Type"]), (200, "text/event-stream"))
+            for state in range(4):
+                self.assertEqual([answer.readline() for _ in range(3)], [b"id: %d\n" % state, b'data: {"state": %d}\n' % state, b"\n"])
+                self.assertEqual(server.get("/slice").headers["Datacube-State"], str(state))
+                server.made(b"9,D,a\n")
+            self.assertEqual([answer.readline() for _ in range(3)][1], b'data: {"state": 4}\n')
+            self.assertEqual(server.end()[0], 0)
+            self.assertEqual(answer.read(), b"")
+
+    def test_who_doesnt_read_holds_nobody_up(self):
+        async def run():
+            told, cube = [], types.SimpleNamespace(state=1)
+            ended, moves = asyncio.get_running_loop().create_future(), asyncio.Queue()
+            cube.moved = moves.get
+
+            async def write(part):
+                told.append(part)
+                cube.state += 5
+                await asyncio.sleep(0.01)
+                if len(told) == 3:
+                    ended.set_result(None)
+            await asyncio.wait_for(_events.tell_states(cube, write, ended), 5)
+            return told
+        self.assertEqual([it.split(b"\n")[0] for it in asyncio.run(run())], [b"id: 1", b"id: 6", b"id: 11"])
+
+
+class Metrics(Case):
+    def test_a_slice_and_the_server(self):
+        server = self.server("--metrics", "city=*&product=tea", "--max-series", "2")
+        server.made(b"9,I,a,York,tea,card,1,100\n9,I,a,York,tea,card,1,100\n")
+        server.get("/nothing")
+        answer = server.get("/metrics")
+        self.assertTrue(answer.headers["Content-Type"].startswith("text/plain; version="), answer.headers["Content-Type"])
+        lines = answer.text.splitlines()
+        of_york = '{city="York",grouping_city="0",grouping_payment="1",grouping_product="0",payment="\\\\N",product="tea"}'
+        for it in (f"datacube_sum_cents{of_york} 450.0", f"datacube_count{of_york} 2.0", "datacube_serve_state 2.0", "datacube_serve_series_left_out 2.0",
+                   'datacube_serve_changes_total{outcome="taken"} 1.0', 'datacube_serve_changes_total{outcome="refused"} 1.0',
+                   'datacube_serve_requests_total{path="/changes",status="200"} 1.0', 'datacube_serve_requests_total{path="other",status="404"} 1.0'):
+            self.assertIn(it, lines)
+        self.assertEqual(len([it for it in lines if it.startswith("datacube_avg_cents{")]), 2)
+        self.assertIn("openmetrics", server.get("/metrics", headers={"Accept": "application/openmetrics-text"}).headers["Content-Type"])
+        self.assertEqual(server.get("/metrics", token=False).status, 401)
+
+    def test_the_grand_total_by_default(self):
+        lines = self.server().get("/metrics").text.splitlines()
+        self.assertEqual([it.rpartition(" ")[2] for it in lines if it.startswith("datacube_count{")], ["7.0"])
+
+
+class Browsers(Shared):
+    """What a page of elsewhere may do."""
+
+    words = ("--allow-origin", "https://board.example.org", "--host", "cube.example.org")
+
+    def test_a_page_of_elsewhere_is_refused(self):
+        own = f"127.0.0.1:{self.shop.port}"
+        refused = [{"Sec-Fetch-Site": "cross-site"}, {"Sec-Fetch-Site": "same-site"}, {"Origin": "http://evil.example"}, {"Origin": "null"},
+                   {"Origin": "http://127.0.0.1:1"}, {"Origin": f"http://{own}", "Sec-Fetch-Site": "cross-site"}, {"Origin": "https://board.example.org.evil"}]
+        for headers in refused:
+            for path in ("/slice", "/", "/healthz"):
+                answer = self.shop.get(path, headers=headers)
+                self.assertEqual((headers, answer.status, answer.headers["Access-Control-Allow-Origin"]), (headers, 403, None))
+            self.assertEqual((headers, self.shop.change(b"9,D,a\n", {**CSV, **headers}).status), (headers, 403))
+        for headers in ({"Sec-Fetch-Site": "none"}, {"Sec-Fetch-Site": "same-origin", "Origin": f"http://{own}"}, {}):
+            self.assertEqual((headers, self.shop.get("/slice", headers=headers).status), (headers, 200))
+
+    def test_other_names_are_refused(self):
+        for host, status in (("127.0.0.1", 200), (f"localhost:{self.shop.port}", 200), ("[::1]:80", 200), ("CUBE.example.org", 200),
+                             ("evil.example", 421), ("127.0.0.1.evil.example", 421), ("", 421)):
+            self.assertEqual((host, self.shop.get("/slice", headers={"Host": host}).status), (host, status))
+
+    def test_a_page_that_is_named_may_ask(self):
+        page = {"Origin": "https://board.example.org", "Sec-Fetch-Site": "cross-site"}
+        asks = {**page, "Access-Control-Request-Method": "POST", "Access-Control-Request-Headers": "authorization,content-type"}
+        answer = self.shop.ask("OPTIONS", "/changes", headers=asks, token=False)
+        self.assertEqual((answer.status, answer.headers["Access-Control-Allow-Origin"]), (204, page["Origin"]))
+        self.assertIn("Authorization", answer.headers["Access-Control-Allow-Headers"])
+        self.assertEqual(self.shop.ask("OPTIONS", "/changes", headers={**asks, "Origin": "https://other.example"}, token=False).status, 403)
+        answer = self.shop.get("/slice", headers=page)
+        self.assertEqual((answer.status, answer.headers["Access-Control-Allow-Origin"], answer.headers["Vary"]), (200, page["Origin"], "Accept, Accept-Encoding, Origin"))
+        self.assertEqual(self.shop.get("/slice", headers=page, token=False).status, 401)
+        self.assertIsNone(self.shop.get("/slice").headers["Access-Control-Allow-Origin"])
+
+    def test_each_reply_has_a_policy(self):
+        for path in ("/slice", "/nothing", "/healthz", "/metrics", "/cube.json"):
+            headers = self.shop.get(path).headers
+            self.assertEqual((headers["Referrer-Policy"], headers["X-Content-Type-Options"], headers["X-Frame-Options"]), ("no-referrer", "nosniff", "DENY"))
+            self.assertIn("frame-ancestors 'none'", headers["Content-Security-Policy"])
+            self.assertNotIn("unsafe", headers["Content-Security-Policy"])
+
+
 class Page(Case):
     """The first minutes of docs/SERVE.md behind the installation, word for word."""
 
@@ -670,7 +815,7 @@ class Page(Case):
         script = "set -e\n"
         for kind, text in blocks[1:]:
             if kind and "jackraisin.serve" in text:
-                script += f"{text.rstrip()} > said 2>&1 &\nuntil grep -q ready said; do sleep 0.1; done; cat said\n"
+                script += f"touch said; {text.rstrip()} > said 2>&1 &\nuntil grep -q ready said; do sleep 0.1; done; cat said\n"
             elif kind:
                 script += ("kill %1; wait; " if "--store" in text else "") + text
         for it in ("examples", "release"):

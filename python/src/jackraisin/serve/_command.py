@@ -14,9 +14,10 @@ from typing import Optional, Sequence
 from .._errors import DatacubeError, Ended
 from .._records import LONGEST
 from .._schema import schema_of
+from ._browsers import Browsers
 from ._http import TOLD, Limits, Site
 from ._listening import Address, listen, tls_of
-from ._query import TOKEN
+from ._query import TOKEN, question_of, words_of
 from ._served import ServedCube
 from ._stored import SECONDS_IN_USE, StoredSession, meaning_of_refusal
 from ._words import Given, given_by
@@ -25,6 +26,8 @@ ENDING = (signal.SIGTERM, signal.SIGINT, signal.SIGHUP)
 # (what was asked before a signal is answered in this time)
 SECONDS_TO_END = 30.0
 SECONDS_BETWEEN_TRIES = 0.2
+BODIES_AT_A_TIME = 8
+THIS_MACHINE = ("127.0.0.1", "localhost", "[::1]")
 IN_USE = "D1"
 
 
@@ -55,7 +58,8 @@ async def serve(given: Given) -> int:
     schema = schema_of(given.schema)
     cube = ServedCube(schema, functools.partial(begin_session, given))
     meaning = functools.lru_cache(maxsize=None)(functools.partial(meaning_of_refusal, version=schema.version))
-    site = Site(cube, meaning, given.tokens, Limits(body=given.body, bodies=max(8 * given.body, Limits().bodies), connections=given.connections))
+    shown = question_of("slice", words_of(given.shown), schema)
+    site = Site(cube, meaning, given.tokens, browsers_of(given), shown, limits_of(given))
     socket, address = listen(given.address)
     tls = tls_of(given.certificate, given.key)
     loop, ending = asyncio.get_running_loop(), asyncio.Event()
@@ -80,6 +84,19 @@ async def serve(given: Given) -> int:
         if address.path is not None:
             os.unlink(address.path)
     return await running
+
+
+def limits_of(given: Given) -> Limits:
+    return Limits(given.body, max(BODIES_AT_A_TIME * given.body, Limits().bodies), given.connections, given.series)
+
+
+def browsers_of(given: Given) -> Browsers:
+    """What browsers may do: at an address of this machine it is asked under the names of that alone, so that no page of elsewhere
+    is led here by a name of its own."""
+    is_named = given.address.path is None and (given.address.is_local or bool(given.hosts))
+    own = THIS_MACHINE if given.address.is_local else ()
+    hosts = frozenset(it.lower() for it in (*own, *given.hosts, given.address.name)) if is_named else None
+    return Browsers(hosts, frozenset(given.origins))
 
 
 def shown_address(address: Address, has_tls: bool, token: Optional[str]) -> str:

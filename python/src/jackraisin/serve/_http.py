@@ -3,23 +3,28 @@ from __future__ import annotations
 
 import asyncio
 import logging
+import time
 from hashlib import sha256
 from http import HTTPStatus
-from typing import Awaitable, Callable, Dict, Mapping, NamedTuple, Optional, Sequence
+from typing import Awaitable, Callable, Dict, Mapping, NamedTuple, Optional, Sequence, Union
 from urllib.parse import unquote
 
 from aiohttp import web
 
 from .._errors import Failure
 from ._access import Right, Tokens, token_of_header
+from ._browsers import HEADERS, Browsers, is_asked_before, may_ask
 from ._connections import SECONDS_OF_REST, Connections
 from ._errors import BadBody, BadQuery, CantServe, OtherBody
+from ._events import KIND, tell_states
 from ._forms import SUFFIXES, form_accepted
 from ._making import Body, Made
-from ._query import OWN_WORDS, TOKEN, Words, question_of, words_of
+from ._metrics import Metrics
+from ._query import OWN_WORDS, TOKEN, Question, Words, question_of, words_of
 from ._reading import Room, key_of, reader_of
 from ._replies import Refusal, Reply, json_reply, not_yet
 from ._served import LONG, ServedCube, beside
+from ._versions import SHORT, Tags, takes_gzip
 
 TOLD = logging.getLogger("jackraisin.serve")
 
@@ -29,19 +34,20 @@ READS = ("GET", "HEAD")
 
 
 class Limits(NamedTuple):
-    """The bytes of a body and of all bodies that are read at a time, and the number of connections."""
+    """The bytes of a body and of all bodies that are read at a time, the number of connections, and of rows in metrics."""
 
     body: int = 8 * 2**20
     bodies: int = 64 * 2**20
     connections: int = 1000
+    series: int = 1000
 
 
 class Path(NamedTuple):
-    """What answers at a path: its methods, the right that it wants, and its work."""
+    """What answers at a path: its methods, the right that it wants, and its work, which may also answer by itself."""
 
     methods: Sequence[str]
     right: Optional[Right]
-    work: "Callable[[Asked], Awaitable[Reply]]"
+    work: "Callable[[Asked], Awaitable[Union[Reply, web.StreamResponse]]]"
 
 
 class Asked(NamedTuple):
@@ -58,12 +64,16 @@ class Asked(NamedTuple):
 
 
 class Site:
-    """Answers requests over a served cube. A token is wanted where there are tokens."""
+    """Answers requests over a served cube. A token is wanted where there are tokens; the metrics are of what a question asks."""
 
-    def __init__(self, cube: ServedCube, meaning: Callable[[int], str], tokens: Optional[Tokens], limits: Limits = Limits()) -> None:
+    def __init__(
+        self, cube: ServedCube, meaning: Callable[[int], str], tokens: Optional[Tokens], browsers: Browsers, shown: Question, limits: Limits = Limits()
+    ) -> None:
         self.cube, self.limits = cube, limits
-        self._meaning, self._tokens = meaning, tokens
+        self._meaning, self._tokens, self._browsers, self._shown = meaning, tokens, browsers, shown
         self._room = Room(limits.body, limits.bodies)
+        self._tags, self._metrics = Tags(), Metrics(limits.series)
+        self._ended: "asyncio.Future[None]" = asyncio.get_running_loop().create_future()
         self._busy = 0
         self._rest = asyncio.Event()
         self.is_ending = False
@@ -75,6 +85,8 @@ class Site:
     def _all_paths(self) -> Dict[str, Path]:
         paths = {
             "/changes": Path(["POST"], Right.CHANGE, self._changes),
+            "/events": Path(["GET"], Right.READ, self._events),
+            "/metrics": Path(READS, Right.READ, self._measured),
             "/healthz": Path(READS, None, self._health),
             "/readyz": Path(READS, None, self._readiness),
         }
@@ -86,6 +98,7 @@ class Site:
     async def end(self, seconds: float) -> None:
         """Waits until the requests that came are answered, for so long at most, and closes all connections."""
         self.is_ending = True
+        self._ended.set_result(None)
         self._rest.clear()
         if self._busy:
             try:
@@ -97,18 +110,26 @@ class Site:
     # Requests and replies.
 
     async def _answer(self, request: web.BaseRequest) -> web.StreamResponse:
-        connection = self.connections.of(request.protocol)
+        connection, start = self.connections.of(request.protocol), time.perf_counter()
         connection.begin()
         self._busy += 1
         try:
-            return await self._sent(request, await self._reply(request))
+            reply = await self._reply(request)
+            response = await self._sent(request, reply) if isinstance(reply, Reply) else reply
+            self._metrics.request(self._counted(request), response.status, time.perf_counter() - start)
+            return response
         finally:
             connection.rest()
             self._busy -= 1
             if not self._busy:
                 self._rest.set()
 
-    async def _reply(self, request: web.BaseRequest) -> Reply:
+    def _counted(self, request: web.BaseRequest) -> str:
+        """The path under which a request is counted, of which there are few."""
+        path = unquote(request.raw_path.partition("?")[0])
+        return path if path in self._paths else "other"
+
+    async def _reply(self, request: web.BaseRequest) -> Union[Reply, web.StreamResponse]:
         try:
             return await self._replied(request)
         except Refusal as why:
@@ -127,7 +148,10 @@ class Site:
             TOLD.exception("a request failed")
             return Refusal(HTTPStatus.INTERNAL_SERVER_ERROR, "the server failed at this request").reply
 
-    async def _replied(self, request: web.BaseRequest) -> Reply:
+    async def _replied(self, request: web.BaseRequest) -> Union[Reply, web.StreamResponse]:
+        self._browsers.check(request.headers)
+        if is_asked_before(request.method, request.headers):
+            return may_ask()
         raw, _, query = request.raw_path.partition("?")
         name = unquote(raw)
         path = self._paths.get(name)
@@ -156,21 +180,30 @@ class Site:
     async def _sent(self, request: web.BaseRequest, reply: Reply) -> web.StreamResponse:
         """A reply as it goes out: a long one in parts, each of which has its time, so that a slow reader costs no memory, and one
         that stands still is cut off."""
-        headers = {"Content-Type": reply.kind, "Cache-Control": "no-store", "X-Content-Type-Options": "nosniff", **reply.headers}
-        if self.is_ending:
-            headers["Connection"] = "close"
+        headers = self._headers_of(request, reply)
         if len(reply.body) <= PART or request.method == "HEAD":
             return web.Response(status=reply.status.value, body=reply.body, headers=headers)
         response = web.StreamResponse(status=reply.status.value, headers=headers)
         response.content_length = len(reply.body)
         await response.prepare(request)
         for at in range(0, len(reply.body), PART):
-            try:
-                await asyncio.wait_for(response.write(reply.body[at : at + PART]), SECONDS_FOR_A_PART)
-            except asyncio.TimeoutError:
-                self.connections.of(request.protocol).cut()
-                break
+            await self._write(request, response, reply.body[at : at + PART])
         return response
+
+    async def _write(self, request: web.BaseRequest, response: web.StreamResponse, part: bytes) -> None:
+        try:
+            await asyncio.wait_for(response.write(part), SECONDS_FOR_A_PART)
+        except asyncio.TimeoutError:
+            self.connections.of(request.protocol).cut()
+            raise ConnectionResetError("the answer wasn't taken in time") from None
+
+    def _headers_of(self, request: web.BaseRequest, reply: Reply) -> Dict[str, str]:
+        headers = {**HEADERS, "Content-Type": reply.kind, "Cache-Control": "no-store", **reply.headers}
+        for name, value in self._browsers.headers_for(request.headers).items():
+            headers[name] = f"{headers[name]}, {value}" if name in headers else value
+        if self.is_ending:
+            headers["Connection"] = "close"
+        return headers
 
     # What the paths do.
 
@@ -178,31 +211,56 @@ class Site:
         name, _, suffix = asked.path[1:].partition(".")
         question = question_of(name, asked.words, self.cube.schema)
         form = SUFFIXES[suffix] if suffix else form_accepted(asked.headers.get("Accept", ""))
-        self._check_ready()
+        headers = {"Cache-Control": "private, no-cache", "Vary": "Accept, Accept-Encoding"}
+        state = self._ready_state()
+        if self._tags.has(asked.headers, state, form):
+            return Reply(HTTPStatus.NOT_MODIFIED, b"", form.value, {**headers, "ETag": self._tags.of(state, form, False)})
         answer = await self.cube.ask(question)
-        headers = {"Datacube-State": str(answer.state)}
-        return Reply(HTTPStatus.OK, await answer.form(form), form.value, headers)
+        body, is_packed = await answer.form(form), takes_gzip(asked.headers)
+        if is_packed and len(body) > SHORT:
+            body, headers["Content-Encoding"] = await answer.packed(form), "gzip"
+        headers.update({"Datacube-State": str(answer.state), "ETag": self._tags.of(answer.state, form, "Content-Encoding" in headers)})
+        return Reply(HTTPStatus.OK, body, form.value, headers)
 
     async def _changes(self, asked: Asked) -> Reply:
         read, key = reader_of(asked.headers), key_of(asked.request)
-        self._check_ready()
+        self._ready_state()
         with self._room.held(asked.request):
             data = await self._room.read(asked.request)
             made = await self.cube.make(await beside(len(data), lambda: Body(read(data, self.cube.schema), sha256(data).digest(), key)))
+            self._metrics.changes(made.taken, len(made.refused))
             return json_reply(await beside(LONG if made.refused else 0, lambda: self._told_of(made)))
+
+    async def _events(self, asked: Asked) -> web.StreamResponse:
+        self._ready_state()
+        response = web.StreamResponse(headers=self._headers_of(asked.request, Reply(HTTPStatus.OK, b"", KIND)))
+        await response.prepare(asked.request)
+        await tell_states(self.cube, lambda part: self._write(asked.request, response, part), self._ended)
+        return response
+
+    async def _measured(self, asked: Asked) -> Reply:
+        """The metrics; before the session is there, those of the server alone."""
+        state = self.cube.state
+        text = (await self.cube.ask(self._shown)).text if state is not None else None
+        size = LONG if text is not None and len(text) > SHORT else 0
+        accept = asked.headers.get("Accept", "")
+        body, kind = await beside(size, lambda: self._metrics.text(accept, state, text, len(self.connections)))
+        return Reply(HTTPStatus.OK, body, kind)
 
     async def _health(self, asked: Asked) -> Reply:
         return Reply(HTTPStatus.OK, b"ok\n")
 
     async def _readiness(self, asked: Asked) -> Reply:
-        self._check_ready()
+        self._ready_state()
         if self.is_ending:
             raise not_yet("the server is ending")
         return Reply(HTTPStatus.OK, b"ok\n")
 
-    def _check_ready(self) -> None:
+    def _ready_state(self) -> int:
+        """The state that questions see."""
         if self.cube.state is None:
             raise not_yet("the session isn't there: it is still reading, or it has ended")
+        return self.cube.state
 
     def _told_of(self, made: Made) -> Dict[str, object]:
         """What became of changes, as it is told."""

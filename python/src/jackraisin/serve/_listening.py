@@ -32,9 +32,14 @@ class Address:
         return self.path is not None or self.host == "localhost" or is_loopback(self.host)
 
     @property
+    def name(self) -> str:
+        """The host, as an address of a page has it."""
+        return f"[{self.host}]" if ":" in self.host else self.host
+
+    @property
     def authority(self) -> str:
-        """The host and the port, as an address of a page has them."""
-        return f"[{self.host}]:{self.port}" if ":" in self.host else f"{self.host}:{self.port}"
+        """The host and the port, likewise."""
+        return f"{self.name}:{self.port}"
 
 
 def address_of(text: str) -> Address:

@@ -2,6 +2,7 @@
 from __future__ import annotations
 
 import asyncio
+import gzip
 from collections import OrderedDict
 from concurrent.futures import ThreadPoolExecutor
 from typing import Callable, Dict, List, Optional, TypeVar, Union
@@ -20,23 +21,34 @@ T = TypeVar("T")
 MOST_CHANGES, MOST_BYTES = 20_000, 64 * 2**20
 # (what is made of a text that is longer is made in a thread of its own)
 LONG = 2**15
+# (of gzip: what is beyond takes long and saves little)
+LEVEL = 5
 
 
 class Answer:
-    """The answer to a question in a state, which is the number of changes in the store. Each form of it is made once."""
+    """The answer to a question in a state, which is the number of changes in the store. Each form of it is made once, and
+    packed once."""
 
     def __init__(self, state: int, text: str, schema: Schema) -> None:
-        self.state, self.size = state, len(text)
-        self._text, self._schema = text, schema
+        self.state, self.text = state, text
+        self._schema = schema
         self._forms: Dict[Form, "asyncio.Task[bytes]"] = {}
+        self._packed: Dict[Form, "asyncio.Task[bytes]"] = {}
 
     async def form(self, form: Form) -> bytes:
         if form not in self._forms:
-            self._forms[form] = asyncio.ensure_future(beside(self.size, lambda: self._made(form)))
+            self._forms[form] = asyncio.ensure_future(beside(len(self.text), lambda: self._made(form)))
         return await asyncio.shield(self._forms[form])
 
+    async def packed(self, form: Form) -> bytes:
+        """A form as gzip packs it."""
+        body = await self.form(form)
+        if form not in self._packed:
+            self._packed[form] = asyncio.ensure_future(beside(len(body), lambda: gzip.compress(body, LEVEL, mtime=0)))
+        return await asyncio.shield(self._packed[form])
+
     def _made(self, form: Form) -> bytes:
-        return text_in_form(self._text, form, self._schema).encode("utf-8")
+        return text_in_form(self.text, form, self._schema).encode("utf-8")
 
 
 Answered = Union[Answer, Failure, CantServe]
@@ -63,6 +75,7 @@ class ServedCube:
         self._answers: "OrderedDict[Question, Answer]" = OrderedDict()
         self._kept = 0
         self._wake = asyncio.Event()
+        self._moved: "asyncio.Future[None]" = asyncio.get_running_loop().create_future()
         self._is_ending = False
 
     # What others call.
@@ -93,6 +106,10 @@ class ServedCube:
             raise CantServe(str(answer))
         return answer
 
+    async def moved(self) -> None:
+        """Returns when there is another state."""
+        await asyncio.shield(self._moved)
+
     def end(self) -> None:
         """Lets `run` end, once what waits is done."""
         self._is_ending = True
@@ -102,7 +119,7 @@ class ServedCube:
         """Begins the session, serves until the end, and gives its status; where the session ends by itself, that is raised."""
         session = await self._in_thread(self._begin)
         try:
-            self.state = session.number
+            self._set_state(session.number)
             ready(session)
             await self._serve(session)
             return await self._in_thread(session.close)
@@ -136,11 +153,16 @@ class ServedCube:
             self._posts = posts + self._posts
             raise
         if session.number != self.state:
-            self.state = session.number
-            self._answers.clear()
-            self._kept = 0
+            self._set_state(session.number)
         for post, it in zip(posts, made):
             post.made.set_result(it)
+
+    def _set_state(self, state: Optional[int]) -> None:
+        self.state = state
+        self._answers.clear()
+        self._kept = 0
+        self._moved.set_result(None)
+        self._moved = asyncio.get_running_loop().create_future()
 
     def _next_posts(self) -> List[Post]:
         count = 0
@@ -164,9 +186,9 @@ class ServedCube:
     def _keep(self, question: Question, answer: Answer) -> None:
         """Keeps an answer for those who ask the same in this state, and of all the latest ones."""
         self._answers[question] = answer
-        self._kept += answer.size
+        self._kept += len(answer.text)
         while self._kept > MOST_BYTES and len(self._answers) > 1:
-            self._kept -= self._answers.popitem(last=False)[1].size
+            self._kept -= len(self._answers.popitem(last=False)[1].text)
 
     def _give_up(self, why: CantServe) -> None:
         """Tells all who wait that the session is over."""
@@ -174,7 +196,8 @@ class ServedCube:
             post.made.set_result(why)
         for question in self._questions.values():
             question.set_result(why)
-        self._posts, self._questions, self.state = [], {}, None
+        self._posts, self._questions = [], {}
+        self._set_state(None)
 
     async def _in_thread(self, work: Callable[[], T]) -> T:
         return await asyncio.get_running_loop().run_in_executor(self._thread, work)

@@ -30,8 +30,12 @@ class Given(NamedTuple):
     token: Optional[str]
     certificate: Optional[str]
     key: Optional[str]
+    hosts: List[str]
+    origins: List[str]
+    shown: str
     body: int
     connections: int
+    series: int
     is_json_log: bool
 
 
@@ -48,6 +52,10 @@ def parser() -> argparse.ArgumentParser:
     asks.add_argument("--tls-cert", metavar="FILE", help="the certificate for TLS, with those above it")
     asks.add_argument("--tls-key", metavar="FILE", help="its key")
     asks.add_argument("--behind-tls", action="store_true", help="what stands before the server has TLS")
+    asks.add_argument("--host", metavar="NAME", action="append", default=[], help="a name under which the server is asked too, as what stands before it passes it on")
+    asks.add_argument("--allow-origin", metavar="ORIGIN", action="append", default=[], help="an origin, as https://board.example.org, whose pages may ask from a browser")
+    asks.add_argument("--metrics", metavar="QUERY", default="", help="the slice that /metrics shows, as /slice takes it: city=*; by default the grand total")
+    asks.add_argument("--max-series", metavar="N", type=int, default=1000, help="the most rows that /metrics shows: 1000 by default")
     asks.add_argument("--max-body", metavar="SIZE", type=size, default=8 * 2**20, help="the most bytes of a body: 8M by default")
     asks.add_argument("--max-connections", metavar="N", type=int, default=1000, help="the most connections at a time: 1000 by default")
     asks.add_argument("--log-format", choices=["text", "json"], default="text", help="how lines are written to standard error")
@@ -74,7 +82,7 @@ def given_by(words: Optional[Sequence[str]]) -> Given:
         tokens = Tokens.of_one(token)
     return Given(
         given.schema, given.feeds, given.store, given.wary, given.threads, address, tokens, token, given.tls_cert, given.tls_key,
-        given.max_body, given.max_connections, given.log_format == "json",
+        given.host, given.allow_origin, given.metrics, given.max_body, given.max_connections, given.max_series, given.log_format == "json",
     )
 
 
