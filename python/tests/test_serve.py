@@ -1,6 +1,7 @@
 """One cube for a team, over HTTP: beside scripts/oracle.py, the program's own forms, and a session that is asked directly."""
 import asyncio
 import collections
+import configparser
 import contextlib
 import csv
 import gzip
@@ -799,6 +800,66 @@ class Browsers(Shared):
             self.assertEqual((headers["Referrer-Policy"], headers["X-Content-Type-Options"], headers["X-Frame-Options"]), ("no-referrer", "nosniff", "DENY"))
             self.assertIn("frame-ancestors 'none'", headers["Content-Security-Policy"])
             self.assertNotIn("unsafe", headers["Content-Security-Policy"])
+
+
+class Explorer(Case):
+    """The page at `/`."""
+
+    def test_the_page_has_the_cube_and_a_policy_by_hashes(self):
+        server = self.server()
+        answer = server.get("/", token=False)
+        self.assertEqual(answer.status, 401)
+        answer = server.get(f"/?_token={server.token}", token=False)
+        self.assertEqual((answer.status, answer.headers["Location"], answer.text), (303, "/", ""))
+        said = answer.headers["Set-Cookie"].split("; ")
+        self.assertEqual(said, [f"jackraisin-{server.port}={server.token}", "Path=/", "HttpOnly", "SameSite=Strict"])
+        page = server.get("/", headers={"Cookie": f"other=1; {said[0]}"}, token=False)
+        self.assertEqual((page.status, page.headers["Content-Type"]), (200, "text/html; charset=utf-8"))
+        added = re.search(r'open\(new File\(\[(".*?[^\\]")\], ', page.text)
+        self.assertEqual(json.loads(added[1]), server.get("/cube.csv").text)
+        policy = page.headers["Content-Security-Policy"]
+        self.assertEqual((policy.count("'sha256-"), "unsafe" in policy, "unsafe-inline" in page.text, "frame-ancestors 'none'" in policy), (4, False, False, True))
+        self.assertEqual(server.get("/", headers={"If-None-Match": page.headers["ETag"]}).status, 304)
+        self.assertEqual(server.get("/", headers={"Cookie": f"jackraisin-1={server.token}"}, token=False).status, 401)
+        self.assertEqual(server.change(b"9,D,a\n", {**CSV, "Cookie": said[0], "Origin": "http://evil.example"}, token=False).status, 403)
+        self.assertNotIn("token", server.end()[1])
+
+    def test_in_a_browser(self):
+        """The cube is seen, its numbers go on when it changes, and nothing is against the policy."""
+        server = self.server()
+        with beside.browser(self, self.folder) as driver:
+            driver.get(server.address)
+            rows = lambda: driver.execute_script(beside.ROWS)
+            until(lambda: ["York", "2"] in [it[:2] for it in rows()])
+            self.assertNotIn("token", driver.current_url)
+            server.made(b"9,I,a,York,tea,card,1,100\n9,I,b,Hull,tea,card,1,100\n")
+            until(lambda: {("York", "3"), ("Hull", "1")} <= {tuple(it[:2]) for it in rows()})
+            self.assertIn("lines, as they are at", driver.find_element("id", "about").text)
+            self.assertEqual([it for it in driver.get_log("browser") if it["level"] == "SEVERE"], [])
+            self.assertEqual(server.end()[0], 0)
+            until(lambda: "doesn't answer" in driver.find_element("id", "problem").text)
+
+
+class Systemd(Case):
+    def test_it_is_told(self):
+        path = f"{self.folder}/notify"
+        with socket.socket(socket.AF_UNIX, socket.SOCK_DGRAM) as end:
+            end.bind(path)
+            end.settimeout(SECONDS)
+            server = self.server(NOTIFY_SOCKET=path)
+            self.assertEqual(end.recv(100), b"READY=1")
+            server.end()
+            self.assertEqual(end.recv(100), b"STOPPING=1")
+
+    def test_the_unit_has_words_that_are_taken(self):
+        unit = configparser.ConfigParser(strict=False, interpolation=None)
+        unit.optionxform = str
+        unit.read(f"{beside.ROOT}/examples/serve/datacube-serve.service", encoding="utf-8")
+        service = unit["Service"]
+        words = service["ExecStart"].replace("${CREDENTIALS_DIRECTORY}/tokens", self.written("tokens", "read reader-1\n")).split()
+        self.assertEqual(words[1:3], ["-m", "jackraisin.serve"])
+        self.assertEqual(_words.given_by(words[3:]).store, "/var/lib/datacube/sales.db")
+        self.assertEqual([service[it] for it in ("Type", "KillMode", "DynamicUser", "ProtectSystem")], ["notify", "mixed", "yes", "strict"])
 
 
 class Page(Case):

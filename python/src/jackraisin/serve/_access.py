@@ -6,7 +6,9 @@ import hashlib
 import hmac
 import re
 import secrets
-from typing import Dict, Iterable, Optional
+from dataclasses import dataclass
+from typing import Dict, Iterable, Mapping, Optional
+from urllib.parse import quote, unquote
 
 from .._program import Path
 from ._errors import CantServe
@@ -52,6 +54,26 @@ class Tokens:
                 return cls(rights_in(file))
         except (OSError, UnicodeDecodeError) as why:
             raise CantServe(f"the file of tokens can't be read: {why}") from None
+
+
+@dataclass(frozen=True)
+class Cookie:
+    """The cookie in which a browser keeps its token: for one port, since browsers have one for all ports of a machine."""
+
+    name: str
+    is_secure: bool
+
+    def said(self, token: str) -> str:
+        """What sets it: no script reads it, and no page of elsewhere sends it."""
+        return f"{self.name}={quote(token, safe='')}; Path=/; HttpOnly; SameSite=Strict{'; Secure' if self.is_secure else ''}"
+
+    def token(self, headers: Mapping[str, str]) -> Optional[str]:
+        """The token that a request brings in it."""
+        for part in headers.get("Cookie", "").split(";"):
+            name, _, value = part.strip().partition("=")
+            if name == self.name:
+                return unquote(value)
+        return None
 
 
 def rights_in(lines: Iterable[str]) -> Dict[str, Right]:

@@ -14,9 +14,11 @@ from typing import Optional, Sequence
 from .._errors import DatacubeError, Ended
 from .._records import LONGEST
 from .._schema import schema_of
+from ._access import Cookie
 from ._browsers import Browsers
 from ._http import TOLD, Limits, Site
 from ._listening import Address, listen, tls_of
+from ._notify import tell_systemd
 from ._query import TOKEN, question_of, words_of
 from ._served import ServedCube
 from ._stored import SECONDS_IN_USE, StoredSession, meaning_of_refusal
@@ -59,9 +61,10 @@ async def serve(given: Given) -> int:
     cube = ServedCube(schema, functools.partial(begin_session, given))
     meaning = functools.lru_cache(maxsize=None)(functools.partial(meaning_of_refusal, version=schema.version))
     shown = question_of("slice", words_of(given.shown), schema)
-    site = Site(cube, meaning, given.tokens, browsers_of(given), shown, limits_of(given))
     socket, address = listen(given.address)
     tls = tls_of(given.certificate, given.key)
+    cookie = Cookie(f"jackraisin-{address.port}", tls is not None or given.is_behind_tls)
+    site = Site(cube, meaning, given.tokens, cookie, browsers_of(given), shown, limits_of(given))
     loop, ending = asyncio.get_running_loop(), asyncio.Event()
     for it in ENDING:
         # (one that is ignored, as under nohup, stays so)
@@ -72,11 +75,12 @@ async def serve(given: Given) -> int:
     else:
         server = await loop.create_server(site.connections, sock=socket, ssl=tls)
     print(shown_address(address, tls is not None, given.token), flush=True)
-    running = asyncio.ensure_future(cube.run(lambda session: TOLD.info("ready, with %d changes in %s", session.number, given.store)))
+    running = asyncio.ensure_future(cube.run(functools.partial(is_ready, given)))
     try:
         signalled = asyncio.ensure_future(ending.wait())
         await asyncio.wait([running, signalled], return_when=asyncio.FIRST_COMPLETED)
         signalled.cancel()
+        tell_systemd("STOPPING=1")
         server.close()
         await site.end(SECONDS_TO_END)
     finally:
@@ -84,6 +88,11 @@ async def serve(given: Given) -> int:
         if address.path is not None:
             os.unlink(address.path)
     return await running
+
+
+def is_ready(given: Given, session: StoredSession) -> None:
+    TOLD.info("ready, with %d changes in %s", session.number, given.store)
+    tell_systemd("READY=1")
 
 
 def limits_of(given: Given) -> Limits:

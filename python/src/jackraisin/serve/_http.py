@@ -12,7 +12,7 @@ from urllib.parse import unquote
 from aiohttp import web
 
 from .._errors import Failure
-from ._access import Right, Tokens, token_of_header
+from ._access import Cookie, Right, Tokens, token_of_header
 from ._browsers import HEADERS, Browsers, is_asked_before, may_ask
 from ._connections import SECONDS_OF_REST, Connections
 from ._errors import BadBody, BadQuery, CantServe, OtherBody
@@ -20,10 +20,11 @@ from ._events import KIND, tell_states
 from ._forms import SUFFIXES, form_accepted
 from ._making import Body, Made
 from ._metrics import Metrics
+from ._page import page_of
 from ._query import OWN_WORDS, TOKEN, Question, Words, question_of, words_of
 from ._reading import Room, key_of, reader_of
 from ._replies import Refusal, Reply, json_reply, not_yet
-from ._served import LONG, ServedCube, beside
+from ._served import LONG, Answer, ServedCube, beside
 from ._versions import SHORT, Tags, takes_gzip
 
 TOLD = logging.getLogger("jackraisin.serve")
@@ -31,6 +32,9 @@ TOLD = logging.getLogger("jackraisin.serve")
 SECONDS_FOR_A_PART = 30.0
 PART = 2**16
 READS = ("GET", "HEAD")
+PAGE, HTML = "page", "text/html; charset=utf-8"
+# (a client may keep what has a tag, and asks each time whether it still holds)
+KEPT = {"Cache-Control": "private, no-cache", "Vary": "Accept, Accept-Encoding"}
 
 
 class Limits(NamedTuple):
@@ -67,10 +71,17 @@ class Site:
     """Answers requests over a served cube. A token is wanted where there are tokens; the metrics are of what a question asks."""
 
     def __init__(
-        self, cube: ServedCube, meaning: Callable[[int], str], tokens: Optional[Tokens], browsers: Browsers, shown: Question, limits: Limits = Limits()
+        self,
+        cube: ServedCube,
+        meaning: Callable[[int], str],
+        tokens: Optional[Tokens],
+        cookie: Cookie,
+        browsers: Browsers,
+        shown: Question,
+        limits: Limits = Limits(),
     ) -> None:
         self.cube, self.limits = cube, limits
-        self._meaning, self._tokens, self._browsers, self._shown = meaning, tokens, browsers, shown
+        self._meaning, self._tokens, self._cookie, self._browsers, self._shown = meaning, tokens, cookie, browsers, shown
         self._room = Room(limits.body, limits.bodies)
         self._tags, self._metrics = Tags(), Metrics(limits.series)
         self._ended: "asyncio.Future[None]" = asyncio.get_running_loop().create_future()
@@ -84,6 +95,7 @@ class Site:
 
     def _all_paths(self) -> Dict[str, Path]:
         paths = {
+            "/": Path(READS, Right.READ, self._page),
             "/changes": Path(["POST"], Right.CHANGE, self._changes),
             "/events": Path(["GET"], Right.READ, self._events),
             "/metrics": Path(READS, Right.READ, self._measured),
@@ -168,7 +180,7 @@ class Site:
     def _check_right(self, request: web.BaseRequest, words: Words, wanted: Optional[Right]) -> None:
         if wanted is None or self._tokens is None:
             return
-        token = token_of_header(request.headers.get("Authorization", "")) or words.own.get(TOKEN)
+        token = token_of_header(request.headers.get("Authorization", "")) or words.own.get(TOKEN) or self._cookie.token(request.headers)
         if token is None:
             raise Refusal(HTTPStatus.UNAUTHORIZED, "a token is wanted: Authorization: Bearer TOKEN", {"WWW-Authenticate": "Bearer"})
         right = self._tokens.right_of(token)
@@ -211,16 +223,31 @@ class Site:
         name, _, suffix = asked.path[1:].partition(".")
         question = question_of(name, asked.words, self.cube.schema)
         form = SUFFIXES[suffix] if suffix else form_accepted(asked.headers.get("Accept", ""))
-        headers = {"Cache-Control": "private, no-cache", "Vary": "Accept, Accept-Encoding"}
-        state = self._ready_state()
-        if self._tags.has(asked.headers, state, form):
-            return Reply(HTTPStatus.NOT_MODIFIED, b"", form.value, {**headers, "ETag": self._tags.of(state, form, False)})
+        if self._tags.has(asked.headers, self._ready_state(), form.name):
+            return self._not_modified(form.name, form.value)
         answer = await self.cube.ask(question)
-        body, is_packed = await answer.form(form), takes_gzip(asked.headers)
-        if is_packed and len(body) > SHORT:
-            body, headers["Content-Encoding"] = await answer.packed(form), "gzip"
-        headers.update({"Datacube-State": str(answer.state), "ETag": self._tags.of(answer.state, form, "Content-Encoding" in headers)})
-        return Reply(HTTPStatus.OK, body, form.value, headers)
+        return await self._versioned(asked, answer, form.name, Reply(HTTPStatus.OK, await answer.form(form), form.value))
+
+    async def _page(self, asked: Asked) -> Reply:
+        """The explorer. A token of the address becomes a cookie, so that it doesn't stay there."""
+        if TOKEN in asked.words.own:
+            return Reply(HTTPStatus.SEE_OTHER, b"", headers={"Location": "/", "Set-Cookie": self._cookie.said(asked.words.own[TOKEN])})
+        if self._tags.has(asked.headers, self._ready_state(), PAGE):
+            return self._not_modified(PAGE, HTML)
+        answer = await self.cube.ask(("print",))
+        page = await answer.once(PAGE, lambda: page_of(answer.text, answer.state))
+        return await self._versioned(asked, answer, PAGE, Reply(HTTPStatus.OK, page.body, HTML, {"Content-Security-Policy": page.policy}))
+
+    def _not_modified(self, form: str, kind: str) -> Reply:
+        return Reply(HTTPStatus.NOT_MODIFIED, b"", kind, {**KEPT, "ETag": self._tags.of(self._ready_state(), form, False)})
+
+    async def _versioned(self, asked: Asked, answer: Answer, form: str, reply: Reply) -> Reply:
+        """A reply of a state with its tag, packed where it may be."""
+        body, is_packed = reply.body, len(reply.body) > SHORT and takes_gzip(asked.headers)
+        headers = {**KEPT, **reply.headers, "Datacube-State": str(answer.state), "ETag": self._tags.of(answer.state, form, is_packed)}
+        if is_packed:
+            body, headers["Content-Encoding"] = await answer.packed(form, body), "gzip"
+        return Reply(reply.status, body, reply.kind, headers)
 
     async def _changes(self, asked: Asked) -> Reply:
         read, key = reader_of(asked.headers), key_of(asked.request)

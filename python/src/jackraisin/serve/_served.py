@@ -5,7 +5,7 @@ import asyncio
 import gzip
 from collections import OrderedDict
 from concurrent.futures import ThreadPoolExecutor
-from typing import Callable, Dict, List, Optional, TypeVar, Union
+from typing import Any, Callable, Dict, List, Optional, TypeVar, Union
 
 from .._errors import DatacubeError, Ended, Failure
 from .._schema import Schema
@@ -26,29 +26,27 @@ LEVEL = 5
 
 
 class Answer:
-    """The answer to a question in a state, which is the number of changes in the store. Each form of it is made once, and
-    packed once."""
+    """The answer to a question in a state, which is the number of changes in the store. Whatever is made of it, as a form or what
+    gzip packs, is made once."""
 
     def __init__(self, state: int, text: str, schema: Schema) -> None:
         self.state, self.text = state, text
         self._schema = schema
-        self._forms: Dict[Form, "asyncio.Task[bytes]"] = {}
-        self._packed: Dict[Form, "asyncio.Task[bytes]"] = {}
+        self._made: Dict[str, "asyncio.Task[Any]"] = {}
 
     async def form(self, form: Form) -> bytes:
-        if form not in self._forms:
-            self._forms[form] = asyncio.ensure_future(beside(len(self.text), lambda: self._made(form)))
-        return await asyncio.shield(self._forms[form])
+        return await self.once(form.name, lambda: text_in_form(self.text, form, self._schema).encode("utf-8"))
 
-    async def packed(self, form: Form) -> bytes:
-        """A form as gzip packs it."""
-        body = await self.form(form)
-        if form not in self._packed:
-            self._packed[form] = asyncio.ensure_future(beside(len(body), lambda: gzip.compress(body, LEVEL, mtime=0)))
-        return await asyncio.shield(self._packed[form])
+    async def packed(self, name: str, body: bytes) -> bytes:
+        """What was made under a name, as gzip packs it."""
+        return await self.once(f"{name} packed", lambda: gzip.compress(body, LEVEL, mtime=0))
 
-    def _made(self, form: Form) -> bytes:
-        return text_in_form(self.text, form, self._schema).encode("utf-8")
+    async def once(self, name: str, make: Callable[[], T]) -> T:
+        """What is made under a name by the first who asks."""
+        if name not in self._made:
+            self._made[name] = asyncio.ensure_future(beside(len(self.text), make))
+        found: T = await asyncio.shield(self._made[name])
+        return found
 
 
 Answered = Union[Answer, Failure, CantServe]

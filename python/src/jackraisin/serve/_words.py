@@ -30,6 +30,7 @@ class Given(NamedTuple):
     token: Optional[str]
     certificate: Optional[str]
     key: Optional[str]
+    is_behind_tls: bool
     hosts: List[str]
     origins: List[str]
     shown: str
@@ -81,7 +82,7 @@ def given_by(words: Optional[Sequence[str]]) -> Given:
         token = drawn_token()
         tokens = Tokens.of_one(token)
     return Given(
-        given.schema, given.feeds, given.store, given.wary, given.threads, address, tokens, token, given.tls_cert, given.tls_key,
+        given.schema, given.feeds, given.store, given.wary, given.threads, address, tokens, token, given.tls_cert, given.tls_key, given.behind_tls,
         given.host, given.allow_origin, given.metrics, given.max_body, given.max_connections, given.max_series, given.log_format == "json",
     )
 
