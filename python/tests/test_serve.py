@@ -24,6 +24,7 @@ import threading
 import time
 import types
 import unittest
+from fractions import Fraction
 from unittest import mock
 
 import beside
@@ -34,7 +35,7 @@ from jackraisin import ALL, ANY
 WHY = None if importlib.util.find_spec("aiohttp") else "aiohttp (Debian: python3-aiohttp) isn't installed for this Python"
 if WHY is None:
     from jackraisin._errors import Failure
-    from jackraisin.serve import _connections, _events, _keys, _making, _places, _served, _words
+    from jackraisin.serve import _connections, _events, _keys, _making, _places, _query, _served, _words
     from jackraisin.serve._errors import CantServe
 
 SECONDS = 30
@@ -182,8 +183,13 @@ class Shared(Case):
     def setUpClass(cls):
         folder = tempfile.TemporaryDirectory(prefix="datacube-test-")
         cls.addClassCleanup(folder.cleanup)
-        cls.shop = Server(f"{folder.name}/sales.db", *cls.words)
+        cls.shop = Server(f"{folder.name}/sales.db", *cls.words, **cls.given(folder.name))
         cls.addClassCleanup(cls.shop.close)
+
+    @classmethod
+    def given(cls, folder):
+        """The schema and the feeds, where they aren't the shop's."""
+        return {}
 
 
 class Questions(Shared):
@@ -675,6 +681,88 @@ class Ends(Case):
         until(lambda: server.get("/healthz").status == 200)
 
 
+class Views(Shared):
+    """The greatest lines, and the share of each, beside what is made of the cube here."""
+
+    @classmethod
+    def given(cls, folder):
+        rng = random.Random("views")
+        schema = jackraisin.Schema(["city", "kind"], ["price", "odd,name"], ["count(*)", "sum(price)", "avg(price)", "sum(odd,name)"], decimals={"price": 2})
+        rows = [["I", n, rng.choice(["York", "Leeds", 'a,"b"', "\\N", "z\nz"]), rng.choice("abcdef"), rng.choice(["\\N", "0", "-1.50", "2", "3.25"]), 0] for n in range(80)]
+        with open(f"{folder}/feed.csv", "wb") as feed, open(f"{folder}/schema.toml", "w", encoding="utf-8") as file:
+            feed.write(records([["op", "id", "city", "kind", "price", "odd,name"], *rows]))
+            file.write(schema.toml())
+        cls.cube = jackraisin.cube(schema, feed.name)
+        return {"schema": file.name, "feeds": [feed.name]}
+
+    def asked(self, path):
+        answer = self.shop.get(path)
+        self.assertEqual(answer.status, 200, answer.text)
+        return list(csv.reader(io.StringIO(answer.text, newline="")))
+
+    def cell(self, row):
+        return tuple(ALL if mark == "1" else None if text == "\\N" else text for text, mark in zip(row[:2], row[2:4]))
+
+    def test_the_greatest(self):
+        plain = self.cube.where({"city": ANY, "kind": "a"})
+        for by in ("count(*)", "sum(price)", "avg(price)"):
+            rows = [it for it in plain if it["city"] is not ALL]
+            wanted = sorted(rows, key=lambda it: (it[by] is None, -(it[by] or 0)))
+            for top in (0, 1, 3, 100):
+                found = self.asked(f"/slice?city=*&kind=a&_top={top}&_by={by}")
+                self.assertEqual([self.cell(it) for it in found[1:]], [it.key for it in wanted[:top]])
+        lines = self.shop.get("/slice?city=*").text
+        self.assertIn(self.shop.get("/slice?city=*&_top=1&_by=count(*)").text.partition("\n")[2], lines)
+
+    def test_shares(self):
+        asked = {
+            "/slice?city=*": ({"city": ANY}, {}), "/slice?city=*&kind=a": ({"city": ANY, "kind": "a"}, {"kind": "a"}), "/cube": ({"city": ANY, "kind": ANY}, {}),
+            "/slice?city=*&kind=*": ({"city": ANY, "kind": ANY}, {}), "/slice?city=%5CN&kind=*": ({"city": None, "kind": ANY}, {"city": None}),
+            "/slice?city=York&kind=a": ({"city": "York", "kind": "a"}, {"city": "York", "kind": "a"}),
+        }
+        for path, (pattern, whole) in asked.items():
+            for name in ("count(*)", "sum(price)", "sum(odd,name)"):
+                all_of = self.cube.at(whole)[name]
+                wanted = {it.key: None if it[name] is None or not all_of else Fraction(it[name]) / Fraction(all_of) for it in self.cube.where(pattern)}
+                head, *rows = self.asked(f"{path}{'&' if '?' in path else '?'}_percent={name}")
+                self.assertEqual(head[-1], f"percent({name})")
+                self.assertEqual({self.cell(it): None if it[-1] == "\\N" else Fraction(it[-1]) for it in rows}, wanted)
+                self.assertTrue(all(it[-1] in ("\\N", f"{Fraction(it[-1]).numerator}/{Fraction(it[-1]).denominator}") for it in rows if it[-1] != "\\N"))
+
+    def test_the_shares_of_a_drill_down_are_of_its_cell(self):
+        whole = self.cube.at({"city": "York"})["count(*)"]
+        for query, count in (("", 100), ("&_top=2&_by=count(*)", 2)):
+            rows = self.asked(f"/drill?_along=kind&city=York&_percent=count(*){query}")[1:]
+            self.assertTrue(rows and len(rows) <= count and all(Fraction(it[-1]) == Fraction(int(it[4]), whole) for it in rows))
+        self.assertEqual(self.shop.get("/drill?_along=city&city=York&_percent=count(*)").text[:4], "P4: ")
+
+    def test_the_other_forms(self):
+        path = "slice%s?city=*&_percent=count(*)&_top=1&_by=count(*)"
+        row = self.asked("/" + path % "")[1]
+        share = Fraction(row[-1])
+        found = json.loads(self.shop.get("/" + path % ".json").text)
+        self.assertEqual([it["answers"]["percent(count(*))"] for it in found], [row[-1]])
+        lines = self.shop.get("/" + path % ".txt").text.splitlines()
+        shown = int(share * 10000 + Fraction(1, 2))
+        self.assertEqual((lines[0].split()[-1], lines[1].split()[-1]), ("percent(count(*))", f"{shown // 100}.{shown % 100:02}"))
+
+    def test_a_whole_that_isnt_kept(self):
+        schema = jackraisin.Schema(["city"], ["n"], ["count(*)"], grouping=[["city"]])
+        server = self.server(schema=self.written("schema.toml", schema.toml()), feeds=[])
+        server.made(b"1,I,a,York,1\n")
+        self.assertEqual(server.get("/slice?city=*&_percent=count(*)").text, "city,grouping(city),count(*),percent(count(*))\nYork,0,1,\\N\n")
+
+    def test_what_is_refused(self):
+        told = {
+            "/slice?_top=1": "_top goes with _by", "/slice?_by=count(*)": "_top goes with _by", "/slice?_top=x&_by=count(*)": "_top is a whole number",
+            "/slice?_top=1&_by=max(price)": "_by: no aggregate is named max(price)", "/slice?_percent=avg(price)": "_percent: only counts and sums",
+            "/slice?_percent=x": "_percent: no aggregate", "/rollup?_along=city&_percent=count(*)": "/rollup has no word _percent",
+        }
+        for path, why in told.items():
+            answer = self.shop.get(path)
+            self.assertEqual((path, answer.status, answer.text[: len(why)]), (path, 400, why))
+
+
 class Versions(Shared):
     """Tags, conditional requests and gzip."""
 
@@ -967,6 +1055,17 @@ class Together(unittest.TestCase):
             found = await asyncio.gather(*(cube.ask(("bad",)) for _ in range(5)), cube.ask(("print",)), return_exceptions=True)
             return [getattr(it, "line", it) for it in found[:5]], found[5].state
         self.assertEqual(self.served(work)[0], (["P4"] * 5, 0))
+
+    def test_a_view_is_made_once_in_a_state(self):
+        text = "a,grouping(a),count(*)\nx,0,1\ny,0,3\n\\N,1,4\n"
+
+        async def work(cube):
+            view = _query.View(1, "count(*)", None)
+            with mock.patch.object(Pretended, "ask", return_value=text), mock.patch.object(_served, "text_in_view", wraps=_served.text_in_view) as made:
+                found = await asyncio.gather(*(cube.ask_in_view(("slice", "?"), view) for _ in range(20)))
+                again = await cube.ask_in_view(("slice", "?"), view)
+                return {it.text for it in [*found, again]}, made.call_count
+        self.assertEqual(self.served(work)[0], ({"a,grouping(a),count(*)\ny,0,3\n"}, 1))
 
     def test_what_is_kept_of_a_state_is_bounded(self):
         async def work(cube):

@@ -7,7 +7,7 @@ import io
 import json
 import re
 import unicodedata
-from typing import Dict, Iterable, List, Optional, Sequence
+from typing import Callable, Dict, Iterable, List, Sequence
 
 from .._columns import is_mean
 from .._records import NULL, dimensions_in
@@ -15,6 +15,8 @@ from .._schema import Schema
 
 NUMBER = re.compile(r"-?[0-9]+(\.[0-9]+)?")
 ROUNDED = "Means are rounded half away from zero, to two digits more than their measure has."
+# (what the column of shares begins with, which no aggregate does)
+SHARE = "percent("
 # (what stands above and on a letter, and what isn't seen)
 WITHOUT_WIDTH = ("Mn", "Me", "Cf")
 
@@ -55,7 +57,7 @@ def text_in_form(text: str, form: Form, schema: Schema) -> str:
 
 def cube_json(head: Sequence[str], rows: Iterable[List[str]]) -> str:
     """An array of the objects that `datacube print --json` writes, one on each line."""
-    count = dimensions_in(head)
+    count = dimensions_of(head)
     names, aggregates = head[:count], head[2 * count :]
     return array(
         '{"dimensions":%s,"grouping":%s,"answers":%s}' % (
@@ -94,35 +96,40 @@ def answer_json(field: str) -> str:
 
 def cube_aligned(head: Sequence[str], rows: Sequence[Sequence[str]], schema: Schema) -> str:
     """The columns that `datacube print --aligned` shows."""
-    count = dimensions_in(head)
+    count = dimensions_of(head)
     aggregates = head[2 * count :]
-    digits = [digits_of_mean(it, schema) if is_mean(it) else None for it in aggregates]
+    shown = [answer_shown_of(it, schema) for it in aggregates]
     lines = [[*head[:count], *aggregates]]
     for row in rows:
         coordinates = [coordinate_shown(*it) for it in zip(row[:count], row[count : 2 * count])]
-        answers = [answer_shown(it, at) for it, at in zip(row[2 * count :], digits)]
+        answers = ["(null)" if it == NULL else show(it) for it, show in zip(row[2 * count :], shown)]
         lines.append([*coordinates, *answers])
     return aligned(lines, count) + (f"{ROUNDED}\n" if any(map(is_mean, aggregates)) else "")
 
 
-def digits_of_mean(aggregate: str, schema: Schema) -> int:
-    """How many digits a mean is shown with."""
-    return schema.decimals.get(aggregate[len("avg(") : -1], 0) + 2
+def dimensions_of(head: Sequence[str]) -> int:
+    """How many dimensions a header has, whose last column may be one of shares."""
+    return dimensions_in(head[:-1] if head[-1].startswith(SHARE) else head)
+
+
+def answer_shown_of(aggregate: str, schema: Schema) -> Callable[[str], str]:
+    """How an answer of a column is shown: a mean with two digits more than its measure has, a share in hundredths."""
+    if is_mean(aggregate):
+        digits = schema.decimals.get(aggregate[len("avg(") : -1], 0) + 2
+        return lambda field: rounded(field, digits)
+    if aggregate.startswith(SHARE):
+        return lambda field: rounded(field, 2, 100)
+    return str
 
 
 def coordinate_shown(text: str, mark: str) -> str:
     return "(all)" if mark == "1" else "(null)" if text == NULL else text
 
 
-def answer_shown(field: str, digits: Optional[int]) -> str:
-    if field == NULL:
-        return "(null)"
-    return field if digits is None else rounded(field, digits)
-
-
-def rounded(mean: str, digits: int) -> str:
-    """A fraction `p/q` with so many digits behind the point, half away from zero."""
-    above, below = map(int, mean.split("/"))
+def rounded(fraction: str, digits: int, times: int = 1) -> str:
+    """A fraction `p/q`, or so many times it, with so many digits behind the point, half away from zero."""
+    above, below = map(int, fraction.split("/"))
+    above *= times
     units = (2 * abs(above) * 10**digits + below) // (2 * below)
     text = str(units).zfill(digits + 1)
     return ("-" if above < 0 and units else "") + text[:-digits] + "." + text[-digits:]

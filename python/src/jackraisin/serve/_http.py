@@ -21,7 +21,7 @@ from ._forms import SUFFIXES, form_accepted
 from ._making import Body, Made
 from ._metrics import Metrics
 from ._page import page_of
-from ._query import OWN_WORDS, TOKEN, Question, Words, question_of, words_of
+from ._query import OWN_WORDS, TOKEN, Question, Words, question_of, view_of, words_of
 from ._reading import Room, key_of, reader_of
 from ._replies import Refusal, Reply, json_reply, not_yet
 from ._served import LONG, Answer, ServedCube, beside
@@ -221,11 +221,11 @@ class Site:
 
     async def _question(self, asked: Asked) -> Reply:
         name, _, suffix = asked.path[1:].partition(".")
-        question = question_of(name, asked.words, self.cube.schema)
+        question, view = question_of(name, asked.words, self.cube.schema), view_of(asked.words.own, self.cube.schema)
         form = SUFFIXES[suffix] if suffix else form_accepted(asked.headers.get("Accept", ""))
         if self._tags.has(asked.headers, self._ready_state(), form.name):
             return self._not_modified(form.name, form.value)
-        answer = await self.cube.ask(question)
+        answer = await (self.cube.ask(question) if view is None else self.cube.ask_in_view(question, view))
         return await self._versioned(asked, answer, form.name, Reply(HTTPStatus.OK, await answer.form(form), form.value))
 
     async def _page(self, asked: Asked) -> Reply:

@@ -2,7 +2,7 @@
 from __future__ import annotations
 
 import re
-from typing import Dict, List, Mapping, NamedTuple, Tuple
+from typing import Dict, List, Mapping, NamedTuple, Optional, Tuple
 from urllib.parse import parse_qsl
 
 from .._cells import text_of
@@ -18,7 +18,8 @@ MOST_WORDS = 64
 ANY_FIELD, ALL_FIELD = "?", "\\A"
 WHOLE = re.compile(r"0|[1-9][0-9]{0,18}")
 # (the server's own words that each question takes, beside a token)
-OWN_WORDS = {"cube": (), "slice": (), "drill": ("_along",), "rollup": ("_along",), "refusals": ("_source", "_after")}
+VIEWS = ("_top", "_by", "_percent")
+OWN_WORDS = {"cube": VIEWS, "slice": VIEWS, "drill": ("_along", *VIEWS), "rollup": ("_along",), "refusals": ("_source", "_after")}
 TOKEN = "_token"
 
 
@@ -27,6 +28,14 @@ class Words(NamedTuple):
 
     dimensions: Dict[str, str]
     own: Dict[str, str]
+
+
+class View(NamedTuple):
+    """How many lines are wanted, by which aggregate, and of which aggregate the shares."""
+
+    top: Optional[int]
+    by: Optional[str]
+    percent: Optional[str]
 
 
 def words_of(query: str) -> Words:
@@ -74,6 +83,23 @@ def refusals_question(own: Mapping[str, str]) -> Question:
         if not WHOLE.fullmatch(value):
             raise BadQuery(f"{name} is a whole number")
     return ("refusals", source, after)
+
+
+def view_of(own: Mapping[str, str], schema: Schema) -> Optional[View]:
+    """The view that the words want, where they want one."""
+    if not any(it in own for it in VIEWS):
+        return None
+    top, by, percent = (own.get(it) for it in VIEWS)
+    if (top is None) != (by is None):
+        raise BadQuery("_top goes with _by: _top=10&_by=count(*)")
+    if top is not None and not WHOLE.fullmatch(top):
+        raise BadQuery("_top is a whole number")
+    for name, value in (("_by", by), ("_percent", percent)):
+        if value is not None and value not in schema.aggregates:
+            raise BadQuery(f"{name}: no aggregate is named {value}: they are {', '.join(schema.aggregates)}")
+    if percent is not None and not percent.startswith(("count(", "sum(")):
+        raise BadQuery(f"_percent: only counts and sums have shares, and {percent} is neither")
+    return View(None if top is None else int(top), by, percent)
 
 
 def fields_of_words(given: Mapping[str, str], schema: Schema) -> List[str]:

@@ -12,8 +12,9 @@ from .._schema import Schema
 from ._errors import CantServe
 from ._forms import Form, text_in_form
 from ._making import Body, Made, make_all
-from ._query import Question
+from ._query import Question, View
 from ._stored import StoredSession
+from ._view import text_in_view, whole_cell, whole_question
 
 T = TypeVar("T")
 
@@ -71,6 +72,7 @@ class ServedCube:
         self._posts: List[Post] = []
         self._questions: Dict[Question, "asyncio.Future[Answered]"] = {}
         self._answers: "OrderedDict[Question, Answer]" = OrderedDict()
+        self._views: Dict[Question, "asyncio.Task[Answer]"] = {}
         self._kept = 0
         self._wake = asyncio.Event()
         self._moved: "asyncio.Future[None]" = asyncio.get_running_loop().create_future()
@@ -103,6 +105,18 @@ class ServedCube:
         if isinstance(answer, CantServe):
             raise CantServe(str(answer))
         return answer
+
+    async def ask_in_view(self, question: Question, view: View) -> Answer:
+        """The same in a view, which is made once in a state too."""
+        key = ("view", repr(view), *question)
+        found = self._answers.get(key)
+        if found is not None:
+            self._answers.move_to_end(key)
+            return found
+        if key not in self._views:
+            self._views[key] = asyncio.ensure_future(self._seen(key, question, view))
+            self._views[key].add_done_callback(lambda _: self._views.pop(key))
+        return await asyncio.shield(self._views[key])
 
     async def moved(self) -> None:
         """Returns when there is another state."""
@@ -187,6 +201,17 @@ class ServedCube:
         self._kept += len(answer.text)
         while self._kept > MOST_BYTES and len(self._answers) > 1:
             self._kept -= len(self._answers.popitem(last=False)[1].text)
+
+    async def _seen(self, key: Question, question: Question, view: View) -> Answer:
+        names = self.schema.dimensions
+        plain, whole = await self.ask(question), await self.ask(whole_question(question, names))
+        while plain.state != whole.state:
+            plain, whole = await asyncio.gather(self.ask(question), self.ask(whole_question(question, names)))
+        text = await beside(len(whole.text), lambda: text_in_view(plain.text, whole.text, whole_cell(question, names), view))
+        answer = Answer(plain.state, text, self.schema)
+        if plain.state == self.state:
+            self._keep(key, answer)
+        return answer
 
     def _give_up(self, why: CantServe) -> None:
         """Tells all who wait that the session is over."""
