@@ -13,6 +13,7 @@ import json
 import os
 import random
 import re
+import shutil
 import signal
 import socket
 import sqlite3
@@ -35,7 +36,7 @@ from jackraisin import ALL, ANY
 WHY = None if importlib.util.find_spec("aiohttp") else "aiohttp (Debian: python3-aiohttp) isn't installed for this Python"
 if WHY is None:
     from jackraisin._errors import Failure
-    from jackraisin.serve import _connections, _events, _keys, _making, _places, _query, _served, _words
+    from jackraisin.serve import _access, _browsers, _connections, _events, _http, _keys, _making, _places, _query, _served, _words
     from jackraisin.serve._errors import CantServe
 
 SECONDS = 30
@@ -51,17 +52,29 @@ decimals = { price = 2 }
 """
 
 
+COMPILED = None
+
+
 def setUpModule():
+    global COMPILED
     if WHY:
         raise unittest.SkipTest(f"a cube that is served: {WHY}")
+    # (many servers begin here, so what Python compiles is kept meanwhile, elsewhere than beside the sources)
+    COMPILED = tempfile.mkdtemp(prefix="datacube-test-")
+
+
+def tearDownModule():
+    # (pytest calls no cleanups of a module)
+    if COMPILED:
+        shutil.rmtree(COMPILED)
 
 
 def command(words):
-    return [sys.executable, "-B", "-m", "jackraisin.serve", *words]
+    return [sys.executable, "-m", "jackraisin.serve", *words]
 
 
 def environment(**more):
-    return {**os.environ, "PYTHONPATH": f"{beside.ROOT}/python/src", **more}
+    return {**os.environ, "PYTHONPATH": f"{beside.ROOT}/python/src", "PYTHONPYCACHEPREFIX": COMPILED, "PYTHONDONTWRITEBYTECODE": "", **more}
 
 
 class UnixConnection(http.client.HTTPConnection):
@@ -573,6 +586,11 @@ class Commands(Case):
             self.assertTrue(told.startswith("jackraisin.serve: ") and why in told, told)
         self.assertFalse(os.path.exists(self.store))
 
+    def test_a_log_of_objects(self):
+        status, _, told = self.said(SCHEMA, "--store", f"{self.folder}/none/sales.db", "--listen", "127.0.0.1:0", "--log-format", "json")
+        said = [json.loads(it) for it in told.splitlines()]
+        self.assertEqual((status, said[0]["level"], said[0]["message"].splitlines()[0]), (1, "error", "D2"))
+
     def test_what_the_session_says(self):
         self.assertEqual(self.said(f"{self.folder}/none.toml", "--store", self.store)[0], 1)
         self.written("sales.db", "no store")
@@ -669,6 +687,70 @@ class Ends(Case):
         with open(f"/proc/{server.process.pid}/status", encoding="utf-8") as file:
             said = dict(line.split(":", 1) for line in file)
         self.assertLess(int(said["Threads"]), 20)
+        with contextlib.closing(socket.create_connection(("127.0.0.1", server.port))) as listener:
+            listener.sendall(f"GET /events HTTP/1.1\r\nHost: localhost\r\nAuthorization: Bearer {server.token}\r\n\r\n".encode())
+            listener.recv(1000)
+        for it in idle:
+            it.close()
+        server.made(b"9,D,a\n")
+        status, told = server.end()
+        self.assertEqual((status, told.count("\n"), told), (0, 1, f"jackraisin.serve: ready, with 0 changes in {self.store}\n"))
+
+    def test_a_reader_that_stands_still_is_cut_off(self):
+        async def run(server):
+            reader, writer = await asyncio.open_connection("127.0.0.1", server, limit=2**10)
+            writer.write(b"GET /cube.csv HTTP/1.1\r\nHost: localhost\r\n\r\n")
+            await asyncio.sleep(1)
+            count = 0
+            with contextlib.suppress(ConnectionError):
+                while part := await asyncio.wait_for(reader.read(2**20), SECONDS):
+                    count += len(part)
+            writer.close()
+            self.assertLess(count, len(text))
+
+        text = "a,grouping(a),count(*)\n" + "x,0,1\n" * 2**22
+
+        async def both():
+            with mock.patch.object(Pretended, "ask", return_value=text), mock.patch.object(_http, "SECONDS_FOR_A_PART", 0.2):
+                cube = _served.ServedCube(jackraisin.Schema(["a"], ["n"], ["count(*)"]), Pretended)
+                running = asyncio.ensure_future(cube.run(lambda _: None))
+                site = _http.Site(cube, str, None, _access.Cookie("c", False), _browsers.Browsers(), ("print",))
+                server = await asyncio.get_running_loop().create_server(site.connections, "127.0.0.1", 0)
+                while cube.state is None:
+                    await asyncio.sleep(0.001)
+                try:
+                    await run(server.sockets[0].getsockname()[1])
+                finally:
+                    server.close()
+                    await site.end(1)
+                    cube.end()
+                    await running
+        asyncio.run(both())
+
+    def test_what_isnt_http(self):
+        server = self.server()
+        for sent in (b"\x16\x03\x01\x00\r\n\r\n", b"GET / HTTP/9\r\n\r\n", b"GET /" + b"x" * 20000 + b" HTTP/1.1\r\n\r\n", b"POST /changes HTTP/1.1\r\nContent-Length: -1\r\n\r\n"):
+            with contextlib.closing(socket.create_connection(("127.0.0.1", server.port))) as it:
+                it.sendall(sent)
+                it.settimeout(SECONDS)
+                self.assertRegex(it.recv(12), rb"^HTTP/1\.[01] 400$")
+        self.assertEqual(server.get("/slice").headers["Server"], "datacube")
+        self.assertEqual(server.end()[1].count("\n"), 1)
+
+    def test_a_session_that_ends_answers_all_who_wait(self):
+        """Also those whose body came to its end after it."""
+        async def work():
+            cube = _served.ServedCube(jackraisin.Schema(["a"], ["n"], ["count(*)"]), Pretended)
+            running = asyncio.ensure_future(cube.run(lambda _: None))
+            while cube.state is None:
+                await asyncio.sleep(0.001)
+            with mock.patch.object(Pretended, "codes_at", side_effect=jackraisin.Ended("D7", "", 1)):
+                found = await asyncio.gather(cube.make(_making.Body([["1", "D", "a"]])), cube.ask(("print",)), running, return_exceptions=True)
+            for it in (cube.make(_making.Body([])), cube.ask(("print",))):
+                with self.assertRaises(CantServe):
+                    await asyncio.wait_for(it, 5)
+            return [type(it).__name__ for it in found]
+        self.assertEqual(asyncio.run(work()), ["CantServe", "CantServe", "Ended"])
 
     def test_too_many_connections(self):
         server = self.server("--max-connections", "3")
@@ -969,7 +1051,7 @@ class Page(Case):
                 script += ("kill %1; wait; " if "--store" in text else "") + text
         for it in ("examples", "release"):
             os.symlink(f"{beside.ROOT}/{it}", f"{self.folder}/{it}")
-        script = script.replace("v/bin/python", f"{sys.executable} -B").replace("cd examples/shop\n", "cd -P examples/shop\n").replace("../../", f"{self.folder}/")
+        script = script.replace("v/bin/python", sys.executable).replace("cd examples/shop\n", "cd -P examples/shop\n").replace("../../", f"{self.folder}/")
         ran = subprocess.run(["bash"], input=script, cwd=self.folder, env=environment(), stdout=subprocess.PIPE, stderr=subprocess.STDOUT, text=True, timeout=SECONDS)
         self.assertEqual(ran.stdout, "".join(text for kind, text in blocks if not kind))
 

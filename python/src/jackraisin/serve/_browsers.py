@@ -15,6 +15,7 @@ HEADERS = {
     "Content-Security-Policy": POLICY,
     "Cross-Origin-Resource-Policy": "same-origin",
     "Referrer-Policy": "no-referrer",
+    "Server": "datacube",
     "X-Content-Type-Options": "nosniff",
     "X-Frame-Options": "DENY",
 }

@@ -8,6 +8,7 @@ import json
 import logging
 import os
 import signal
+import sys
 import time
 from typing import Optional, Sequence
 
@@ -29,6 +30,8 @@ ENDING = (signal.SIGTERM, signal.SIGINT, signal.SIGHUP)
 SECONDS_TO_END = 30.0
 SECONDS_BETWEEN_TRIES = 0.2
 BODIES_AT_A_TIME = 8
+# (the session's thread has little to do between two waits, and would stand behind the loop for 5 milliseconds each time)
+SECONDS_OF_A_THREAD = 0.0005
 THIS_MACHINE = ("127.0.0.1", "localhost", "[::1]")
 IN_USE = "D1"
 
@@ -120,8 +123,11 @@ def main(words: Optional[Sequence[str]] = None) -> int:
     handler = logging.StreamHandler()
     handler.setFormatter(logging.Formatter("jackraisin.serve: %(message)s"))
     logging.basicConfig(level=logging.INFO, handlers=[handler])
+    # (what isn't HTTP is answered by 400, and anyone may send it)
+    logging.getLogger("aiohttp.server").setLevel(logging.CRITICAL)
     # (this process is the command's own)
     csv.field_size_limit(LONGEST)
+    sys.setswitchinterval(SECONDS_OF_A_THREAD)
     try:
         given = given_by(words)
         if given.is_json_log:

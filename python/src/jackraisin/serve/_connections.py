@@ -33,7 +33,8 @@ class Connections:
         self._open.pop(connection.handler, None)
 
     def of(self, handler: Any) -> "Connection":
-        return self._open[handler]
+        """The connection of a handler; one that was lost meanwhile stands for itself."""
+        return self._open.get(handler) or Connection(self, handler)
 
 
 class Connection(asyncio.Protocol):
@@ -54,7 +55,8 @@ class Connection(asyncio.Protocol):
     def rest(self) -> None:
         """The request is answered, and the next one may come."""
         self.begin()
-        self._watch = asyncio.get_running_loop().call_later(SECONDS_FOR_A_HEAD, self.cut)
+        if self._transport is not None and not self._transport.is_closing():
+            self._watch = asyncio.get_running_loop().call_later(SECONDS_FOR_A_HEAD, self.cut)
 
     def cut(self) -> None:
         if self._transport is not None:

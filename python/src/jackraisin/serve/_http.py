@@ -2,6 +2,7 @@
 from __future__ import annotations
 
 import asyncio
+import contextlib
 import logging
 import time
 from hashlib import sha256
@@ -197,12 +198,15 @@ class Site:
             return web.Response(status=reply.status.value, body=reply.body, headers=headers)
         response = web.StreamResponse(status=reply.status.value, headers=headers)
         response.content_length = len(reply.body)
-        await response.prepare(request)
-        for at in range(0, len(reply.body), PART):
-            await self._write(request, response, reply.body[at : at + PART])
+        # (who goes away before the end is nothing to be told of)
+        with contextlib.suppress(ConnectionError):
+            await response.prepare(request)
+            for at in range(0, len(reply.body), PART):
+                await self._write(request, response, reply.body[at : at + PART])
         return response
 
     async def _write(self, request: web.BaseRequest, response: web.StreamResponse, part: bytes) -> None:
+        """Writes a part of an answer; where it isn't taken in time the connection is cut."""
         try:
             await asyncio.wait_for(response.write(part), SECONDS_FOR_A_PART)
         except asyncio.TimeoutError:
@@ -261,8 +265,9 @@ class Site:
     async def _events(self, asked: Asked) -> web.StreamResponse:
         self._ready_state()
         response = web.StreamResponse(headers=self._headers_of(asked.request, Reply(HTTPStatus.OK, b"", KIND)))
-        await response.prepare(asked.request)
-        await tell_states(self.cube, lambda part: self._write(asked.request, response, part), self._ended)
+        with contextlib.suppress(ConnectionError):
+            await response.prepare(asked.request)
+            await tell_states(self.cube, lambda part: self._write(asked.request, response, part), self._ended)
         return response
 
     async def _measured(self, asked: Asked) -> Reply:
@@ -285,8 +290,8 @@ class Site:
 
     def _ready_state(self) -> int:
         """The state that questions see."""
-        if self.cube.state is None:
-            raise not_yet("the session isn't there: it is still reading, or it has ended")
+        self.cube.check()
+        assert self.cube.state is not None
         return self.cube.state
 
     def _told_of(self, made: Made) -> Dict[str, object]:

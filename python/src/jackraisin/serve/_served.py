@@ -14,7 +14,7 @@ from ._forms import Form, text_in_form
 from ._making import Body, Made, make_all
 from ._query import Question, View
 from ._stored import StoredSession
-from ._view import text_in_view, whole_cell, whole_question
+from ._view import text_in_view, whole_question
 
 T = TypeVar("T")
 
@@ -33,7 +33,8 @@ class Answer:
     def __init__(self, state: int, text: str, schema: Schema) -> None:
         self.state, self.text = state, text
         self._schema = schema
-        self._made: Dict[str, "asyncio.Task[Any]"] = {}
+        self._made: Dict[str, Any] = {}
+        self._making: Dict[str, "asyncio.Task[Any]"] = {}
 
     async def form(self, form: Form) -> bytes:
         return await self.once(form.name, lambda: text_in_form(self.text, form, self._schema).encode("utf-8"))
@@ -43,10 +44,14 @@ class Answer:
         return await self.once(f"{name} packed", lambda: gzip.compress(body, LEVEL, mtime=0))
 
     async def once(self, name: str, make: Callable[[], T]) -> T:
-        """What is made under a name by the first who asks."""
+        """What is made under a name by the first who asks: at once, or where the text is long beside what else there is to do."""
+        if name not in self._made and len(self.text) < LONG:
+            self._made[name] = make()
         if name not in self._made:
-            self._made[name] = asyncio.ensure_future(beside(len(self.text), make))
-        found: T = await asyncio.shield(self._made[name])
+            if name not in self._making:
+                self._making[name] = asyncio.ensure_future(beside(len(self.text), make))
+            self._made[name] = await asyncio.shield(self._making[name])
+        found: T = self._made[name]
         return found
 
 
@@ -80,8 +85,14 @@ class ServedCube:
 
     # What others call.
 
+    def check(self) -> None:
+        """Refuses what nobody would answer."""
+        if self.state is None:
+            raise CantServe("the session isn't there: it is still reading, or it has ended")
+
     async def make(self, body: Body) -> Made:
         """Makes the changes of a body; they are certain when it returns."""
+        self.check()
         post = Post(body)
         self._posts.append(post)
         self._wake.set()
@@ -96,6 +107,7 @@ class ServedCube:
         if found is not None:
             self._answers.move_to_end(question)
             return found
+        self.check()
         if question not in self._questions:
             self._questions[question] = asyncio.get_running_loop().create_future()
             self._wake.set()
@@ -136,6 +148,7 @@ class ServedCube:
             await self._serve(session)
             return await self._in_thread(session.close)
         finally:
+            self.state = None
             await self._in_thread(session.stop)
             self._thread.shutdown()
 
@@ -203,13 +216,14 @@ class ServedCube:
             self._kept -= len(self._answers.popitem(last=False)[1].text)
 
     async def _seen(self, key: Question, question: Question, view: View) -> Answer:
+        """An answer in a view, made of one answer, so that all is of one state."""
         names = self.schema.dimensions
-        plain, whole = await self.ask(question), await self.ask(whole_question(question, names))
-        while plain.state != whole.state:
-            plain, whole = await asyncio.gather(self.ask(question), self.ask(whole_question(question, names)))
-        text = await beside(len(whole.text), lambda: text_in_view(plain.text, whole.text, whole_cell(question, names), view))
-        answer = Answer(plain.state, text, self.schema)
-        if plain.state == self.state:
+        # (what is refused is refused without the view too)
+        await self.ask(question)
+        found = await self.ask(whole_question(question, names))
+        text = await beside(len(found.text), lambda: text_in_view(found.text, question, names, view))
+        answer = Answer(found.state, text, self.schema)
+        if answer.state == self.state:
             self._keep(key, answer)
         return answer
 

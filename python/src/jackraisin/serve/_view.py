@@ -2,27 +2,32 @@
 from __future__ import annotations
 
 from fractions import Fraction
-from typing import List, Optional, Sequence
+from typing import Iterable, List, Optional, Sequence
 
 from .. import _views
-from .._cells import ALL, Cell, Coordinate
+from .._cells import ALL, Coordinate
 from .._cube import Cube
 from .._records import NULL, lines_of
 from ._forms import SHARE
 from ._query import ANY_FIELD, Question, View
 
 
-def text_in_view(text: str, with_whole: str, whole: Cell, view: View) -> str:
-    """A printed text with the lines that a view wants, in its order, and with the share of each as one more column. Shares are of
-    the line of a cell, which stands in another text that has all these lines too."""
+def text_in_view(text: str, question: Question, dimensions: Sequence[str], view: View) -> str:
+    """What answers a question in a view: the lines that it wants, in its order, and the share of each as one more column. The
+    text is the answer to the question `whole_question`, which has the line that shares are of too."""
     head, *lines = lines_of(text)
+    cube = Cube(text)
     if view.percent is not None:
-        shares = _views.shares(Cube(with_whole), view.percent, whole)
-        lines = [with_field(line, share_text(shares.get(row.key))) for line, row in zip(lines, Cube(text))]
+        shares = _views.shares(cube, view.percent, whole_cell(question, dimensions))
+        lines = [with_field(line, share_text(shares[row.key])) for line, row in zip(lines, cube)]
         head = with_field(head, quoted(f"{SHARE}{view.percent})"))
+    places: Iterable[int] = range(len(lines))
     if view.top is not None and view.by is not None:
-        lines = [lines[it] for it in _views.greatest(Cube(text), view.top, view.by, totals=False)]
-    return "".join([head, *lines])
+        places = _views.greatest(cube, view.top, view.by, totals=False)
+    if question[0] == "drill":
+        along = dimensions.index(question[1])
+        places = (it for it in places if cube[it].key[along] is not ALL)
+    return "".join([head, *(lines[it] for it in places)])
 
 
 def share_text(share: Optional[Fraction]) -> str:
@@ -40,7 +45,8 @@ def quoted(name: str) -> str:
 
 
 def whole_question(question: Question, dimensions: Sequence[str]) -> Question:
-    """The question whose answer has the lines of another one, and the line that their shares are of."""
+    """The question whose answer has the lines of another one, and the line that their shares are of: of a drill-down the slice with
+    any coordinate along its dimension."""
     if question[0] != "drill":
         return question
     name, *fields = question[1:]
