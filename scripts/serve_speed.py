@@ -99,6 +99,13 @@ def work(name, cpus, out, *given):
     out.put((name, asyncio.run({"reads": read, "posts": change}[name](*given))))
 
 
+def seconds_of(process):
+    """The seconds of a processor that a process has taken."""
+    with open(f"/proc/{process}/stat", encoding="ascii") as file:
+        fields = file.read().rpartition(")")[2].split()
+    return (int(fields[11]) + int(fields[12])) / os.sysconf("SC_CLK_TCK")
+
+
 def share(times, part):
     return sorted(times)[int(part * (len(times) - 1))] * 1000
 
@@ -126,6 +133,7 @@ def main():
         server.stderr.readline()
         port, token = int(address.split(":")[2].split("/")[0]), address.partition("_token=")[2]
         found, results = multiprocessing.Queue(), {"reads": [], "posts": []}
+        before = seconds_of(server.pid)
         half, rate = given.readers // 2, given.reads / given.readers
         jobs = [("reads", port, token, it, rate, given.seconds) for it in (half, given.readers - half)]
         jobs += [("posts", port, token, given.changes, given.together, given.seconds)] if given.changes else []
@@ -137,11 +145,13 @@ def main():
             results[name] += times
         for it in workers:
             it.join()
+        spent = seconds_of(server.pid) - before
         server.terminate()
         server.communicate()
     for name, times in results.items():
         if times:
             print(f"{name}: {len(times) / given.seconds:.0f} a second; {share(times, 0.5):.1f} ms median, {share(times, 0.99):.1f} ms p99, {max(times) * 1000:.1f} ms at most")
+    print(f"the server took {spent / sum(map(len, results.values())) * 1000:.2f} ms of a processor for each of them")
 
 
 if __name__ == "__main__":

@@ -33,7 +33,8 @@ import jackraisin
 import oracle
 from jackraisin import ALL, ANY
 
-WHY = None if importlib.util.find_spec("aiohttp") else "aiohttp (Debian: python3-aiohttp) isn't installed for this Python"
+LACKS = [it for it in ("aiohttp", "prometheus_client") if not importlib.util.find_spec(it)]
+WHY = f"{' and '.join(LACKS)} (Debian: python3-aiohttp, python3-prometheus-client) isn't installed for this Python" if LACKS else None
 if WHY is None:
     from jackraisin._errors import Failure
     from jackraisin.serve import _access, _browsers, _connections, _events, _http, _keys, _making, _places, _query, _served, _words
@@ -77,6 +78,12 @@ def environment(**more):
     return {**os.environ, "PYTHONPATH": f"{beside.ROOT}/python/src", "PYTHONPYCACHEPREFIX": COMPILED, "PYTHONDONTWRITEBYTECODE": "", **more}
 
 
+def heed_signals():
+    """Heeds what a shell has its jobs in the background ignore, as the server would then."""
+    for it in (signal.SIGINT, signal.SIGHUP):
+        signal.signal(it, signal.SIG_DFL)
+
+
 class UnixConnection(http.client.HTTPConnection):
     """A connection to a Unix socket."""
 
@@ -95,7 +102,8 @@ class Server:
 
     def __init__(self, store, *words, schema=SCHEMA, feeds=SHOP, listen="127.0.0.1:0", is_awaited=True, **env):
         line = command([schema, *feeds, "--store", store, "--listen", listen, *words])
-        self.process = subprocess.Popen(line, stdout=subprocess.PIPE, stderr=subprocess.PIPE, text=True, env=environment(**env))
+        how = {"stdout": subprocess.PIPE, "stderr": subprocess.PIPE, "text": True, "env": environment(**env), "preexec_fn": heed_signals}
+        self.process = subprocess.Popen(line, **how)
         self.address = self.process.stdout.readline().strip()
         at, _, self.token = self.address.partition("?_token=")
         self.path = at[len("unix:") :] if at.startswith("unix:") else None

@@ -19,6 +19,7 @@ TABLES = [
     """CREATE TABLE IF NOT EXISTS places(key TEXT NOT NULL, begin INTEGER NOT NULL, length INTEGER NOT NULL, first INTEGER NOT NULL,
         before TEXT NOT NULL)""",
     "CREATE INDEX IF NOT EXISTS places_of ON places(key)",
+    "CREATE INDEX IF NOT EXISTS noted_at ON keys(noted)",
 ]
 
 
