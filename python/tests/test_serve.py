@@ -53,21 +53,23 @@ decimals = { price = 2 }
 """
 
 
-COMPILED = None
+COPY = None
 
 
 def setUpModule():
-    global COMPILED
+    """A copy of the package, in which what Python compiles is kept: many servers begin here."""
+    global COPY
     if WHY:
         raise unittest.SkipTest(f"a cube that is served: {WHY}")
-    # (many servers begin here, so what Python compiles is kept meanwhile, elsewhere than beside the sources)
-    COMPILED = tempfile.mkdtemp(prefix="datacube-test-")
+    COPY = tempfile.mkdtemp(prefix="datacube-test-")
+    shutil.copytree(f"{beside.ROOT}/python/src", f"{COPY}/python/src", ignore=shutil.ignore_patterns("__pycache__", "*.egg-info"))
+    os.symlink(f"{beside.ROOT}/explorer", f"{COPY}/explorer")
 
 
 def tearDownModule():
     # (pytest calls no cleanups of a module)
-    if COMPILED:
-        shutil.rmtree(COMPILED)
+    if COPY:
+        shutil.rmtree(COPY)
 
 
 def command(words):
@@ -75,7 +77,7 @@ def command(words):
 
 
 def environment(**more):
-    return {**os.environ, "PYTHONPATH": f"{beside.ROOT}/python/src", "PYTHONPYCACHEPREFIX": COMPILED, "PYTHONDONTWRITEBYTECODE": "", **more}
+    return {**os.environ, "PYTHONPATH": f"{COPY}/python/src", "PYTHONDONTWRITEBYTECODE": "", **more}
 
 
 def heed_signals():
@@ -626,7 +628,7 @@ class Commands(Case):
     def test_without_aiohttp(self):
         os.mkdir(f"{self.folder}/aiohttp")
         self.written("aiohttp/__init__.py", "raise ImportError('there is none')\n")
-        path = f"{self.folder}:{beside.ROOT}/python/src"
+        path = f"{self.folder}:{COPY}/python/src"
         self.assertEqual(self.said(SCHEMA, "--store", self.store, PYTHONPATH=path), (1, "", "jackraisin.serve: it needs aiohttp (Debian: python3-aiohttp)\n"))
         call = [sys.executable, "-B", "-c", "import jackraisin, sys; print('aiohttp' in sys.modules)"]
         self.assertEqual(subprocess.run(call, stdout=subprocess.PIPE, text=True, env=environment(PYTHONPATH=path)).stdout, "False\n")

@@ -107,9 +107,10 @@ def records_in(feed: Path, schema: Schema) -> int:
         column = given.get("columns", {}).get(name, name)
     table = {"null": [], "delimiter": (given or {}).get("delimiter", ","), "columns": {"it": column}}
     counting = Schema(["it"], [], ["count(*)"], grouping=[[]], feed=table)
-    count = cube(counting, feed).at({})["count(*)"]
+    found = cube(counting, feed)
+    count = found.at({})["count(*)"]
     assert isinstance(count, int)
-    return count + len(refusals(counting, feed))
+    return count + (len(refusals(counting, feed)) if found.refused else 0)
 
 
 def meaning_of_refusal(code: int, version: int) -> str:
