@@ -2,5 +2,5 @@
 
     python -m jackraisin.serve schema.toml market.csv --store sales.db --listen 127.0.0.1:8000
 
-The command is all that there is of it. It needs aiohttp.
+The command is all that there is of it. It needs aiohttp and prometheus-client.
 """
