@@ -37,7 +37,7 @@ LACKS = [it for it in ("aiohttp", "prometheus_client") if not importlib.util.fin
 WHY = f"{' and '.join(LACKS)} (Debian: python3-aiohttp, python3-prometheus-client) isn't installed for this Python" if LACKS else None
 if WHY is None:
     from jackraisin._errors import Failure
-    from jackraisin.serve import _access, _browsers, _connections, _events, _http, _keys, _making, _places, _query, _served, _words
+    from jackraisin.serve import _access, _browsers, _command, _connections, _events, _http, _keys, _making, _places, _query, _served, _stored, _words
     from jackraisin.serve._errors import CantServe
 
 SECONDS = 30
@@ -382,6 +382,14 @@ class Changes(Case):
         self.assertEqual(server.end()[0], 0)
         self.assertEqual(self.stored("print"), served)
         self.assertEqual(self.stored("refusals").splitlines()[-2:], ["7,2,7", "7,3,7"])
+
+    def test_a_store_that_cant_be_counted_at_first(self):
+        given = types.SimpleNamespace(schema=SCHEMA, feeds=SHOP, store=self.store, wary=False, threads=None)
+        with mock.patch.object(_stored, "stored_counts", side_effect=[None, {}]):
+            session = _command.begin_session(given)
+        self.assertEqual((session.number, session.stop()), (0, None))
+        with mock.patch.object(_stored, "stored_counts", return_value=None), self.assertRaises(CantServe):
+            _command.begin_session(given)
 
     def test_limits(self):
         server = self.server("--max-body", "1K")

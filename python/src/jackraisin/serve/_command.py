@@ -17,6 +17,7 @@ from .._records import LONGEST
 from .._schema import schema_of
 from ._access import Cookie
 from ._browsers import Browsers
+from ._errors import CantCount
 from ._http import TOLD, Limits, Site
 from ._listening import Address, listen, tls_of
 from ._notify import tell_systemd
@@ -48,10 +49,15 @@ class JsonLines(logging.Formatter):
 
 def begin_session(given: Given) -> StoredSession:
     """The session. A store that another process has is waited for: the program of a server that was killed may be at its end yet."""
-    last = time.monotonic() + SECONDS_IN_USE
+    last, was_counted = time.monotonic() + SECONDS_IN_USE, True
     while True:
         try:
             return StoredSession(given.schema, given.feeds, given.store, wary=given.wary, threads=given.threads)
+        except CantCount:
+            # (one whose making was cut short is a store only since the session has gone on with it)
+            if not was_counted:
+                raise
+            was_counted = False
         except Ended as why:
             if why.code != IN_USE or time.monotonic() > last:
                 raise

@@ -16,5 +16,9 @@ class CantServe(DatacubeError):
     """What keeps the server from beginning, or from going on."""
 
 
+class CantCount(CantServe):
+    """A store that SQLite couldn't read before the session began."""
+
+
 class OtherBody(DatacubeError):
     """A body under a key that another one came under. Nothing of it was made."""

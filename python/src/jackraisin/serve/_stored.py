@@ -12,7 +12,7 @@ from .._live import Live
 from .._program import Path, explain
 from .._schema import Schema
 from ._bodies import Record
-from ._errors import CantServe
+from ._errors import CantCount
 from ._keys import KeyNotes
 from ._places import Place
 
@@ -31,7 +31,7 @@ class StoredSession(Live):
         try:
             self._last = {source: records_in(feed, self.schema) for source, feed in enumerate(feeds, 1)}
             if counts is None:
-                raise CantServe(f"the changes of {os.fspath(store)} couldn't be counted")
+                raise CantCount(f"the changes of {os.fspath(store)} couldn't be counted")
             self.number = sum(counts.values())
             self.keys = KeyNotes(store, self.number)
         except BaseException:
