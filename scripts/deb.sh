@@ -27,7 +27,7 @@ rmdir "$files/share/zsh/site-functions"
 python=$files/lib/python3/dist-packages/jackraisin
 mkdir -p "$python/postgres"
 (cd "$root/python/src/jackraisin" && find . -type f ! -path '*/__pycache__/*') | while read -r file; do
-    install -m 644 "$root/python/src/jackraisin/$file" "$python/$file"
+    install -D -m 644 "$root/python/src/jackraisin/$file" "$python/$file"
 done
 install -m 644 "$root/explorer/index.html" "$python/postgres/explorer.html"
 cat >"$room/files/DEBIAN/postinst" <<END
@@ -53,7 +53,7 @@ Architecture: amd64
 Maintainer: $(git -C "$root" log -1 --format='%an <%ae>' 2>/dev/null || echo "datacube <root@localhost>")
 Depends: libc6 (>= 2.34)
 Recommends: python3 (>= 3.9)
-Suggests: python3-pandas, python3-psycopg2
+Suggests: python3-aiohttp, python3-pandas, python3-prometheus-client, python3-psycopg2
 Section: utils
 Priority: optional
 Installed-Size: $(du -sk "$files" | cut -f 1)
@@ -62,8 +62,9 @@ Description: data cube of feeds of facts, with proved totals
  are present in the end: COUNT, SUM, MIN, MAX and AVG of every cell of every
  subset of the dimensions, as sorted CSV.
  .
- The Python package jackraisin asks cubes and sessions with types, and follows a
- table of PostgreSQL. A page for the browser shows printed cubes.
+ The Python package jackraisin asks cubes and sessions with types, serves one over
+ HTTP, and follows a table of PostgreSQL. A page for the browser shows printed
+ cubes.
 END
 (cd "$room/files" && find usr -type f -print0 | LC_ALL=C sort -z | xargs -0 md5sum >DEBIAN/md5sums)
 dpkg-deb --root-owner-group --build "$room/files" "$to/datacube_${version}_amd64.deb"

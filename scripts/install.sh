@@ -49,10 +49,10 @@ completions/datacube.fish share/fish/vendor_completions.d/datacube.fish 644
 release/NOTICES $documents/NOTICES 644
 END
     for file in CHANGELOG.md README.md explorer/index.html docs/progress.png examples/first/feed.csv \
-        examples/first/cube.csv examples/live/README.md; do
+        examples/first/cube.csv examples/live/README.md examples/serve/datacube-serve.service; do
         echo "$file $documents/$file 644"
     done
-    for name in EXPLORER FORMATS POSTGRES PYTHON SQL STORE TUTORIAL; do
+    for name in EXPLORER FORMATS POSTGRES PYTHON SERVE SQL STORE TUTORIAL; do
         echo "docs/$name.md $documents/docs/$name.md 644"
     done
     for name in dark days heat million start table; do

@@ -114,8 +114,15 @@ class Wheels(unittest.TestCase):
         self.assertEqual((told["License"], told["Home-page"], told.get_all("Project-URL")), (None, None, None))
         self.assertEqual(told["Description-Content-Type"], "text/markdown")
         self.assertEqual(told.get_payload().strip(), content(f"{beside.ROOT}/python/README.md").decode().strip())
-        self.assertEqual([it.split(";")[0] for it in told.get_all("Requires-Dist")], ["pandas ", "psycopg2 ", "tomli "])
+        self.assertEqual([it.split(";")[0] for it in told.get_all("Requires-Dist")], ["pandas ", "psycopg2 ", "aiohttp ", "prometheus-client ", "tomli "])
         self.assertFalse([it for it in parts if it.startswith("datacube")], "a part has the old name")
+
+    def test_its_parts(self):
+        parts = self.parts(self.wheel)
+        sources = [os.path.relpath(f"{folder}/{it}", f"{beside.ROOT}/python/src") for folder, _, files in os.walk(f"{beside.ROOT}/python/src/jackraisin") for it in files]
+        wanted = {it for it in sources if it.endswith((".py", ".js", "py.typed"))}
+        self.assertEqual(wanted - set(parts), set())
+        self.assertEqual(parts["jackraisin/postgres/explorer.html"][0], content(f"{beside.ROOT}/explorer/index.html"))
 
     def test_the_program_in_it(self):
         program, mode = self.parts(self.wheel)["jackraisin/bin/datacube"]

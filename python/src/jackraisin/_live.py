@@ -4,32 +4,24 @@ from __future__ import annotations
 import contextlib
 import csv
 import io
-import operator
 import os
 import shutil
 import subprocess
 import tempfile
 import threading
-from decimal import Decimal
 from types import TracebackType
-from typing import IO, Callable, Iterable, Iterator, List, Literal, Optional, Sequence, Tuple, Type, Union
+from typing import IO, Callable, ContextManager, Iterable, Iterator, List, Optional, Sequence, Tuple, Type, Union
 
 from ._ask import Given, Shard, options_of
-from ._cells import KEEP, Mark, Named, in_order, text_of
+from ._cells import Named, text_of
+from ._changes import SOURCES, Measure, Numbers, Texts, change_record
 from ._cube import Refusal, refusals_of
 from ._errors import Ended, Failure, ProgramNotFound, Unsayable
-from ._numbers import measure_text
 from ._program import DONE, Limits, Path, Paths, line_of, meaning_of, paths_of, words_of
 from ._questions import Questions
-from ._records import GREATEST, NULL
+from ._records import GREATEST
 from ._schema import schema_of
 
-Keep = Literal[Mark.KEEP]
-Texts = Named[Union[str, None, Keep]]
-# (a measure with decimals takes whole numbers and decimal ones, any other whole numbers alone)
-Measure = Union[int, Decimal, None]
-Numbers = Named[Union[int, Decimal, None, Keep]]
-SOURCES = 64
 
 
 class Live(Questions):
@@ -66,11 +58,15 @@ class Live(Questions):
         # (where a thread holds both, it took them in this order)
         self._asking, self._writing = threading.Lock(), threading.RLock()
         self._told = tempfile.TemporaryFile()
-        with self.schema.file() as path:
+        with self._schema_file(schema) as path:
             options = options_of(threads, shard, store, wary)
             self._process = self._begun(words_of("live", options, [path, *paths_of(feeds)]))
             self._records = csv.writer(self._input)
             self._ready()
+
+    def _schema_file(self, given: Given) -> ContextManager[str]:
+        """The file that the program reads the schema from."""
+        return self.schema.file()
 
     def _begun(self, words: Sequence[Union[str, bytes]]) -> "subprocess.Popen[bytes]":
         pipe = subprocess.PIPE
@@ -104,78 +100,31 @@ class Live(Questions):
 
     def insert(self, source: int, id: str, dims: Named[Optional[str]], measures: Named[Measure]) -> None:
         """Puts a fact under an id that is absent in its source."""
-        dimensions, numbers = self.schema.dimensions, self.schema.measures
-        self._change(source, "I", id, in_order(dimensions, dims, (), "dimension"), in_order(numbers, measures, (), "measure"))
+        self._send([change_record(self.schema, source, "I", id, dims, measures)], False)
 
     def insert_many(self, source: int, facts: Iterable[Tuple[str, Named[Optional[str]], Named[Measure]]]) -> int:
         """Puts many facts, each with its id, dimensions and measures, one behind the other. Where one can't be said, none is
         sent. Gives how many they are."""
-        records = []
-        for id, dims, measures in facts:
-            texts, numbers = in_order(self.schema.dimensions, dims, (), "dimension"), in_order(self.schema.measures, measures, (), "measure")
-            records.append(self._record(source, "I", id, texts, numbers))
+        records = [change_record(self.schema, source, "I", *fact) for fact in facts]
         self._send(records, False)
         return len(records)
 
     def update(self, source: int, id: str, dims: Texts, measures: Numbers) -> None:
         """Puts a fact in place of the one under an id that is present. KEEP, and what a mapping doesn't name, keeps the
         value that it has, where the schema has version 2."""
-        rest: List[Keep] = [KEEP] if self.schema.version == 2 else []
-        texts: List[Union[str, None, Keep]] = in_order(self.schema.dimensions, dims, rest, "dimension")
-        numbers: List[Union[Measure, Keep]] = in_order(self.schema.measures, measures, rest, "measure")
-        self._change(source, "U", id, texts, numbers)
+        self._send([change_record(self.schema, source, "U", id, dims, measures)], False)
 
     def put(self, source: int, id: str, dims: Named[Optional[str]], measures: Named[Measure]) -> None:
         """Puts a fact under an id, whether or not it is present, where the schema has `feed`."""
-        self._may_put()
-        dimensions, numbers = self.schema.dimensions, self.schema.measures
-        self._change(source, "P", id, in_order(dimensions, dims, (), "dimension"), in_order(numbers, measures, (), "measure"))
+        self._send([change_record(self.schema, source, "P", id, dims, measures)], False)
 
     def delete(self, source: int, id: str) -> None:
         """Takes the fact of an id that is present away."""
-        self._change(source, "D", id, [], [])
+        self._send([change_record(self.schema, source, "D", id)], False)
 
     def remove(self, source: int, id: str) -> None:
         """Takes the fact of an id away, if it is present, where the schema has `feed`."""
-        self._may_put()
-        self._change(source, "R", id, [], [])
-
-    def _may_put(self) -> None:
-        if self.schema.feed is None:
-            raise Unsayable("what is put or removed whether or not its id is present is for a schema with `feed`")
-
-    def _change(
-        self, source: int, op: str, id: str, dims: Sequence[Union[str, None, Keep]], measures: Sequence[Union[Measure, Keep]]
-    ) -> None:
-        self._send([self._record(source, op, id, dims, measures)], False)
-
-    def _record(
-        self, source: int, op: str, id: str, dims: Sequence[Union[str, None, Keep]], measures: Sequence[Union[Measure, Keep]]
-    ) -> List[str]:
-        if not 1 <= operator.index(source) <= SOURCES:
-            raise Unsayable(f"a source is a number from 1 to {SOURCES}, and {source} isn't")
-        if not text_of(id, "the id"):
-            raise Unsayable("an id isn't empty")
-        can_keep = op == "U" and self.schema.version == 2
-        texts = [self._text(name, it, can_keep) for name, it in zip(self.schema.dimensions, dims)]
-        numbers = [self._number(name, it, can_keep) for name, it in zip(self.schema.measures, measures)]
-        return [str(operator.index(source)), op, id, *texts, *numbers]
-
-    def _text(self, name: str, value: Union[str, None, Keep], can_keep: bool) -> str:
-        if value is None or isinstance(value, Mark):
-            return mark(f"dimension {name}", value, can_keep)
-        text = text_of(value, f"dimension {name}")
-        if text == "\\=" and self.schema.version == 2:
-            raise Unsayable(f"dimension {name}: a feed can't say the text {text}, which means KEEP")
-        if text in self.schema.nulls():
-            raise Unsayable(f"dimension {name}: a feed can't say the text {text}, which means null")
-        return text
-
-    def _number(self, name: str, value: Union[Measure, Keep], can_keep: bool) -> str:
-        text = number(name, value, can_keep, self.schema.decimals.get(name, 0))
-        if not isinstance(value, (Mark, type(None))) and text in self.schema.nulls():
-            raise Unsayable(f"measure {name}: a feed of this schema can't say the number {text}, which means null")
-        return text
+        self._send([change_record(self.schema, source, "R", id)], False)
 
     def refusals(self, source: Optional[int] = None, after: int = 0) -> List[Refusal]:
         """The refused lines and changes of all sources, or those of one after one of its records."""
@@ -282,21 +231,3 @@ class Live(Questions):
         if self._is_late and self.status not in DONE:
             return self._limits.passed()
         return Ended(self._line, meaning_of(self._line), self.status)
-
-
-def mark(what: str, value: Union[None, Mark], can_keep: bool) -> str:
-    """The field of null, or of a value that is kept."""
-    if value is None:
-        return NULL
-    if value is not KEEP:
-        raise Unsayable(f"{what}: a fact has no {value}")
-    if not can_keep:
-        raise Unsayable(f"{what}: KEEP is for an update, under a schema of version 2")
-    return "\\="
-
-
-def number(name: str, value: Union[Measure, Keep], can_keep: bool, places: int = 0) -> str:
-    """The field of a measure with so many decimals."""
-    if value is None or isinstance(value, Mark):
-        return mark(f"measure {name}", value, can_keep)
-    return measure_text(name, value, places)

@@ -11,9 +11,9 @@ from typing import TYPE_CHECKING, Any, Iterable, Iterator, List, Mapping, Option
 
 from ._ask import cube
 from ._cells import text_of
+from ._changes import number
 from ._cube import Cube
 from ._errors import Unsayable
-from ._live import number
 from ._records import NULL
 from ._schema import Schema
 

@@ -1,0 +1,162 @@
+"""The forms of an answer: CSV as the program prints it, JSON, and aligned columns for people."""
+from __future__ import annotations
+
+import csv
+import enum
+import io
+import json
+import re
+import unicodedata
+from typing import Callable, Dict, Iterable, List, Sequence
+
+from .._columns import is_mean
+from .._records import NULL, dimensions_in
+from .._schema import Schema
+
+NUMBER = re.compile(r"-?[0-9]+(\.[0-9]+)?")
+ROUNDED = "Means are rounded half away from zero, to two digits more than their measure has."
+# (what the column of shares begins with, which no aggregate does)
+SHARE = "percent("
+# (what stands above and on a letter, and what isn't seen)
+WITHOUT_WIDTH = ("Mn", "Me", "Cf")
+
+
+class Form(enum.Enum):
+    """A form, with its content type."""
+
+    CSV = "text/csv; charset=utf-8"
+    JSON = "application/json"
+    ALIGNED = "text/plain; charset=utf-8"
+
+
+SUFFIXES = {"csv": Form.CSV, "json": Form.JSON, "txt": Form.ALIGNED}
+ACCEPTED = {"text/csv": Form.CSV, "application/json": Form.JSON, "text/plain": Form.ALIGNED}
+
+
+def form_accepted(accept: str) -> Form:
+    """The form that a client would rather have, by its `Accept`: the first one with the greatest weight, and else CSV."""
+    wanted = [(weight_of(it), ACCEPTED.get(it.partition(";")[0].strip().lower())) for it in accept.split(",")]
+    forms = [(weight, form) for weight, form in wanted if form is not None and weight > 0]
+    return max(forms, key=lambda it: it[0])[1] if forms else Form.CSV
+
+
+def weight_of(wanted: str) -> float:
+    found = re.search(r";\s*q\s*=\s*([01](?:\.[0-9]*)?)\s*(;|$)", wanted)
+    return float(found[1]) if found else 1.0
+
+
+def text_in_form(text: str, form: Form, schema: Schema) -> str:
+    """An answer of the program in a form."""
+    if form is Form.CSV:
+        return text
+    head, *rows = csv.reader(io.StringIO(text, newline=""))
+    if head == ["source", "record", "code"]:
+        return refusals_json(head, rows) if form is Form.JSON else aligned([head, *rows], 0)
+    return cube_json(head, rows) if form is Form.JSON else cube_aligned(head, rows, schema)
+
+
+def cube_json(head: Sequence[str], rows: Iterable[List[str]]) -> str:
+    """An array of the objects that `datacube print --json` writes, one on each line."""
+    count = dimensions_of(head)
+    names, aggregates = head[:count], head[2 * count :]
+    return array(
+        '{"dimensions":%s,"grouping":%s,"answers":%s}' % (
+            members(names, ["null" if it == NULL else quoted(it) for it in row[:count]]),
+            members(names, row[count : 2 * count]),
+            members(aggregates, [answer_json(it) for it in row[2 * count :]]),
+        )
+        for row in rows
+    )
+
+
+def refusals_json(head: Sequence[str], rows: Iterable[List[str]]) -> str:
+    return array(members(head, it) for it in rows)
+
+
+def array(lines: Iterable[str]) -> str:
+    return "[" + ",\n".join(lines) + "]\n"
+
+
+def members(names: Sequence[str], values: Sequence[str]) -> str:
+    """An object; a name that stands twice stands once, with the same value."""
+    found: Dict[str, str] = dict(zip(names, values))
+    return "{" + ",".join(f"{quoted(name)}:{it}" for name, it in found.items()) + "}"
+
+
+def quoted(text: str) -> str:
+    return json.dumps(text, ensure_ascii=False)
+
+
+def answer_json(field: str) -> str:
+    """A number as it is printed, so that no digit is lost; a fraction is a text."""
+    if field == NULL:
+        return "null"
+    return field if NUMBER.fullmatch(field) else quoted(field)
+
+
+def cube_aligned(head: Sequence[str], rows: Sequence[Sequence[str]], schema: Schema) -> str:
+    """The columns that `datacube print --aligned` shows."""
+    count = dimensions_of(head)
+    aggregates = head[2 * count :]
+    shown = [answer_shown_of(it, schema) for it in aggregates]
+    lines = [[*head[:count], *aggregates]]
+    for row in rows:
+        coordinates = [coordinate_shown(*it) for it in zip(row[:count], row[count : 2 * count])]
+        answers = ["(null)" if it == NULL else show(it) for it, show in zip(row[2 * count :], shown)]
+        lines.append([*coordinates, *answers])
+    return aligned(lines, count) + (f"{ROUNDED}\n" if any(map(is_mean, aggregates)) else "")
+
+
+def dimensions_of(head: Sequence[str]) -> int:
+    """How many dimensions a header has, whose last column may be one of shares."""
+    return dimensions_in(head[:-1] if head[-1].startswith(SHARE) else head)
+
+
+def answer_shown_of(aggregate: str, schema: Schema) -> Callable[[str], str]:
+    """How an answer of a column is shown: a mean with two digits more than its measure has, a share in hundredths."""
+    if is_mean(aggregate):
+        digits = schema.decimals.get(aggregate[len("avg(") : -1], 0) + 2
+        return lambda field: rounded(field, digits)
+    if aggregate.startswith(SHARE):
+        return lambda field: rounded(field, 2, 100)
+    return str
+
+
+def coordinate_shown(text: str, mark: str) -> str:
+    return "(all)" if mark == "1" else "(null)" if text == NULL else text
+
+
+def rounded(fraction: str, digits: int, times: int = 1) -> str:
+    """A fraction `p/q`, or so many times it, with so many digits behind the point, half away from zero."""
+    above, below = map(int, fraction.split("/"))
+    above *= times
+    units = (2 * abs(above) * 10**digits + below) // (2 * below)
+    text = str(units).zfill(digits + 1)
+    return ("-" if above < 0 and units else "") + text[:-digits] + "." + text[-digits:]
+
+
+def aligned(lines: Sequence[Sequence[str]], to_the_left: int) -> str:
+    """Lines in columns, of which the first ones stand to the left."""
+    shown = [[without_controls(it) for it in line] for line in lines]
+    widths = [max(map(columns_of, column)) for column in zip(*shown)]
+    return "".join("  ".join(padded(it, width, at < to_the_left) for at, (it, width) in enumerate(zip(line, widths))) + "\n" for line in shown)
+
+
+def padded(text: str, width: int, is_left: bool) -> str:
+    spaces = " " * (width - columns_of(text))
+    return text + spaces if is_left else spaces + text
+
+
+def without_controls(text: str) -> str:
+    return text if text.isprintable() else "".join("\ufffd" if unicodedata.category(it) == "Cc" else it for it in text)
+
+
+def columns_of(text: str) -> int:
+    """How many columns of a terminal a text takes."""
+    return len(text) if text.isascii() else sum(map(columns_of_character, text))
+
+
+def columns_of_character(character: str) -> int:
+    if unicodedata.category(character) in WITHOUT_WIDTH:
+        return 0
+    return 2 if unicodedata.east_asian_width(character) in ("W", "F") else 1

@@ -1,0 +1,158 @@
+#!/usr/bin/env python3
+"""Measures `jackraisin.serve`: clients that read slices, while changes come, each answered when it is certain.
+
+    scripts/serve_speed.py [--facts N] [--readers N] [--reads N] [--changes N] [--together N] [--seconds N] [--server CPUS] [--clients CPUS]
+
+The facts are those of the workload `tall` of scripts/workloads.py, as many as `--facts` says. A reader asks for the slice of one
+value of one dimension, over a connection that stays. `--reads` is how many all of them ask for in a second, each at its time, and
+late ones count from that time; with 0 each asks again once it is answered. `--changes` is how many changes come in
+a second, `--together` how many one request has. The server runs on the processors of `--server`, the clients on those of
+`--clients`, as taskset takes them. It needs python3-aiohttp and python3-prometheus-client, of the Python that runs it.
+"""
+import argparse
+import asyncio
+import multiprocessing
+import os
+import random
+import subprocess
+import sys
+import tempfile
+import time
+
+sys.dont_write_bytecode = True
+import programs
+import workloads
+
+ROOT = programs.ROOT
+RECORDS, CARDS, MEASURES = workloads.WORKLOADS["tall"][:3]
+DIMENSIONS = [f"d{at + 1}" for at in range(len(CARDS))]
+
+
+class Client:
+    """A connection that stays."""
+
+    def __init__(self, reader, writer, token):
+        self.reader, self.writer, self.token = reader, writer, token
+
+    @classmethod
+    async def of(cls, port, token):
+        return cls(*await asyncio.open_connection("127.0.0.1", port), token)
+
+    async def ask(self, method, path, body=b"", kind="text/csv"):
+        """The seconds until an answer was there."""
+        start = time.perf_counter()
+        head = f"{method} {path} HTTP/1.1\r\nHost: localhost\r\nAuthorization: Bearer {self.token}\r\n"
+        rest = f"Content-Type: {kind}\r\nContent-Length: {len(body)}\r\n" if method == "POST" else ""
+        self.writer.write(f"{head}{rest}\r\n".encode() + body)
+        found = await self.reader.readuntil(b"\r\n\r\n")
+        if not found.startswith(b"HTTP/1.1 200 "):
+            sys.exit(f"the server answered {found}")
+        await self.reader.readexactly(int(found.lower().partition(b"content-length: ")[2].split(b"\r\n")[0]))
+        return time.perf_counter() - start
+
+
+def path_of(pick):
+    at = pick.randrange(len(CARDS))
+    return f"/slice?{DIMENSIONS[at]}=value-{int(CARDS[at] * pick.random() ** 1.5)}"
+
+
+async def read(port, token, readers, rate, seconds):
+    async def one(at):
+        pick, client, times = random.Random(at), await Client.of(port, token), []
+        start = time.perf_counter()
+        pause, due = (1 / rate if rate else 0), start + pick.random() * (1 / rate if rate else 0)
+        while time.perf_counter() < start + seconds:
+            await asyncio.sleep(max(0, due - time.perf_counter()) if rate else 0)
+            begun = due if rate else time.perf_counter()
+            await client.ask("GET", path_of(pick))
+            times.append(time.perf_counter() - begun)
+            due += pause
+        return times
+    return [it for each in await asyncio.gather(*map(one, range(readers))) for it in each]
+
+
+async def change(port, token, rate, together, seconds):
+    """Posts at its times, whether or not the ones before were answered."""
+    pick, start, ids = random.Random(7), time.monotonic(), iter(range(10**9))
+    free = [await Client.of(port, token) for _ in range(16)]
+
+    async def one():
+        client = free.pop() if free else await Client.of(port, token)
+        rows = "".join(f"2,I,n{next(ids)},{values(pick)}\n" for _ in range(together))
+        found = await client.ask("POST", "/changes", rows.encode())
+        free.append(client)
+        return found
+    tasks = []
+    for at in range(int(rate / together * seconds)):
+        await asyncio.sleep(max(0, start + at * together / rate - time.monotonic()))
+        tasks.append(asyncio.ensure_future(one()))
+    return await asyncio.gather(*tasks)
+
+
+def values(pick):
+    texts = [f"value-{int(card * pick.random() ** 1.5)}" for card in CARDS]
+    return ",".join(texts + [str(pick.randint(*ends)) for ends in MEASURES.values()])
+
+
+def work(name, cpus, out, *given):
+    os.sched_setaffinity(0, cpus)
+    out.put((name, asyncio.run({"reads": read, "posts": change}[name](*given))))
+
+
+def seconds_of(process):
+    """The seconds of a processor that a process has taken."""
+    with open(f"/proc/{process}/stat", encoding="ascii") as file:
+        fields = file.read().rpartition(")")[2].split()
+    return (int(fields[11]) + int(fields[12])) / os.sysconf("SC_CLK_TCK")
+
+
+def share(times, part):
+    return sorted(times)[int(part * (len(times) - 1))] * 1000
+
+
+def main():
+    parser = argparse.ArgumentParser(description=__doc__, formatter_class=argparse.RawDescriptionHelpFormatter)
+    for name, value in (("facts", 20000), ("readers", 32), ("reads", 1000), ("changes", 1000), ("together", 10), ("seconds", 10)):
+        parser.add_argument(f"--{name}", type=int, default=value)
+    parser.add_argument("--server", default="0,1")
+    parser.add_argument("--clients", default="2,3")
+    given = parser.parse_args()
+    cpus = [int(it) for it in given.clients.split(",")]
+    with tempfile.TemporaryDirectory(prefix="serve-") as folder:
+        pick = random.Random(1)
+        with open(f"{folder}/feed.csv", "w", encoding="utf-8") as out:
+            out.write(",".join(["op", "id", *DIMENSIONS, *MEASURES]) + "\n")
+            out.writelines(f"I,{at},{values(pick)}\n" for at in range(given.facts))
+        with open(f"{folder}/schema.toml", "w", encoding="utf-8") as out:
+            sums = [f"{kind}({name})" for name in MEASURES for kind in ("sum", "min", "max", "avg")]
+            out.write(f"dimensions = {DIMENSIONS!r}\nmeasures = {list(MEASURES)!r}\naggregates = {['count(*)', *sums][:16]!r}\n")
+        words = [sys.executable, "-m", "jackraisin.serve", "schema.toml", "feed.csv", "--store", "sales.db", "--listen", "127.0.0.1:0"]
+        env = {**os.environ, "PYTHONPATH": f"{ROOT}/python/src", "DATACUBE": programs.datacube()}
+        server = subprocess.Popen(["taskset", "-c", given.server, *words], cwd=folder, env=env, stdout=subprocess.PIPE, stderr=subprocess.PIPE, text=True)
+        address = server.stdout.readline().strip()
+        server.stderr.readline()
+        port, token = int(address.split(":")[2].split("/")[0]), address.partition("_token=")[2]
+        found, results = multiprocessing.Queue(), {"reads": [], "posts": []}
+        before = seconds_of(server.pid)
+        half, rate = given.readers // 2, given.reads / given.readers
+        jobs = [("reads", port, token, it, rate, given.seconds) for it in (half, given.readers - half)]
+        jobs += [("posts", port, token, given.changes, given.together, given.seconds)] if given.changes else []
+        workers = [multiprocessing.Process(target=work, args=(name, cpus, found, *rest)) for name, *rest in jobs]
+        for it in workers:
+            it.start()
+        for _ in workers:
+            name, times = found.get()
+            results[name] += times
+        for it in workers:
+            it.join()
+        spent = seconds_of(server.pid) - before
+        server.terminate()
+        server.communicate()
+    for name, times in results.items():
+        if times:
+            print(f"{name}: {len(times) / given.seconds:.0f} a second; {share(times, 0.5):.1f} ms median, {share(times, 0.99):.1f} ms p99, {max(times) * 1000:.1f} ms at most")
+    print(f"the server took {spent / sum(map(len, results.values())) * 1000:.2f} ms of a processor for each of them")
+
+
+if __name__ == "__main__":
+    main()
