@@ -10,7 +10,7 @@ import struct
 from typing import Callable, Dict, List, NamedTuple, Optional, Tuple, Union
 
 from .._cells import KEEP
-from .._live import Keep
+from .._changes import Keep
 from ._errors import BadMessage
 
 BYTE, INT16, INT32, INT64 = struct.Struct(">B"), struct.Struct(">H"), struct.Struct(">I"), struct.Struct(">q")
