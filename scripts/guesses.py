@@ -97,18 +97,29 @@ def compare(room, rng):
     if not options and any(code != 2 for _, _, code in run.refused):
         return "a line with as many fields as the header is refused under a schema that was guessed"
     status, text, err = room.run(["table", *options, "f.csv"])
-    return differs("table", (status, text, untold(run, len(records), err)), (run.status, run.print(), b""))
+    left = untold(run, len(records), lambda number: line_of(data, schema.delimiter(), number), err)
+    return differs("table", (status, text, left), (run.status, run.print(), b""))
 
 
-def untold(run, count, err):
+def line_of(data, delimiter, number):
+    """The line of a file, from 1, on which the data record with a number begins."""
+    at = oracle.start_of(data)
+    for _ in range(number):
+        _, at = oracle.record_at(data, at, delimiter)
+    while data[at : at + 1] in (b"\r", b"\n"):
+        at += 1
+    return 1 + data.count(b"\n", 0, at)
+
+
+def untold(run, count, line_at, err):
     """What is left of the lines on standard error but for the one that tells how many of so many records were refused, and which
-    is the first of them, with its code; why it was is tried by cases."""
+    is the first of them, with its line and its code; why it was is tried by cases."""
     if not run.refused:
         return err
     refused = len(run.refused)
     _, number, code = run.refused[0]
     verb, first = ("was", "it") if refused == 1 else ("were", "the first")
-    begin = f"datacube: {refused} of {count} lines {verb} refused; {first} is f.csv, record {number}: "
+    begin = f"datacube: {refused} of {count} lines {verb} refused; {first} is f.csv, line {line_at(number)} (record {number}): "
     end = f" (code {code}). datacube refusals shows all.\n"
     is_told = err.startswith(begin.encode()) and err.endswith(end.encode()) and err.count(b"\n") == 1
     return b"" if is_told else err

@@ -299,7 +299,7 @@ def failing(trial):
     trial.write("schema.toml", b"max_records = 10\n" + SCHEMA.encode())
     name = slow(trial)
     status, output, terminal = trial.run("print", "schema.toml", name)
-    said = [f"  {name} has more data records than max_records, which is 10", "  Raise max_records in the schema, or leave lines out."]
+    said = [f"  {name}, record 11: one data record more than max_records, which is 10", "  Raise max_records in the schema, or leave lines out."]
     return first(differs((status, output), (1, b"")), is_steady(terminal, 1), is_gone(terminal, ["datacube: G3 1 F4", *said])), terminal
 
 
