@@ -2,6 +2,7 @@
 import os
 import random
 import signal
+import subprocess
 import sys
 import tempfile
 import threading
@@ -327,6 +328,21 @@ class Ends(unittest.TestCase):
                 cube, total = jackraisin.cube(PLAIN, [], store=store, wary=wary), jackraisin.slice(PLAIN, [], {}, store=store, wary=wary)
                 self.assertEqual((cube.text, total.text, jackraisin.refusals(PLAIN, [], store=store, wary=wary)), answers)
                 self.assertEqual((cube.refused, total.refused), (True, True))
+
+    def test_a_store_of_a_schema_file(self):
+        """A store notes the bytes of a schema's file, so Python and the program take each other's stores."""
+        with tempfile.TemporaryDirectory() as folder:
+            path, store = (os.path.join(folder, it) for it in ("schema.toml", "sales.db"))
+            with open(path, "w", encoding="utf-8") as file:
+                file.write("# of the shop\n" + PLAIN.toml())
+            with Live(path, store=store) as live:
+                live.insert(1, "a", ["west", "tea"], [2])
+            words = [os.environ["DATACUBE"], "slice", "--store", store, path, r"\A,\A"]
+            self.assertIn(b"1,1,1,2,2/1", subprocess.run(words, stdout=subprocess.PIPE, check=True).stdout)
+            self.assertEqual(jackraisin.slice(jackraisin.Schema.read(path), [], {}, store=store)[0]["count(*)"], 1)
+            with self.assertRaises(jackraisin.Failure) as caught:
+                jackraisin.cube(PLAIN, [], store=store)
+            self.assertEqual((caught.exception.line, jackraisin.Schema.read(path) == PLAIN), ("D5 0", True))
 
     def test_questions_over_a_store_on_terms(self):
         """Conditions choose among the facts of a store too, and a refused change is a failure where none may be."""

@@ -1619,6 +1619,12 @@ class Served(Base):
         self.assertIn(r'datacube_sum_cents{city="York",product="green \"tea\"\n",grouping_city="0",grouping_product="0"} 5', get(f"{server.address}metrics")[1].splitlines())
         self.assertRaises(CantFollow, postgres.Server, self.followed, slice=["?"])
 
+    def test_metrics_of_the_first_rows(self):
+        with postgres.Server(self.followed, max_series=2) as server:
+            lines = get(f"{server.address}metrics")[1].splitlines()
+        self.assertEqual(len([it for it in lines if it.startswith("datacube_count{")]), 2)
+        self.assertIn(f'datacube_follower_series_left_out{{table="{self.table}"}} 2', lines)
+
     def test_a_follower_that_stopped(self):
         self.assertEqual([get(f"{self.server.address}{it}")[0] for it in ("healthz", "readyz")], [200, 200])
         self.run_sql("ALTER TABLE {table} DROP COLUMN product")

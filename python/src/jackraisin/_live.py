@@ -10,7 +10,7 @@ import subprocess
 import tempfile
 import threading
 from types import TracebackType
-from typing import IO, Callable, ContextManager, Iterable, Iterator, List, Optional, Sequence, Tuple, Type, Union
+from typing import IO, Callable, Iterable, Iterator, List, Optional, Sequence, Tuple, Type, Union
 
 from ._ask import Given, Shard, options_of
 from ._cells import Named, text_of
@@ -58,15 +58,11 @@ class Live(Questions):
         # (where a thread holds both, it took them in this order)
         self._asking, self._writing = threading.Lock(), threading.RLock()
         self._told = tempfile.TemporaryFile()
-        with self._schema_file(schema) as path:
+        with self.schema.file() as path:
             options = options_of(threads, shard, store, wary)
             self._process = self._begun(words_of("live", options, [path, *paths_of(feeds)]))
             self._records = csv.writer(self._input)
             self._ready()
-
-    def _schema_file(self, given: Given) -> ContextManager[str]:
-        """The file that the program reads the schema from."""
-        return self.schema.file()
 
     def _begun(self, words: Sequence[Union[str, bytes]]) -> "subprocess.Popen[bytes]":
         pipe = subprocess.PIPE

@@ -14,9 +14,9 @@ def metric_names(aggregates: Sequence[str]) -> List[str]:
     return unique("datacube_" + re.sub(r"[^A-Za-z0-9_]+", "_", it).strip("_") for it in aggregates)
 
 
-def label_names(dimensions: Sequence[str]) -> List[str]:
-    """The dimensions and their GROUPING columns, as labels are spelled."""
-    return unique(label_name(it) for it in [*dimensions, *(f"grouping_{it}" for it in dimensions)])
+def label_names(dimensions: Sequence[str], kinds: Sequence[str] = ("", "grouping_")) -> List[str]:
+    """The dimensions and their GROUPING columns, and columns of other kinds, as labels are spelled."""
+    return unique(label_name(f"{kind}{it}") for kind in kinds for it in dimensions)
 
 
 def label_name(text: str) -> str:

@@ -31,6 +31,8 @@ class Schema:
     max_records: Optional[int]
     feed: Optional[Mapping[str, Any]] = field(hash=False)
     decimals: Mapping[str, int] = field(hash=False)
+    # (the text of the file that it was read from, which a store notes)
+    _text: Optional[str] = field(compare=False, repr=False, default=None)
 
     def __init__(
         self,
@@ -58,8 +60,10 @@ class Schema:
         """The schema of a TOML file, which the program has checked."""
         run(words_of("check", [], [os.fspath(path)]))
         with open(path, "rb") as file:
-            table = toml_of(file.read().decode("utf-8"))
-        return cls(**table)
+            text = file.read().decode("utf-8")
+        schema = cls(**toml_of(text))
+        object.__setattr__(schema, "_text", text)
+        return schema
 
     def check(self) -> None:
         """Raises `Failure` with the code of the schema's first fault, if it has one."""
@@ -67,7 +71,9 @@ class Schema:
             run(words_of("check", [], [path]))
 
     def toml(self) -> str:
-        """The schema as the text of a file."""
+        """The schema as the text of a file: of the one that it was read from, where it was."""
+        if self._text is not None:
+            return self._text
         lines = [f"{name} = {quoted(getattr(self, name))}" for name in ("dimensions", "measures", "aggregates", "grouping")]
         lines.append(f"version = {self.version}")
         if self.max_records is not None:

@@ -25,6 +25,7 @@ import psycopg2
 from .._errors import DatacubeError, Ended, Failure, Unsayable
 from .._records import LONGEST
 from . import CantFollow, Follower, NotCaughtUp, Server, drop_slot, slot_name
+from ._metrics import MOST_SERIES
 from ._publication import drop_publication
 from ._slot import PREFIX, connect
 from ._table import find
@@ -59,6 +60,7 @@ def parser() -> argparse.ArgumentParser:
     asks.add_argument("--drop", action="store_true", help="drop the slot and the publication of a follower that was killed, and end")
     asks.add_argument("--serve", type=int, metavar="PORT", help="serve the page and metrics on this port of 127.0.0.1; 0 is any free one")
     asks.add_argument("--slice", type=names, metavar="PATTERN", help="what /metrics shows, as `datacube slice` takes it; by default each value of the first dimension")
+    asks.add_argument("--max-series", type=int, metavar="N", default=MOST_SERIES, help=f"the most rows of it that /metrics shows: {MOST_SERIES} by default")
     return asks
 
 
@@ -127,9 +129,9 @@ def reply(follower: Follower, record: Sequence[str]) -> bytes:
         return b"ok %d\n%s" % (len(text), text)
 
 
-def serve(follower: Follower, port: int, slice: Optional[Sequence[str]]) -> None:
+def serve(follower: Follower, port: int, slice: Optional[Sequence[str]], max_series: int) -> None:
     """Serves until the follower ends."""
-    with Server(follower, port, slice) as server:
+    with Server(follower, port, slice, max_series) as server:
         print(server.address, flush=True)
         while True:
             follower.check()
@@ -163,7 +165,7 @@ def run(given: argparse.Namespace) -> int:
         if given.serve is None:
             answer(follower)
         else:
-            serve(follower, given.serve, given.slice)
+            serve(follower, given.serve, given.slice, given.max_series)
     return int(follower.state.differences > 0)
 
 

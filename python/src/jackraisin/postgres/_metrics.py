@@ -1,26 +1,29 @@
 """A slice of a cube, and how far its follower is, in the text format of Prometheus."""
 from __future__ import annotations
 
-import re
 from decimal import Decimal
 from fractions import Fraction
-from typing import Dict, Iterable, Iterator, List, Mapping, Optional, Sequence, Tuple, Union
+from typing import Dict, Iterable, Iterator, Mapping, Optional, Sequence, Tuple, Union
 
 from .. import __version__
-from .._cells import ALL
 from .._cube import Answer, Cube, Row
+from .._metric_names import label_names, label_values, metric_names
 from .._numbers import shown
 from .._records import NULL
 from ._follower import State
 
 OF_FOLLOWER = "datacube_follower"
 CONTENT_TYPE = "text/plain; version=0.0.4; charset=utf-8"
+# (of how many rows of the slice there are samples at most)
+MOST_SERIES = 1000
 ESCAPED = str.maketrans({"\\": r"\\", '"': r"\"", "\n": r"\n"})
 
 
-def metrics_text(table: str, state: State, cube: Optional[Cube]) -> str:
-    """The metrics of a follower, and those of the rows of a cube where one is given."""
-    return "".join([*of_state(table, state), *(of_cube(table, cube) if cube is not None else [])])
+def metrics_text(table: str, state: State, cube: Optional[Cube], most: int = MOST_SERIES) -> str:
+    """The metrics of a follower, and those of the first so many rows of a cube where one is given."""
+    left_out = max(0, len(cube) - most) if cube is not None else 0
+    said = metric(f"{OF_FOLLOWER}_series_left_out", "gauge", "Rows of the slice past --max-series.", [({"table": table}, left_out)])
+    return "".join([*of_state(table, state), *said, *(of_cube(table, cube, most) if cube is not None else [])])
 
 
 def of_state(table: str, state: State) -> Iterator[str]:
@@ -55,22 +58,19 @@ def seconds(value: Optional[float]) -> Answer:
     return None if value is None else Decimal(round(value * 1000)).scaleb(-3)
 
 
-def of_cube(table: str, cube: Cube) -> Iterator[str]:
-    """A metric for each aggregate. Its labels are the columns of the printed cube: `\\N` is null, or ALL where GROUPING is 1, or it is
+def of_cube(table: str, cube: Cube, most: int = MOST_SERIES) -> Iterator[str]:
+    """A metric for each aggregate, over the first so many rows. Its labels are the columns of the printed cube: `\\N` is null, or ALL where GROUPING is 1, or it is
     that text where IS_TEXT is 1, which nothing else has."""
-    labels = unique(label_name(f"{kind}{it}") for kind in ("", "grouping_", "is_text_") for it in cube.dimensions)
-    names = unique(f"datacube_{metric_name(it)}" for it in cube.aggregates)
-    of_rows = [labels_of(labels, row) for row in cube]
-    for at, (name, aggregate) in enumerate(zip(names, cube.aggregates)):
-        samples = [(its, row.answers[at]) for its, row in zip(of_rows, cube)]
+    rows, labels = cube[:most], label_names(cube.dimensions, ("", "grouping_", "is_text_"))
+    of_rows = [labels_of(labels, row) for row in rows]
+    for at, (name, aggregate) in enumerate(zip(metric_names(cube.aggregates), cube.aggregates)):
+        samples = [(its, row.answers[at]) for its, row in zip(of_rows, rows)]
         yield from metric(name, "gauge", f"{aggregate} of {table}.", samples)
 
 
 def labels_of(names: Sequence[str], row: Row) -> Dict[str, str]:
-    count = len(row.key)
-    texts = [it if isinstance(it, str) else NULL for it in row.key]
-    labels = dict(zip(names, [*texts, *("1" if it is ALL else "0" for it in row.key)]))
-    return {**labels, **{name: "1" for name, it in zip(names[2 * count :], row.key) if it == NULL}}
+    labels = dict(zip(names, label_values(row)))
+    return {**labels, **{name: "1" for name, it in zip(names[len(labels) :], row.key) if it == NULL}}
 
 
 def metric(name: str, kind: str, text: str, samples: Iterable[Tuple[Mapping[str, str], Answer]]) -> Iterator[str]:
@@ -84,24 +84,3 @@ def metric(name: str, kind: str, text: str, samples: Iterable[Tuple[Mapping[str,
 
 def number(value: Union[int, Decimal, Fraction]) -> str:
     return repr(float(value)) if isinstance(value, Fraction) else shown(value)
-
-
-def metric_name(aggregate: str) -> str:
-    """`sum_cents` of `sum(cents)`, and `count` of `count(*)`."""
-    return re.sub(r"[^A-Za-z0-9_]+", "_", aggregate).strip("_")
-
-
-def label_name(text: str) -> str:
-    name = re.sub(r"[^A-Za-z0-9_]", "_", text)
-    return name if re.match(r"[A-Za-z]", name) else f"d_{name}"
-
-
-def unique(names: Iterable[str]) -> List[str]:
-    """Names of which none is twice there: a later one gets a number."""
-    found: List[str] = []
-    for name in names:
-        count = 1
-        while (name if count == 1 else f"{name}_{count}") in found:
-            count += 1
-        found.append(name if count == 1 else f"{name}_{count}")
-    return found

@@ -13,7 +13,7 @@ from .._errors import DatacubeError
 from .._show import PAGES
 from ._errors import CantFollow, NotCaughtUp
 from ._follower import Follower, State
-from ._metrics import CONTENT_TYPE, metrics_text
+from ._metrics import CONTENT_TYPE, MOST_SERIES, metrics_text
 from ._running import Running
 from ._slot import TOLD
 
@@ -28,9 +28,10 @@ POLICY, END = "img-src data:", "</body>"
 class Server(Running):
     """Serves `/`, the explorer over the live cube, `/cube.csv`, the printed cube, `/metrics`, a slice of it for monitors, `/healthz`,
     whether the follower runs, and `/readyz`, whether it answers, on a port of 127.0.0.1, in threads of its own between `start` and `close`, or in a `with` block. Port 0 is any free one.
-    The slice is given by its fields, as `datacube slice` takes them; without them it is of each value of the first dimension."""
+    The slice is given by its fields, as `datacube slice` takes them; without them it is of each value of the first dimension.
+    Of its rows so many have samples at most."""
 
-    def __init__(self, follower: Follower, port: int = 0, slice: Optional[Sequence[str]] = None) -> None:
+    def __init__(self, follower: Follower, port: int = 0, slice: Optional[Sequence[str]] = None, max_series: int = MOST_SERIES) -> None:
         count = len(follower.schema.dimensions)
         fields = list(slice) if slice is not None else ["?"] + ["\\A"] * (count - 1)
         if len(fields) != count:
@@ -38,7 +39,8 @@ class Server(Running):
         page = page_text()
         # (a browser that asks for what an earlier start gave it isn't told that this is still so)
         word = secrets.token_hex(8)
-        handler = type("Handler", (Handler,), {"follower": follower, "fields": fields, "page": page.encode("utf-8"), "word": word})
+        served = {"follower": follower, "fields": fields, "page": page.encode("utf-8"), "word": word, "max_series": max_series}
+        handler = type("Handler", (Handler,), served)
         self._server = ThreadingHTTPServer((ADDRESS, port), handler)
         self._server.daemon_threads = True
         self.port = self._server.server_address[1]
@@ -64,6 +66,7 @@ class Handler(BaseHTTPRequestHandler):
     fields: Sequence[str]
     page: bytes
     word: str
+    max_series: int
     server_version = "datacube"
 
     def do_GET(self) -> None:
@@ -140,7 +143,7 @@ class Handler(BaseHTTPRequestHandler):
         except DatacubeError as why:
             self._unavailable(why)
             return
-        self._send(HTTPStatus.OK, CONTENT_TYPE, metrics_text(self.follower.name, state, cube).encode("utf-8"))
+        self._send(HTTPStatus.OK, CONTENT_TYPE, metrics_text(self.follower.name, state, cube, self.max_series).encode("utf-8"))
 
     def _send(self, status: HTTPStatus, kind: str, body: bytes, headers: Optional[Dict[str, str]] = None) -> None:
         self.send_response(status)

@@ -4,9 +4,9 @@ from __future__ import annotations
 import contextlib
 import os
 import sqlite3
-from typing import Any, ContextManager, Dict, Iterable, List, Mapping, Optional, Sequence, Tuple, Union
+from typing import Any, Dict, Iterable, List, Mapping, Optional, Sequence, Tuple, Union
 
-from .._ask import Given, cube, refusals
+from .._ask import cube, refusals
 from .._errors import Ended
 from .._live import Live
 from .._program import Path, explain
@@ -39,11 +39,6 @@ class StoredSession(Live):
             raise
         for source, count in counts.items():
             self._last[source] = self._last.get(source, 0) + count
-
-    def _schema_file(self, given: Given) -> ContextManager[str]:
-        # (the file itself is noted in the store, so other commands over the same words take it)
-        assert not isinstance(given, Schema)
-        return contextlib.nullcontext(os.fspath(given))
 
     def stop(self) -> None:
         """Ends it well, where it isn't over."""
