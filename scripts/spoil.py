@@ -19,6 +19,7 @@ import cases
 import programs
 
 NOTHING = "nothing"
+STRIDE = 41
 # (what the wrapper does with the output $out, the line of standard error $err, and the status)
 WAYS = {
     NOTHING: ":",
@@ -77,6 +78,8 @@ def main():
     given = parser.parse_args()
     passed = failed = 0
     read = [it for it in cases.all_cases("cases") if it.stdout is None]
+    # (cases that stand together notice the same, so those that stand far apart are tried first)
+    read = [it for start in range(STRIDE) for it in read[start::STRIDE]]
     with tempfile.TemporaryDirectory(prefix="datacube-spoiled-") as room:
         os.chmod(room, 0o755)
         shutil.copy(given.program or programs.datacube(), f"{room}/program")
