@@ -19,6 +19,7 @@ import cases
 import programs
 
 NOTHING = "nothing"
+# (how far apart the cases stand that are tried one after the other)
 STRIDE = 41
 # (what the wrapper does with the output $out, the line of standard error $err, and the status)
 WAYS = {
