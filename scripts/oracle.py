@@ -226,9 +226,30 @@ def field_at(data, at, delimiter):
     return b'"'.join(parts) + data[at:end], end
 
 
+def ends_in_quotes(data, delimiter):
+    """Whether CSV ends within a quoted field."""
+    at = start_of(data)
+    while at < len(data):
+        if data[at : at + 1] in (b"\r", b"\n", delimiter):
+            at += 1
+        elif data[at : at + 1] == b'"' and is_never_closed(data, at):
+            return True
+        else:
+            at = field_at(data, at, delimiter)[1]
+    return False
+
+
+def is_never_closed(data, at):
+    """Whether the quoted field that begins there has no last quote: two quotes in a row stand for one within it."""
+    return re.compile(rb'"(?:[^"]|"")*(?:"(?!")|\Z)').match(data, at).group()[1:].count(b'"') % 2 == 0
+
+
 def data_records(schema, data):
     """The data records of a feed, and the code of what is wrong with the feed, or None."""
     records, head = records_of(data, schema.delimiter()), schema.header()
+    is_open = bool(schema.feed) and ends_in_quotes(data, schema.delimiter())
+    if is_open:
+        records.pop()
     if records and schema.feed:
         needed = [it.encode() for it in schema.feed.names(schema) if it is not None]
         is_right = all(records[0].count(it) == 1 for it in needed)
@@ -239,7 +260,9 @@ def data_records(schema, data):
     rest = records[1 : schema.max_records + 1]
     if schema.feed:
         rest = [Line.by_names(schema, records[0], number, it) for number, it in enumerate(rest, 1)]
-    return rest, "F4" if len(records) - 1 > schema.max_records else None
+    if len(records) - 1 + is_open > schema.max_records:
+        return rest, "F4"
+    return rest, f"F5 {len(records)}" if is_open else None
 
 
 class Line:

@@ -113,16 +113,12 @@ abbrev pub condition_on_dimension : Operator → List (List ℕ) → ℕ → Opt
 condition_on_dimension operator fields d =
     option_map (λ test. Dimension d test) (test_spelled (λ field. Some (dimension_of field)) operator fields)
 
--- the place of a name in a list of names
-abbrev pub place_in : List (List ℕ) → List ℕ → Option ℕ
-place_in names name = position (λ other. bytes_eq other name) names
-
 -- the condition that a name, an operator and the fields of a value spell
 abbrev pub condition_on : Layout → List ℕ → Operator → List (List ℕ) → Option Condition
 condition_on s name operator fields =
     option_map_or (condition_on_dimension operator fields)
-    (place_in s.dimensions name)
-    (option_and_then (condition_on_measure s operator fields) (place_in s.measures name))
+    (position (λ other. bytes_eq other name) s.dimensions)
+    (option_and_then (condition_on_measure s operator fields) (position (λ other. bytes_eq other name) s.measures))
 
 -- the condition that a name, an operator and a value spell: the value is exactly one record
 abbrev pub condition_with : Layout → List ℕ → Operator × List ℕ → Option Condition

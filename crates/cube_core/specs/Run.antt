@@ -3,7 +3,7 @@
 use Rattle.std.specs.Prelude.{◌≡◌, ℕ, List, length, Option, IfSome}
 use Rattle.std.specs.List.{AllByRecursion, AllZip}
 use Rattle.cube_core.specs.Arrival.{Arrivals, of_sources}
-use Rattle.cube_core.specs.FeedRecords.{feed_records, items_of, IsGoodFeed}
+use Rattle.cube_core.specs.FeedRecords.{Good, feed_of}
 use Rattle.cube_core.specs.Layout.{Layout}
 use Rattle.cube_core.specs.Printed.{IsPrinted}
 use Rattle.cube_core.specs.Sources.{SurviveTogether}
@@ -16,11 +16,11 @@ SourceBytes = List (Option (List ℕ))
 
 -- the feed of a source is good
 abbrev pub IsGood : Layout → Option (List ℕ) → Type 0
-IsGood s bytes = IfSome bytes (λ known. IsGoodFeed s (feed_records s known))
+IsGood s bytes = IfSome bytes (λ known. (feed_of s known).end ≡ Good)
 
 -- these are all items of the feed of a source
 abbrev pub AreItemsOf : Layout → Option (List ℕ) → List Item → Type 0
-AreItemsOf s bytes items = IfSome bytes (λ known. items ≡ (items_of s (feed_records s known)).items)
+AreItemsOf s bytes items = IfSome bytes (λ known. items ≡ (feed_of s known).items)
 
 -- good: the feed of every source is good
 abbrev pub AreGood : Layout → SourceBytes → Type 0

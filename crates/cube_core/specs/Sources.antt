@@ -3,7 +3,7 @@
 use Rattle.std.specs.Prelude.{◌≡◌, ℕ, List, map, flat_map}
 use Rattle.std.specs.List.{AllZip}
 use Rattle.cube_core.specs.Layout.{Layout}
-use Rattle.cube_core.specs.FeedRecords.{feed_records, items_of}
+use Rattle.cube_core.specs.FeedRecords.{feed_of}
 use Rattle.cube_core.specs.Surviving.{AreSurviving}
 use Rattle.cube_core.specs.Printed.{IsPrinted}
 use Rattle.cube_core.specs.declared.fact.Fact.{Fact}
@@ -17,7 +17,7 @@ pub record SurviveTogether (s : Layout) (feeds : List (List Item)) (facts : List
 
 -- the items of the feed of each of these sources' bytes
 abbrev pub items_of_sources : Layout → List (List ℕ) → List (List Item)
-items_of_sources s sources = map (λ bytes. (items_of s (feed_records s bytes)).items) sources
+items_of_sources s sources = map (λ bytes. (feed_of s bytes).items) sources
 
 -- this text is the printed cube of the facts that survive the feeds of these sources' bytes
 pub record IsPrintedOf (s : Layout) (sources : List (List ℕ)) (text : List ℕ) : Type 0 where

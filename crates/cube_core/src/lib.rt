@@ -39,6 +39,7 @@ pub use pattern::{Pattern, only_record};
 pub use query::QueryFault;
 pub use schema::Schema;
 pub use schema_fault::SchemaFault;
+pub use schema_toml::position_of;
 pub use sequence::Sequence;
 pub use shard::Shard;
 pub use small_sequence::SmallSequence;

@@ -383,8 +383,8 @@ fn argument_of<'t>(opening: &str, text: &'t str) -> Option<&'t str>
     text.strip_prefix(opening)?.strip_suffix(')')
 }
 
-/// The first place of a name.
-pub(crate) fn position_of(names: &[Text], name: &str) -> Option<usize>
+/// The first place of a name among names, counted from 0.
+pub fn position_of(names: &[Text], name: &str) -> Option<usize>
     ensures { result ≡ position (λ other. bytes_eq other name.now) names.now }
 {
     names.iter().position(|other| other.as_str() == name)

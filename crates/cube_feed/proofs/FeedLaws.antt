@@ -1,18 +1,21 @@
 -- What is to come of a feed, before and after a record.
-use Rattle.std.proofs.Common.{◌≡◌, ◌<◌, ◌+◌, ℕ, List, true, false, [], ◌∷◌, Some, None, refl, subst}
-use Rattle.std.proofs.Common.{◌%◌, ◌∙◌, arith, sym, true≢false}
+use Rattle.std.proofs.Common.{◌≡◌, ◌<◌, ◌+◌, ℕ, Bool, List, true, false, [], ◌∷◌, Some, None, refl, subst}
+use Rattle.std.proofs.Common.{◌%◌, ◌∙◌, add-zero, ap, arith, sym, true≢false}
 use Rattle.std.specs.Prelude.{⊤, Result, Ok, Err, Option, nat_lt}
-use Rattle.std.proofs.lemmas.Bool.{lt-ltb, eq-eqb}
+use Rattle.std.proofs.lemmas.Bool.{lt-ltb, le-ltb, ltb-false, eq-eqb}
 use Rattle.cube_core.specs.Layout.{Layout}
 use Rattle.cube_core.specs.Items.{change_of, field_at}
 use Rattle.cube_core.specs.Shard.{fnv_hash, is_in_shard, whole_feed}
-use Rattle.cube_core.specs.FeedRecords.{RestOfFeed, item_then, is_read, items_after, plain_of}
+use Rattle.cube_core.specs.FeedRecords.{FeedEnd, RestOfFeed, TooManyRecords, WithinQuotes, ends_as, item_then}
+use Rattle.cube_core.specs.FeedRecords.{is_read, items_after, plain_of}
 use Rattle.cube_core.specs.declared.change.Item.{Item}
 use Rattle.cube_core.specs.declared.feed_columns.FoundColumns.{FoundColumns}
-use Rattle.cube_feed.specs.Reading.{RecordsView, Advances, IsReadingFault}
-use Rattle.cube_feed.specs.Feed.{KnownRest, Left, Gives, after_header, with_fault}
+use Rattle.cube_feed.specs.FeedText.{TakesNext, TakesRecord, TextView}
+use Rattle.cube_feed.specs.Reading.{IsReadingFault}
+use Rattle.cube_feed.specs.Feed.{KnownRest, Left, Gives, after_header, comes_after, with_fault}
 use Rattle.cube_feed.specs.declared.fault.FeedFault.{FeedFault}
-use Rattle.cube_feed.specs.declared.fault.FeedFault.TheVariants.{Memory, Read, Header, TooMany}
+use Rattle.cube_feed.specs.declared.fault.FeedFault.TheVariants.{Memory, Read, Header, TooMany, OpenQuote}
+use Rattle.cube_feed.specs.declared.feed_text.Found.TheVariants as found
 
 -- where the reader tells its bytes, the same is to come now as then
 abbrev pub StillComes : KnownRest → KnownRest → Type 0
@@ -29,28 +32,69 @@ StillComes-Gives None now new answer same gives = tt
 StillComes-Gives (Some ahead) now new answer same gives = subst
     (λ (at : KnownRest). Gives at answer new) same gives
 
+-- ---- what comes of a text after so many data records
+
+module _ (s : Layout) (columns : FoundColumns) (number : ℕ) where
+  -- a record of another shard is passed over
+  comes_after-skip : (fields : List (List ℕ)) (rest : List (List (List ℕ))) (quoted : Bool) → number < s.max_records
+      → is_read s (plain_of s columns (number + 1) fields) ≡ false
+      → comes_after s columns number (record { records = fields ∷ rest; in_quotes = quoted })
+      ≡ comes_after s columns (number + 1) (record { records = rest; in_quotes = quoted })
+  comes_after-skip fields rest quoted below unread =
+      rw (lt-ltb number s.max_records below, unread)
+      (ap (λ (n : ℕ). ends_as s quoted n (items_after s columns (number + 1) rest)) (omega arith))
+
+  -- a record of the shard is an item
+  comes_after-item : (fields : List (List ℕ)) (rest : List (List (List ℕ))) (quoted : Bool) → number < s.max_records
+      → is_read s (plain_of s columns (number + 1) fields) ≡ true
+      → comes_after s columns number (record { records = fields ∷ rest; in_quotes = quoted })
+      ≡ item_then (record { number = number + 1; what = change_of s (plain_of s columns (number + 1) fields) })
+      (comes_after s columns (number + 1) (record { records = rest; in_quotes = quoted }))
+  comes_after-item fields rest quoted below read =
+      rw (lt-ltb number s.max_records below, read)
+      (ap (λ (n : ℕ). item_then (record { number = number + 1; what = change_of s (plain_of s columns (number + 1) fields) })
+      (ends_as s quoted n (items_after s columns (number + 1) rest))) (omega arith))
+
+  -- a text that ends within quotes ends in its next record, unless that is one too many
+  comes_after-open : number < s.max_records
+      → comes_after s columns number (record { records = []; in_quotes = true })
+      ≡ record { items = []; end = WithinQuotes (number + 1) }
+  comes_after-open below =
+      rw (add-zero (number + 1), le-ltb s.max_records (number + 1) (omega arith)) refl
+
+  comes_after-full_open : nat_lt number s.max_records ≡ false
+      → comes_after s columns number (record { records = []; in_quotes = true })
+      ≡ record { items = []; end = TooManyRecords }
+  comes_after-full_open full =
+      rw (add-zero (number + 1), lt-ltb s.max_records (number + 1) (omega (arith, ltb-false number s.max_records full))) refl
+
+  comes_after-full : (fields : List (List ℕ)) (rest : List (List (List ℕ))) (quoted : Bool)
+      → nat_lt number s.max_records ≡ false
+      → comes_after s columns number (record { records = fields ∷ rest; in_quotes = quoted })
+      ≡ record { items = []; end = TooManyRecords }
+  comes_after-full fields rest true full = rw full refl
+  comes_after-full fields rest false full = rw full refl
+
 -- a record of another shard is passed over
 skip-Some : (s : Layout) (columns : FoundColumns) (number : ℕ) (ahead : RestOfFeed (Option FeedFault)) (old : Left)
-    (new : RecordsView)
-    → number < s.max_records → Advances old true new
+    (new : TextView)
+    → number < s.max_records → TakesRecord old (number + 1) (Ok true) new
     → is_read s (plain_of s columns (number + 1) new.fields) ≡ false → after_header s columns number old ≡ Some ahead
     → after_header s columns (number + 1) new.left ≡ Some ahead
-skip-Some s columns number ahead None new below advances other is = cc is
-skip-Some s columns number ahead (Some []) new below advances other is = cc advances
-skip-Some s columns number ahead (Some (fields ∷ rest)) new below advances other is =
-    let unread : is_read s (plain_of s columns (number + 1) fields) ≡ false =
-    subst (λ (fs : List (List ℕ)). is_read s (plain_of s columns (number + 1) fs) ≡ false) advances.1 other in
-    rw advances.2 (rw (lt-ltb number s.max_records below, unread) at is)
+skip-Some s columns number ahead None new below takes other is = cc is
+skip-Some s columns number ahead (Some left) new below takes other is =
+    rw takes.2 (ap (λ (r : RestOfFeed FeedEnd). Some (with_fault r)) (sym
+    (comes_after-skip s columns number new.fields takes.0 left.in_quotes below other)) ∙ rw takes.1 at is)
 
 pub StillComes-skip : (s : Layout) (columns : FoundColumns) (number : ℕ) (then : KnownRest) (old : Left)
-    (new : RecordsView)
-    → number < s.max_records → Advances old true new
+    (new : TextView)
+    → number < s.max_records → TakesRecord old (number + 1) (Ok true) new
     → is_read s (plain_of s columns (number + 1) new.fields) ≡ false
     → StillComes then (after_header s columns number old)
     → StillComes then (after_header s columns (number + 1) new.left)
-StillComes-skip s columns number None old new below advances other same = tt
-StillComes-skip s columns number (Some ahead) old new below advances other same =
-    skip-Some s columns number ahead old new below advances other same
+StillComes-skip s columns number None old new below takes other same = tt
+StillComes-skip s columns number (Some ahead) old new below takes other same =
+    skip-Some s columns number ahead old new below takes other same
 
 -- of a whole feed each record is read
 pub not_read-whole_feed : (s : Layout) (plain : List (List ℕ)) → s.shard ≡ whole_feed → is_read s plain ≡ false → ⊥
@@ -63,39 +107,57 @@ not_read-whole_feed s plain whole unread = no (rw whole at unread)
         true≢false (sym always ∙ other)
 
 -- the item of a record of the shard
-pub item-Gives : (s : Layout) (columns : FoundColumns) (number : ℕ) (old : Left) (new : RecordsView) (item : Item)
-    → number < s.max_records → Advances old true new
+pub item-Gives : (s : Layout) (columns : FoundColumns) (number : ℕ) (old : Left) (new : TextView) (item : Item)
+    → number < s.max_records → TakesRecord old (number + 1) (Ok true) new
     → is_read s (plain_of s columns (number + 1) new.fields) ≡ true
     → item.number ≡ number + 1 → item.what ≡ change_of s (plain_of s columns (number + 1) new.fields)
     → Gives (after_header s columns number old) (Ok (Some item)) (after_header s columns item.number new.left)
-item-Gives s columns number None new item below advances read is says = tt
-item-Gives s columns number (Some []) new item below advances read is says = cc advances
-item-Gives s columns number (Some (fields ∷ rest)) new item below advances read is says =
-    let known : is_read s (plain_of s columns (number + 1) fields) ≡ true =
-    subst (λ (fs : List (List ℕ)). is_read s (plain_of s columns (number + 1) fs) ≡ true) advances.1 read in
-    (with_fault (items_after s columns (number + 1) rest), first_of known, rw (advances.2, is) refl)
-  where
-    first_of : is_read s (plain_of s columns (number + 1) fields) ≡ true
-        → with_fault (items_after s columns number (fields ∷ rest))
-        ≡ item_then item (with_fault (items_after s columns (number + 1) rest))
-    first_of known = rw (lt-ltb number s.max_records below, known, is, says, advances.1) refl
+item-Gives s columns number None new item below takes read is says = tt
+item-Gives s columns number (Some left) new item below takes read is says = (
+  with_fault (comes_after s columns (number + 1) (record { records = takes.0; in_quotes = left.in_quotes })),
+  rw takes.1 (rw (is, says) (ap with_fault (comes_after-item s columns number new.fields takes.0 left.in_quotes below read))),
+  rw (takes.2, is) refl,
+)
 
 -- no record is left
-pub none-Gives : (s : Layout) (columns : FoundColumns) (number : ℕ) (old : Left) (new : RecordsView)
-    (ahead : KnownRest) → Advances old false new
+pub none-Gives : (s : Layout) (columns : FoundColumns) (number : ℕ) (old : Left) (new : TextView)
+    (ahead : KnownRest) → TakesRecord old (number + 1) (Ok false) new
     → Gives (after_header s columns number old) (Ok None) ahead
-none-Gives s columns number None new ahead advances = tt
-none-Gives s columns number (Some []) new ahead advances = refl
-none-Gives s columns number (Some (fields ∷ rest)) new ahead advances = cc advances.0
+none-Gives s columns number None new ahead takes = tt
+none-Gives s columns number (Some left) new ahead takes = rw takes refl
 
--- a record too many
-pub too_many-Gives : (s : Layout) (columns : FoundColumns) (number : ℕ) (old : Left) (new : RecordsView)
-    (ahead : KnownRest)
-    → nat_lt number s.max_records ≡ false → Advances old true new
+-- no record could be taken
+pub fault-Gives : (s : Layout) (columns : FoundColumns) (number : ℕ) (old : Left) (new : TextView)
+    (fault : FeedFault) (ahead : KnownRest) → number < s.max_records → TakesRecord old (number + 1) (Err fault) new
+    → Gives (after_header s columns number old) (Err fault) ahead
+fault-Gives s columns number None new fault ahead below takes = tt
+fault-Gives s columns number (Some left) new Memory ahead below takes = tt
+fault-Gives s columns number (Some left) new Read ahead below takes = tt
+fault-Gives s columns number (Some left) new Header ahead below takes = absurd takes
+fault-Gives s columns number (Some left) new TooMany ahead below takes = absurd takes
+fault-Gives s columns number (Some left) new (OpenQuote other) ahead below takes =
+    rw (takes.0, takes.1) (ap with_fault (comes_after-open s columns number below))
+
+-- a record too many, or the end
+pub last-Gives : (s : Layout) (columns : FoundColumns) (number : ℕ) (old : Left) (new : TextView)
+    (ahead : KnownRest) → TakesNext old found.End new
+    → Gives (after_header s columns number old) (Ok None) ahead
+last-Gives s columns number None new ahead takes = tt
+last-Gives s columns number (Some left) new ahead takes = rw takes refl
+
+pub too_many-Gives : (s : Layout) (columns : FoundColumns) (number : ℕ) (old : Left) (new : TextView)
+    (ahead : KnownRest) → nat_lt number s.max_records ≡ false → TakesNext old found.Record new
     → Gives (after_header s columns number old) (Err TooMany) ahead
-too_many-Gives s columns number None new ahead full advances = tt
-too_many-Gives s columns number (Some []) new ahead full advances = cc advances
-too_many-Gives s columns number (Some (fields ∷ rest)) new ahead full advances = rw full refl
+too_many-Gives s columns number None new ahead full takes = tt
+too_many-Gives s columns number (Some left) new ahead full takes =
+    rw takes.1 (ap with_fault (comes_after-full s columns number new.fields takes.0 left.in_quotes full))
+
+pub open_too_many-Gives : (s : Layout) (columns : FoundColumns) (number : ℕ) (old : Left) (new : TextView)
+    (ahead : KnownRest) → nat_lt number s.max_records ≡ false → TakesNext old found.OpenQuote new
+    → Gives (after_header s columns number old) (Err TooMany) ahead
+open_too_many-Gives s columns number None new ahead full takes = tt
+open_too_many-Gives s columns number (Some left) new ahead full takes =
+    rw takes (ap with_fault (comes_after-full_open s columns number full))
 
 -- a fault of the reader or of memory may come at any time
 pub reading-Gives : (ahead now : KnownRest) (fault : FeedFault) → IsReadingFault fault → Gives ahead (Err fault) now
@@ -104,3 +166,4 @@ reading-Gives (Some ahead) now Memory is = tt
 reading-Gives (Some ahead) now Read is = tt
 reading-Gives (Some ahead) now Header is = absurd is
 reading-Gives (Some ahead) now TooMany is = absurd is
+reading-Gives (Some ahead) now (OpenQuote other) is = absurd is

@@ -6,6 +6,7 @@ pub mod NumberLaws
 mod ColumnLaws
 mod PlainFieldLaws
 mod RecordLaws
+mod TextLaws
 mod FeedLaws
 pub mod FaultLaws
 pub mod TurnLaws

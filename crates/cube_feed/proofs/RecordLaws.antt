@@ -69,13 +69,13 @@ records_from-fuel cfg (suc n) (suc m) s xs h k = by (next_record cfg s [] [] xs)
     ]
 
 -- where no record follows, there is none
-records_at-None : (cfg : Config) (s : State) (xs : List ℕ) → next_record cfg s [] [] xs ≡ None
+pub records_at-None : (cfg : Config) (s : State) (xs : List ℕ) → next_record cfg s [] [] xs ≡ None
     → records_at cfg s xs ≡ []
 unfolding records_from
 records_at-None cfg s xs h = rw (add-one (length xs), h) refl
 
 -- where a record follows, it is the first, and the others are those of the bytes that it leaves
-records_at-Some : (cfg : Config) (s : State) (xs : List ℕ) (r : Read) → next_record cfg s [] [] xs ≡ Some r
+pub records_at-Some : (cfg : Config) (s : State) (xs : List ℕ) (r : Read) → next_record cfg s [] [] xs ≡ Some r
     → records_at cfg s xs ≡ r.0 ∷ records_at cfg r.1 r.2
 unfolding records_from
 records_at-Some cfg s xs r h = rw (add-one (length xs), h) (ap (λ (rs : List (List (List ℕ))). r.0 ∷ rs) same)

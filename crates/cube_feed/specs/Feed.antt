@@ -1,21 +1,22 @@
 -- What a feed has to come, and what each call of it gives (this project's choice).
-use Rattle.std.specs.Prelude.{◌≡◌, ⊤, ◌+◌, ◌<◌, ◌≤◌, ℕ, Bool, true, false, List, [], Option, Some, None, option_map}
+use Rattle.std.specs.Prelude.{◌≡◌, ⊤, ◌+◌, ◌<◌, ◌≤◌, ℕ, Bool, true, false, List, [], length, Option, Some, None, option_map}
 use Rattle.std.specs.Prelude.{Result, Ok, Err, IfOk, IfSome}
 use Rattle.cube_core.specs.Layout.{Layout}
 use Rattle.cube_core.specs.Shard.{whole_feed}
 use Rattle.cube_core.specs.Takes.{takes}
 use Rattle.cube_core.specs.FeedRecords.{RestOfFeed, FeedEnd, Good, WrongHeader, TooManyRecords, item_then, items_of}
-use Rattle.cube_core.specs.FeedRecords.{feed_records, items_after}
+use Rattle.cube_core.specs.FeedRecords.{WithinQuotes, ends_as, feed_of, items_after}
 use Rattle.cube_core.specs.declared.change.Item.{Item}
 use Rattle.cube_core.specs.declared.feed_columns.FoundColumns.{FoundColumns}
 use Rattle.cube_feed.specs.declared.fault.FeedFault.{FeedFault}
-use Rattle.cube_feed.specs.declared.fault.FeedFault.TheVariants.{Memory, Read, Header, TooMany}
+use Rattle.cube_feed.specs.declared.fault.FeedFault.TheVariants.{Memory, Read, Header, TooMany, OpenQuote}
 use Rattle.cube_feed.specs.declared.feed.Stage.{Stage}
 use Rattle.cube_feed.specs.declared.feed.Stage.TheVariants as stage
+use Rattle.cube_feed.specs.FeedText.{TextLeft}
 
--- the records that are left of a feed, where its reader tells its bytes
+-- what is left of the text of a feed, where its reader tells its bytes
 abbrev pub Left : Type 0
-Left = Option (List (List (List ℕ)))
+Left = Option TextLeft
 
 -- what lies ahead in a feed, where its reader tells its bytes:
 -- the items to come, and the fault that follows them, if one does
@@ -27,6 +28,7 @@ abbrev pub fault_of : FeedEnd → Option FeedFault
 fault_of Good = None
 fault_of WrongHeader = Some Header
 fault_of TooManyRecords = Some TooMany
+fault_of (WithinQuotes number) = Some (OpenQuote number)
 
 -- the rest of a feed, where its end is told as a fault
 abbrev pub with_fault : RestOfFeed FeedEnd → RestOfFeed (Option FeedFault)
@@ -39,15 +41,23 @@ nothing_but end = record { items = []; end = end }
 -- what is to come of a feed of these bytes, where its reader tells them
 abbrev pub rest_of_feed : Layout → Option (List ℕ) → KnownRest
 rest_of_feed schema bytes =
-    option_map (λ (known : List ℕ). with_fault (items_of schema (feed_records schema known))) bytes
+    option_map (λ (known : List ℕ). with_fault (feed_of schema known)) bytes
+
+-- what comes of a text before its header was read, and after it and so many data records
+abbrev pub comes_first : Layout → TextLeft → RestOfFeed FeedEnd
+comes_first schema left = ends_as schema left.in_quotes (length left.records) (items_of schema left.records)
+
+abbrev pub comes_after : Layout → FoundColumns → ℕ → TextLeft → RestOfFeed FeedEnd
+comes_after schema columns number left = ends_as schema left.in_quotes (number + 1 + length left.records)
+    (items_after schema columns number left.records)
 
 -- what is to come before the header was read, and after it
 abbrev pub before_header : Layout → Left → KnownRest
-before_header schema left = option_map (λ (records : List (List (List ℕ))). with_fault (items_of schema records)) left
+before_header schema left = option_map (λ (known : TextLeft). with_fault (comes_first schema known)) left
 
 abbrev pub after_header : Layout → FoundColumns → ℕ → Left → KnownRest
 after_header schema columns number left =
-    option_map (λ (records : List (List (List ℕ))). with_fault (items_after schema columns number records)) left
+    option_map (λ (known : TextLeft). with_fault (comes_after schema columns number known)) left
 
 -- what a caller sees of a feed:
 -- its schema, the number of its last item, its end once it has come there, and what is to come,
@@ -90,6 +100,7 @@ Gives (Some old) (Err Memory) new = ⊤
 Gives (Some old) (Err Read) new = ⊤
 Gives (Some old) (Err Header) new = old ≡ nothing_but (Some Header)
 Gives (Some old) (Err TooMany) new = old ≡ nothing_but (Some TooMany)
+Gives (Some old) (Err (OpenQuote number)) new = old ≡ nothing_but (Some (OpenQuote number))
 
 -- a change that is given is one that the schema takes
 abbrev pub IsTaken : Layout → Result (Option Item) FeedFault → Type 0
@@ -120,14 +131,16 @@ Numbers old (Err fault) new = new.number ≡ old.number
 -- or there is no record, or the first isn't the header
 abbrev pub TakesHeader : Layout → Left → Result Bool FeedFault → FoundColumns → Left → Type 0
 TakesHeader schema None answer columns new = ⊤
-TakesHeader schema (Some records) (Ok true) columns new =
-    (rest : List (List (List ℕ))) × (items_of schema records ≡ items_after schema columns 0 rest) × (new ≡ Some rest)
-TakesHeader schema (Some records) (Ok false) columns new = items_of schema records ≡ record { items = []; end = Good }
-TakesHeader schema (Some records) (Err Memory) columns new = ⊤
-TakesHeader schema (Some records) (Err Read) columns new = ⊤
-TakesHeader schema (Some records) (Err Header) columns new =
-    items_of schema records ≡ record { items = []; end = WrongHeader }
-TakesHeader schema (Some records) (Err TooMany) columns new = ⊥
+TakesHeader schema (Some left) (Ok true) columns new =
+    (rest : TextLeft) × (comes_first schema left ≡ comes_after schema columns 0 rest) × (new ≡ Some rest)
+TakesHeader schema (Some left) (Ok false) columns new = comes_first schema left ≡ record { items = []; end = Good }
+TakesHeader schema (Some left) (Err Memory) columns new = ⊤
+TakesHeader schema (Some left) (Err Read) columns new = ⊤
+TakesHeader schema (Some left) (Err Header) columns new =
+    comes_first schema left ≡ record { items = []; end = WrongHeader }
+TakesHeader schema (Some left) (Err TooMany) columns new = ⊥
+TakesHeader schema (Some left) (Err (OpenQuote number)) columns new =
+    comes_first schema left ≡ record { items = []; end = WithinQuotes number }
 
 -- what is true of every feed: its last item's number is the schema's number of records at most,
 -- and 0 before the header was read

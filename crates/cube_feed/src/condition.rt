@@ -3,7 +3,7 @@ ghost use Rattle.std.specs.Prelude.{◌≡◌, None, IfOk, codes, drop, filter, 
 ghost use Rattle.std.specs.List.{starts_with};
 ghost use Rattle.std.specs.Option.{ok_or, option_and_then};
 ghost use Rattle.csv.specs.Records.{fields_of, partial_of};
-ghost use Rattle.cube_core.specs.Conditions.{condition_behind, condition_of, condition_on, condition_on_dimension, condition_on_measure, is_named, longer, longest, operator_of, place_in, test_of, values_of};
+ghost use Rattle.cube_core.specs.Conditions.{condition_behind, condition_of, condition_on, condition_on_dimension, condition_on_measure, is_named, longer, longest, operator_of, test_of, values_of};
 ghost use Rattle.cube_core.specs.Layout.{decimals_of, names_of};
 ghost use Rattle.cube_core.specs.Plain.{in_units};
 ghost use Rattle.cube_core.specs.Query.{Says, only_one};
@@ -16,6 +16,7 @@ use crate::units::{in_units, tail_from};
 use csv::ByteRecord;
 use cube_core::{
     Comparison, Condition, Operator, QueryFault, Schema, Sequence, Test, Text, only_record,
+    position_of,
 };
 use std::alloc::{AllocError, Global};
 
@@ -147,20 +148,13 @@ fn condition_on(
     ensures { IfOk result (λ read.
         read ≡ condition_on schema.now name.now operator (fields_of value.now)) }
 {
-    if let Some(place) = place_in(schema.dimensions(), name) {
+    if let Some(place) = position_of(schema.dimensions(), name) {
         return condition_on_dimension(alloc, operator, value, place);
     }
-    match place_in(schema.measures(), name) {
+    match position_of(schema.measures(), name) {
         Some(place) => condition_on_measure(alloc, schema, operator, value, place),
         None => Ok(None),
     }
-}
-
-// The place of a name in a list of names.
-fn place_in(names: &[Text], name: &str) -> Option<usize>
-    ensures { result ≡ place_in names.now name.now }
-{
-    names.iter().position(|other| other.as_str() == name)
 }
 
 // The condition on the dimension at a place that an operator and the fields of a value spell.

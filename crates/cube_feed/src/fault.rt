@@ -16,4 +16,7 @@ pub enum FeedFault {
     /// A record follows the last one that the schema takes.
     #[error("F4")]
     TooMany,
+    /// The bytes of a feed whose columns are known by name end within a quoted field of this data record, 0 for the header.
+    #[error("F5 {number}")]
+    OpenQuote { number: u32 },
 }

@@ -2,15 +2,15 @@
 ghost use Rattle.std.specs.Prelude.{◌≡◌, ◌≤◌, ◌+◌, None, Some, IfOk, IfErr, IfSome, IfNone, option_map};
 ghost use Rattle.csv.specs.Records.{fields_of};
 ghost use Rattle.cube_core.specs.Items.{change_of};
-ghost use Rattle.cube_core.specs.FeedRecords.{feed_records, items_of, plain_of};
-ghost use Rattle.cube_core.specs.Plain.{delimiter_of};
+ghost use Rattle.cube_core.specs.FeedRecords.{feed_of, plain_of};
+ghost use Rattle.cube_feed.specs.FeedText.{TakesRecord};
 ghost use Rattle.cube_feed.specs.Reading.{IsReadingFault};
 ghost use Rattle.cube_feed.specs.Feed.{HasEnded, Gives, IsNumbered, IsTaken, Numbers, TakesHeader, IsFeed, after_header, ended_of, end_answer, number_after, to_come_of, with_fault};
 
 use crate::columns::find_columns;
 use crate::fault::FeedFault;
+use crate::feed_text::{FeedText, Found};
 use crate::plain::{PlainRecord, change_of_row, is_read_at};
-use crate::record_reader::RecordReader;
 use cube_core::{FoundColumns, Item, Schema};
 use std::alloc::Global;
 use std::io::Read;
@@ -27,10 +27,10 @@ enum Stage {
     Ended(Option<FeedFault>),
 }
 
-/// The records of a feed, where their columns stand, and room for the plain record that one of them stands for.
+/// The text of a feed, where its columns stand, and room for the plain record that a record of it stands for.
 #[derive(Drop)]
 struct Rows<R: Read> {
-    records: RecordReader<R>,
+    text: FeedText<R>,
     columns: FoundColumns,
     plain: PlainRecord,
 }
@@ -54,10 +54,21 @@ impl<'s, R: Read> Model for Feed<'s, R> {
       schema = f.schema.now;
       number = f.number;
       ended = ended_of f.stage;
-      to_come = to_come_of f.schema.now f.rows.columns f.number f.stage f.rows.records.left;
+      to_come = to_come_of f.schema.now f.rows.columns f.number f.stage f.rows.text.left;
     } };
 
     ghost invariant = { λ f. IsFeed f.schema.now f.number f.stage };
+}
+
+// Takes the next record of a text, which has this number; false where there is none.
+fn take_record<R: Read>(text: &mut FeedText<R>, number: u32) -> Result<bool, FeedFault>
+    ensures { TakesRecord text.old.left number result text.new }
+{
+    match text.advance()? {
+        Found::Record => Ok(true),
+        Found::End => Ok(false),
+        Found::OpenQuote => Err(FeedFault::OpenQuote { number }),
+    }
 }
 
 // Reads the header, which says where the columns stand; the answer is whether there is any record.
@@ -66,12 +77,12 @@ fn take_header<R: Read>(
     schema: &Schema,
     rows: &mut Rows<R>,
 ) -> Result<bool, FeedFault>
-    ensures { TakesHeader schema.now rows.old.records.left result rows.new.columns rows.new.records.left }
+    ensures { TakesHeader schema.now rows.old.text.left result rows.new.columns rows.new.text.left }
 {
-    if !rows.records.advance()? {
+    if !take_record(&mut rows.text, 0)? {
         return Ok(false);
     }
-    match find_columns(alloc, schema, rows.records.fields()) {
+    match find_columns(alloc, schema, rows.text.fields()) {
         Ok(Some(columns)) => {
             rows.columns = columns;
             Ok(true)
@@ -90,11 +101,11 @@ fn item_of<R: Read>(
 ) -> Result<Item, FeedFault>
     ensures number { IfOk result (λ item. item.number ≡ number) }
     ensures what { IfOk result (λ item. item.what
-        ≡ change_of schema.now (plain_of schema.now rows.old.columns number rows.old.records.fields)) }
+        ≡ change_of schema.now (plain_of schema.now rows.old.columns number rows.old.text.fields)) }
     ensures fault { IfErr result IsReadingFault }
-    ensures kept { (rows.new.records ≡ rows.old.records) × (rows.new.columns ≡ rows.old.columns) }
+    ensures kept { (rows.new.text ≡ rows.old.text) × (rows.new.columns ≡ rows.old.columns) }
 {
-    let fields = rows.records.fields();
+    let fields = rows.text.fields();
     match change_of_row(
         alloc,
         schema,
@@ -116,23 +127,23 @@ fn take_item<R: Read>(
     number: u32,
 ) -> Result<Option<Item>, FeedFault>
     requires { number ≤ schema.now.max_records }
-    ensures gives { Gives (after_header schema.now rows.old.columns number rows.old.records.left) result
-        (after_header schema.now rows.new.columns (number_after number result) rows.new.records.left) }
+    ensures gives { Gives (after_header schema.now rows.old.columns number rows.old.text.left) result
+        (after_header schema.now rows.new.columns (number_after number result) rows.new.text.left) }
     ensures item { IfOk result (λ next. IfSome next (λ item. IsNumbered schema.now number item.number)) }
     ensures taken { IsTaken schema.now result }
 {
     for before in number..schema.max_records() {
-        if !rows.records.advance()? {
+        if !take_record(&mut rows.text, before + 1)? {
             return Ok(None);
         }
-        if is_read_at(schema, &rows.columns, before + 1, rows.records.fields()) {
+        if is_read_at(schema, &rows.columns, before + 1, rows.text.fields()) {
             return Ok(Some(item_of(alloc, schema, rows, before + 1)?));
         }
     }
-    if rows.records.advance()? {
-        return Err(FeedFault::TooMany);
+    match rows.text.advance()? {
+        Found::End => Ok(None),
+        Found::Record | Found::OpenQuote => Err(FeedFault::TooMany),
     }
-    Ok(None)
 }
 
 // Reads the next item, after the header where that wasn't read.
@@ -145,8 +156,8 @@ fn take_next<R: Read>(
 ) -> Result<Option<Item>, FeedFault>
     requires feed { IsFeed schema.now number stage }
     requires open { ended_of stage ≡ None }
-    ensures gives { Gives (to_come_of schema.now rows.old.columns number stage rows.old.records.left) result
-        (after_header schema.now rows.new.columns (number_after number result) rows.new.records.left) }
+    ensures gives { Gives (to_come_of schema.now rows.old.columns number stage rows.old.text.left) result
+        (after_header schema.now rows.new.columns (number_after number result) rows.new.text.left) }
     ensures item { IfOk result (λ next. IfSome next (λ item. IsNumbered schema.now number item.number)) }
     ensures taken { IsTaken schema.now result }
 {
@@ -158,16 +169,6 @@ fn take_next<R: Read>(
     take_item(alloc, schema, rows, number)
 }
 
-// The byte between the fields of a schema's feeds.
-fn delimiter(schema: &Schema) -> u8
-    ensures { result ≡ delimiter_of schema.now }
-{
-    match schema.columns() {
-        None => b',',
-        Some(columns) => columns.delimiter,
-    }
-}
-
 impl<'s, R: Read> Feed<'s, R> {
     /// A feed of a schema, from what a reader gives; takes no memory and reads nothing.
     ///
@@ -176,13 +177,14 @@ impl<'s, R: Read> Feed<'s, R> {
         ensures schema { result.schema ≡ schema.now }
         ensures number { result.number ≡ 0 }
         ensures open { result.ended ≡ None }
-        ensures to_come { result.to_come ≡ option_map (λ bytes. with_fault (items_of schema.now (feed_records schema.now bytes))) (R.remaining reader) }
+        ensures to_come { result.to_come
+            ≡ option_map (λ bytes. with_fault (feed_of schema.now bytes)) (R.remaining reader) }
     {
         Feed {
             alloc,
             schema,
             rows: Rows {
-                records: RecordReader::new(alloc, reader, delimiter(schema)),
+                text: FeedText::new(alloc, schema, reader),
                 columns: FoundColumns::InOrder,
                 plain: PlainRecord::new(alloc),
             },

@@ -4,7 +4,8 @@ ghost use Rattle.csv.specs.Records.{fields_of};
 ghost use Rattle.cube_feed.specs.Reading.{Advances, IsReadingFault, records_by};
 
 use crate::fault::FeedFault;
-use csv::{ByteRecord, ErrorKind, Reader, ReaderBuilder};
+use crate::record_source::RecordSource;
+use csv::ByteRecord;
 use std::alloc::Global;
 use std::io::Read;
 use std::marker::Model;
@@ -13,19 +14,17 @@ use std::marker::Model;
 /// that has no header.
 #[derive(Drop)]
 pub struct RecordReader<R: Read> {
-    reader: Reader<R>,
+    source: RecordSource<R>,
     row: ByteRecord,
 }
 
 impl<R: Read> Model for RecordReader<R> {
-    ghost use Rattle.cube_feed.specs.Reading.{RecordsView, ReadsPlainly, left_of};
+    ghost use Rattle.cube_feed.specs.Reading.{RecordsView};
     ghost use Rattle.csv.specs.Records.{fields_of};
 
     ghost Value = { RecordsView };
 
-    ghost view = { λ r. record { left = left_of R.remaining r.reader; fields = fields_of r.row } };
-
-    ghost invariant = { λ r. ReadsPlainly r.reader };
+    ghost view = { λ r. record { left = r.source; fields = fields_of r.row } };
 }
 
 impl<R: Read> RecordReader<R> {
@@ -35,13 +34,8 @@ impl<R: Read> RecordReader<R> {
     pub fn new(alloc: Global, reader: R, delimiter: u8) -> RecordReader<R>
         ensures { result.left ≡ option_map (records_by delimiter) (R.remaining reader) }
     {
-        let reader = ReaderBuilder::new()
-            .has_headers(false)
-            .flexible(true)
-            .delimiter(delimiter)
-            .from_reader(alloc, reader);
         RecordReader {
-            reader,
+            source: RecordSource::new(alloc, reader, delimiter),
             row: ByteRecord::new(alloc),
         }
     }
@@ -53,13 +47,7 @@ impl<R: Read> RecordReader<R> {
         ensures takes { IfOk result (λ found. Advances self.old.left found self.new) }
         ensures fault { IfErr result IsReadingFault }
     {
-        match self.reader.read_byte_record(&mut self.row) {
-            Ok(found) => Ok(found),
-            Err(error) => match error.kind() {
-                ErrorKind::OutOfMemory => Err(FeedFault::Memory),
-                _ => Err(FeedFault::Read),
-            },
-        }
+        self.source.advance(&mut self.row)
     }
 
     /// The record that was taken last.

@@ -14,8 +14,11 @@ use Rattle.std.proofs.lemmas.List.Folds.{list_all-append, list_any-append}
 use Rattle.std.proofs.lemmas.Str.{IsUtf8-from_ascii, is_utf8-from_IsUtf8}
 use Rattle.std.specs.Option.{option_map_or}
 use Rattle.csv.specs.Reading.{records, strip_bom}
+use Rattle.csv.specs.declared.parser.State.TheVariants as st
 use Rattle.cube_core.specs.Items.{width_of}
-use Rattle.cube_core.specs.FeedRecords.{FeedEnd, Good, WrongHeader, TooManyRecords, IsGoodFeed, RestOfFeed, item_then}
+use Rattle.cube_core.specs.FeedRecords.{FeedEnd, Good, WrongHeader, TooManyRecords, WithinQuotes, IsGoodFeed, RestOfFeed}
+use Rattle.cube_core.specs.FeedRecords.{all_records, but_the_last, end_in_quotes, ends_as, ends_in_quotes, feed_of}
+use Rattle.cube_core.specs.FeedRecords.{is_within_quotes, item_then, state_after}
 use Rattle.cube_core.specs.Items.{field_at, is_keep, is_measure, dimension_of, measure_of, number_of}
 use Rattle.cube_core.specs.Items.{dimension_field_of, measure_field_of, dimension_fields, measure_fields, fact_of}
 use Rattle.cube_core.specs.Items.{amendment_of, unless_at_fault, insert_of, update_of, change_of, is_header}
@@ -25,7 +28,7 @@ use Rattle.cube_core.specs.Items.{upsert_of, remove_of}
 use Rattle.cube_core.specs.Items.{same_fields, keep_text, column_names, byte_order_mark}
 use Rattle.cube_core.specs.FeedRecords.{items_after, items_of}
 use Rattle.cube_core.specs.Layout.{Layout}
-use Rattle.cube_core.specs.Plain.{plain_in_order}
+use Rattle.cube_core.specs.Plain.{delimiter_of, plain_in_order}
 use Rattle.cube_core.specs.Records.{records_of}
 use Rattle.cube_core.specs.Shard.{whole_feed, is_in_shard, fnv_hash}
 use Rattle.cube_core.specs.Takes.{takes, may_amend, null_text, is_id, fits, fits_part, is_dimension_value}
@@ -435,9 +438,41 @@ records_of-feed : (s : Layout) (lines : List (List (List ℕ))) → AllByRecursi
 records_of-feed s lines all =
     records_of-other 111 _ (λ is. omega arith) ∙ records-line (header_for s ∷ lines) (omega arith, all)
 
+-- without columns by name nobody asks whether a text ends within quotes
+ends_in_quotes-in_order : (s : Layout) (bytes : List ℕ) → s.columns ≡ None → ends_in_quotes s bytes ≡ false
+ends_in_quotes-in_order s bytes none =
+    ap (λ (columns : Option FeedColumns). is_some columns
+    && is_within_quotes (state_after (config_by (delimiter_of s)) st.StartRecord (strip_bom bytes))) none
+
+pub feed_of-in_order : (s : Layout) (bytes : List ℕ) → s.columns ≡ None
+    → feed_of s bytes ≡ items_of s (all_records s bytes)
+feed_of-in_order s bytes none =
+    ap (λ (quoted : Bool). ends_as s quoted
+    (length (if quoted then but_the_last (all_records s bytes) else all_records s bytes))
+    (items_of s (if quoted then but_the_last (all_records s bytes) else all_records s bytes)))
+    (ends_in_quotes-in_order s bytes none)
+
+-- a text that ends within quotes is at fault
+pub feed_of-quotes : (s : Layout) (bytes : List ℕ) → ends_in_quotes s bytes ≡ true
+    → (feed_of s bytes).end ≡ Good → ⊥
+feed_of-quotes s bytes quoted good =
+    let whole : FeedEnd = (items_of s (feed_records s bytes)).end in
+    let count : ℕ = length (feed_records s bytes) in
+    by whole (sym (ap (λ (q : Bool). if q then end_in_quotes s count whole else whole) quoted) ∙ good)
+  where
+    room : (b : Bool) (number : ℕ) → (if b then TooManyRecords else WithinQuotes number) ≡ Good → ⊥
+    room true number is = cc is
+    room false number is = cc is
+
+    by : (end : FeedEnd) → end_in_quotes s (length (feed_records s bytes)) end ≡ Good → ⊥
+    by Good is = room (nat_lt s.max_records (length (feed_records s bytes))) (length (feed_records s bytes)) is
+    by WrongHeader is = cc is
+    by TooManyRecords is = cc is
+    by (WithinQuotes number) is = cc is
+
 -- without columns by name a text is read with commas, and its first record has to be the header
-feed_records-in_order : (s : Layout) (bytes : List ℕ) → s.columns ≡ None → feed_records s bytes ≡ records_of bytes
-feed_records-in_order s bytes none =
+all_records-in_order : (s : Layout) (bytes : List ℕ) → s.columns ≡ None → all_records s bytes ≡ records_of bytes
+all_records-in_order s bytes none =
     ap (λ (columns : Option FeedColumns).
     records (config_by (option_map_or (λ (it : FeedColumns). it.delimiter) columns 44)) (strip_bom bytes)) none
 
@@ -448,12 +483,13 @@ found_columns-in_order s header none = rw none refl
 pub items_of-record_for : (s : Layout) (changes : List Change) → s.columns ≡ None → s.decimals ≡ []
     → s.shard ≡ whole_feed
     → length changes ≤ s.max_records → AllByRecursion (CanBeSpelled s) changes
-    → items_of s (feed_records s (flat_map line (header_for s ∷ map record_for changes)))
+    → feed_of s (flat_map line (header_for s ∷ map record_for changes))
     ≡ record { items = numbered 1 changes; end = Good }
 items_of-record_for s changes none no_point whole few all =
     let lines : List (List (List ℕ)) = map record_for changes in
     let wrong : RestOfFeed FeedEnd = record { items = []; end = WrongHeader } in
-    ap (items_of s) (feed_records-in_order s (flat_map line (header_for s ∷ lines)) none)
+    feed_of-in_order s (flat_map line (header_for s ∷ lines)) none
+    ∙ ap (items_of s) (all_records-in_order s (flat_map line (header_for s ∷ lines)) none)
     ∙ ap (items_of s) (records_of-feed s lines (some_field changes))
     ∙ ap (λ (found : Option FoundColumns). option_map_or (λ columns. items_after s columns 0 lines) found wrong)
     (found_columns-in_order s (header_for s) none

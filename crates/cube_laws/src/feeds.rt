@@ -1,9 +1,10 @@
 //! What a feed gives: a written one is read back, and none gives more than its schema takes (this project's choice of a change
 //! feed).
-ghost use Rattle.std.specs.Prelude.{◌≡◌, ◌↔◌, ◌≤◌, ℕ, true, List, [], ◌∷◌, length, map, None, Some, is_some, IfOk};
+ghost use Rattle.std.specs.Prelude.{◌≡◌, ◌≢◌, ◌↔◌, ◌≤◌, ℕ, true, List, [], ◌∷◌, length, map, None, Some, is_some, IfOk};
 ghost use Rattle.std.specs.List.{AllByRecursion, flat_map, list_all};
 ghost use Rattle.cube_core.specs.Items.{change_of, is_header};
-ghost use Rattle.cube_core.specs.FeedRecords.{Good, IsGoodFeed, feed_records, found_columns, items_of, names_read, stands_once};
+ghost use Rattle.cube_core.specs.FeedRecords.{Good, IsGoodFeed, all_records, ends_in_quotes, feed_of, feed_records, found_columns, items_of};
+ghost use Rattle.cube_core.specs.FeedRecords.{names_read, stands_once};
 ghost use Rattle.cube_core.specs.Layout.{Layout};
 ghost use Rattle.cube_core.specs.Shard.{whole_feed};
 ghost use Rattle.cube_core.specs.Takes.{takes};
@@ -21,7 +22,7 @@ pub fn written_feed_is_read()
     ensures feed { (s : Layout) (changes : List Change) →
         s.columns ≡ None → s.decimals ≡ [] → s.shard ≡ whole_feed → length changes ≤ s.max_records →
         AllByRecursion (CanBeSpelled s) changes →
-        items_of s (feed_records s (flat_map line (header_for s ∷ map record_for changes)))
+        feed_of s (flat_map line (header_for s ∷ map record_for changes))
         ≡ record { items = numbered 1 changes; end = Good } }
 {}
 
@@ -47,4 +48,16 @@ pub fn feed_has_a_header_and_so_many_records()
 pub fn feeds_give_what_the_schema_takes()
     ensures { (s : Layout) (records : List (List (List ℕ))) →
         AllByRecursion (λ item. IfOk item.what (λ change. takes s change ≡ true)) (items_of s records).items }
+{}
+
+/// A feed gives the items of its whole records, and where columns are known by name it is at fault if it ends within a quoted
+/// field: its last record isn't whole, and no cube is made of the others. Without such columns all records are whole (this
+/// project's choice).
+pub fn feed_that_ends_in_quotes_is_at_fault()
+    ensures items { (s : Layout) (bytes : List ℕ) →
+        (feed_of s bytes).items ≡ (items_of s (feed_records s bytes)).items }
+    ensures fault { (s : Layout) (bytes : List ℕ) →
+        ends_in_quotes s bytes ≡ true → (feed_of s bytes).end ≢ Good }
+    ensures in_order { (s : Layout) (bytes : List ℕ) →
+        s.columns ≡ None → feed_of s bytes ≡ items_of s (all_records s bytes) }
 {}

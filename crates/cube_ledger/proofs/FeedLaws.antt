@@ -5,14 +5,14 @@ use Rattle.std.proofs.Math.ListN.{length-set}
 use Rattle.std.proofs.lemmas.List.{append-nil, map-append}
 use Rattle.cube_core.specs.Arrival.{Arrivals}
 use Rattle.cube_core.specs.Layout.{Layout}
-use Rattle.cube_core.specs.FeedRecords.{RestOfFeed, FeedEnd, Good, WrongHeader, TooManyRecords, feed_records, items_of}
+use Rattle.cube_core.specs.FeedRecords.{RestOfFeed, FeedEnd, Good, WrongHeader, TooManyRecords, WithinQuotes, feed_of}
 use Rattle.cube_core.specs.Run.{IsGood, AreItemsOf}
 use Rattle.cube_core.specs.declared.change.Item.{Item}
 use Rattle.cube_feed.specs.Faults.{IsEndOf, IsFaultOf}
 use Rattle.cube_feed.specs.Feed.{KnownRest, FeedView, Gives, fault_of, nothing_but, rest_of_feed}
 use Rattle.cube_feed.specs.declared.fault.FeedFault.{FeedFault}
-use Rattle.cube_feed.specs.declared.fault.FeedFault.TheVariants.{Memory, Read, Header, TooMany}
-use Rattle.cube_feed.proofs.FaultLaws.{fault_of-None}
+use Rattle.cube_feed.specs.declared.fault.FeedFault.TheVariants.{Memory, Read, Header, TooMany, OpenQuote}
+use Rattle.cube_feed.proofs.FaultLaws.{fault_of-None, fault_of-OpenQuote}
 use Rattle.cube_feed.proofs.TurnLaws.{from_source}
 use Rattle.cube_ledger.specs.Build.{TakesFeed}
 use Rattle.cube_ledger.specs.Ledger.{LedgerView, AtSource, Enters, LedgerStandsAt}
@@ -98,7 +98,7 @@ all-done s None done now next left gives = (tt, tt)
 all-done s (Some known) done now next left gives =
     let given : left.0 ≡ nothing_but None = subst (λ (n : KnownRest). Gives n (Ok None) next) left.1 gives in (
       sym (left.2 ∙ ap (λ (t : RestOfFeed (Option FeedFault)). done ++ t.items) given ∙ append-nil done),
-      fault_of-None (items_of s (feed_records s known)).end
+      fault_of-None (feed_of s known).end
           (left.3 ∙ ap (λ (t : RestOfFeed (Option FeedFault)). t.end) given),
     )
 
@@ -124,25 +124,33 @@ ends-so end Read is = tt
 ends-so Good Header is = cc
 ends-so WrongHeader Header is = refl
 ends-so TooManyRecords Header is = cc
+ends-so (WithinQuotes other) Header is = cc
 ends-so Good TooMany is = cc
 ends-so WrongHeader TooMany is = cc
 ends-so TooManyRecords TooMany is = refl
+ends-so (WithinQuotes other) TooMany is = cc
+ends-so end (OpenQuote number) is = fault_of-OpenQuote end number is
 
 -- where nothing is to come but a fault, it is the feed's
 fault-given : (s : Layout) (known : List ℕ) (done : List Item) (now next : KnownRest) (fault : FeedFault)
     → LeftOf (rest_of_feed s (Some known)) done now → Gives now (Err fault) next
-    → IsEndOf (items_of s (feed_records s known)).end fault
+    → IsEndOf (feed_of s known).end fault
 fault-given s known done now next Memory left gives = tt
 fault-given s known done now next Read left gives = tt
 fault-given s known done now next Header left gives =
     let given : left.0 ≡ nothing_but (Some Header) =
     subst (λ (n : KnownRest). Gives n (Err Header) next) left.1 gives in
-    ends-so (items_of s (feed_records s known)).end Header
+    ends-so (feed_of s known).end Header
     (left.3 ∙ ap (λ (t : RestOfFeed (Option FeedFault)). t.end) given)
 fault-given s known done now next TooMany left gives =
     let given : left.0 ≡ nothing_but (Some TooMany) =
     subst (λ (n : KnownRest). Gives n (Err TooMany) next) left.1 gives in
-    ends-so (items_of s (feed_records s known)).end TooMany
+    ends-so (feed_of s known).end TooMany
+    (left.3 ∙ ap (λ (t : RestOfFeed (Option FeedFault)). t.end) given)
+fault-given s known done now next (OpenQuote number) left gives =
+    let given : left.0 ≡ nothing_but (Some (OpenQuote number)) =
+    subst (λ (n : KnownRest). Gives n (Err (OpenQuote number)) next) left.1 gives in
+    ends-so (feed_of s known).end (OpenQuote number)
     (left.3 ∙ ap (λ (t : RestOfFeed (Option FeedFault)). t.end) given)
 
 pub fault-told : (s : Layout) (bytes : Option (List ℕ)) (start : KnownRest) (source : ℕ) (old now : LedgerView)

@@ -6,7 +6,7 @@ use Rattle.std.specs.List.{All, AllZip, AllByRecursion}
 use Rattle.std.proofs.lemmas.List.{ext_get_or, get_or-map, get_or-take, get_or_default, length-map, length-take}
 use Rattle.std.proofs.lemmas.List.FromFn.{get_or-map-range_with_len, length-map-range_with_len}
 use Rattle.cube_core.specs.Arrival.{Arrivals, of_source, of_sources}
-use Rattle.cube_core.specs.FeedRecords.{RestOfFeed, feed_records, items_of}
+use Rattle.cube_core.specs.FeedRecords.{RestOfFeed, feed_of}
 use Rattle.cube_core.specs.Layout.{Layout}
 use Rattle.cube_core.specs.Run.{SourceBytes, IsGood, AreItemsOf, AreGood}
 use Rattle.cube_core.specs.declared.change.Item.{Item}
@@ -15,7 +15,7 @@ use Rattle.cube_rings.specs.declared.fault.FeedingFault.{FeedingFault}
 use Rattle.cube_rings.specs.declared.fault.FeedingFault.TheVariants as feeding_fault
 use Rattle.cube_feed.specs.Feed.{KnownRest, rest_of_feed}
 use Rattle.cube_feed.specs.declared.fault.FeedFault.{FeedFault}
-use Rattle.cube_feed.specs.declared.fault.FeedFault.TheVariants.{Memory, Read, Header, TooMany}
+use Rattle.cube_feed.specs.declared.fault.FeedFault.TheVariants.{Memory, Read, Header, TooMany, OpenQuote}
 use Rattle.cube_rings.specs.Link.{Sending, Receiving}
 use Rattle.cube_rings.specs.FeedingAll.{TakesFeeds, ExplainsFeeding, HasReceived}
 use Rattle.cube_rings.specs.Ends.{HasNoStop, IsFirstStop, IsSealed}
@@ -28,7 +28,7 @@ use Rattle.cube_rings.specs.declared.parcel.Parcel.{Parcel}
 use Rattle.cube_rings.specs.declared.parcel.FeederEnd.{FeederEnd}
 use Rattle.cube_rings.specs.declared.gatherer.Gatherer.{Gatherer}
 use Rattle.cube_rings.proofs.PlaceLaws.{some_of}
-use Rattle.cube_feed.proofs.FaultLaws.{fault_of-None, fault_of-Header, fault_of-TooMany}
+use Rattle.cube_feed.proofs.FaultLaws.{fault_of-None, fault_of-Header, fault_of-TooMany, fault_of-OpenQuote}
 
 -- ---- lists place by place
 
@@ -62,7 +62,7 @@ stops-none : (s : Layout) (bytes : Option (List ℕ)) (items : List Item) → St
 stops-none s None items stops = (tt, tt)
 stops-none s (Some bytes) items stops = (
   sym (ap (λ (c : RestOfFeed (Option FeedFault)). c.items) stops),
-  fault_of-None (items_of s (feed_records s bytes)).end (ap (λ (c : RestOfFeed (Option FeedFault)). c.end) stops),
+  fault_of-None (feed_of s bytes).end (ap (λ (c : RestOfFeed (Option FeedFault)). c.end) stops),
 )
 
 -- a stop is the feed's own fault
@@ -72,9 +72,11 @@ stops-fault s None items fault stops = tt
 stops-fault s (Some bytes) items Memory stops = tt
 stops-fault s (Some bytes) items Read stops = tt
 stops-fault s (Some bytes) items Header stops =
-    fault_of-Header (items_of s (feed_records s bytes)).end (ap (λ (c : RestOfFeed (Option FeedFault)). c.end) stops)
+    fault_of-Header (feed_of s bytes).end (ap (λ (c : RestOfFeed (Option FeedFault)). c.end) stops)
 stops-fault s (Some bytes) items TooMany stops =
-    fault_of-TooMany (items_of s (feed_records s bytes)).end (ap (λ (c : RestOfFeed (Option FeedFault)). c.end) stops)
+    fault_of-TooMany (feed_of s bytes).end (ap (λ (c : RestOfFeed (Option FeedFault)). c.end) stops)
+stops-fault s (Some bytes) items (OpenQuote number) stops =
+    fault_of-OpenQuote (feed_of s bytes).end number (ap (λ (c : RestOfFeed (Option FeedFault)). c.end) stops)
 
 -- ---- what an end says of the links of its source
 

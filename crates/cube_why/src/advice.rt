@@ -160,7 +160,7 @@ pub const WORD_ADVICE: [Advice; 10] = [
 ];
 
 /// Feeds, runs and merges: what was wanted at each code.
-pub const CODE_ADVICE: [Advice; 22] = [
+pub const CODE_ADVICE: [Advice; 23] = [
     Advice {
         code: "F1",
         lines: &[
@@ -182,6 +182,12 @@ pub const CODE_ADVICE: [Advice; 22] = [
     Advice {
         code: "F4",
         lines: &["Raise max_records in the schema, or leave lines out."],
+    },
+    Advice {
+        code: "F5",
+        lines: &[
+            "Close the quote, or write it twice within a quoted field; or the file was cut short.",
+        ],
     },
     Advice {
         code: "G1",

@@ -140,6 +140,7 @@ fn put_cause(
     match said.inner {
         Some("F3") => put_header(rt, schema, path, report),
         Some("F4") => put_limit(rt, schema, path, report),
+        Some("F5") => put_unclosed(rt, schema, path, report),
         _ => put_kind(path, "", report),
     }
 }
@@ -275,6 +276,20 @@ fn put_limit(
     let number = u64::from(schema.max_records()).saturating_add(1);
     let lines = lines_at(rt, schema, path, number);
     tell_limit(rt.alloc(), schema, path, lines.line, report)
+}
+
+// Adds that a quote in the last record of a file is never closed.
+fn put_unclosed(
+    rt: &HostRuntime,
+    schema: &Schema,
+    path: &str,
+    report: &mut Report,
+) -> Result<(), AllocError> {
+    let lines = lines_at(rt, schema, path, 0);
+    if lines.open == 0 {
+        return put_kind(path, "", report);
+    }
+    tell_unclosed(rt.alloc(), path, &lines, report)
 }
 
 // The name of the kind of a file, where it is one that isn't read as CSV.

@@ -104,7 +104,7 @@ pub const SCHEMA_NOTES: [Note; 12] = [
 ];
 
 /// The codes of lines, feeds, patterns and cells.
-pub const FEED_NOTES: [Note; 18] = [
+pub const FEED_NOTES: [Note; 19] = [
     Note {
         code: "L1",
         about: "line of a feed",
@@ -173,6 +173,13 @@ pub const FEED_NOTES: [Note; 18] = [
         about: "feed",
         means: "The feed has more data records than the schema's `max_records`.",
         mend: "Raise `max_records`, or leave lines out.",
+        example: "",
+    },
+    Note {
+        code: "F5",
+        about: "feed",
+        means: "With `[feed]`: the feed ends within quotes. The number behind the code is the data record in which they are opened and not closed; 0 is the header.",
+        mend: "Close the quote; within a quoted field a quote is written twice. Or the file was cut short: fetch the rest of it.",
         example: "",
     },
     Note {

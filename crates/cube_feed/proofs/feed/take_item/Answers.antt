@@ -12,7 +12,7 @@ pub loop-before-init : goal.loop-before-init
 loop-before-init g c = (
   omega arith,
   refl,
-  StillComes-refl (after_header c.args.schema.now c.args.rows.now.columns c.args.number c.args.rows.now.records.left),
+  StillComes-refl (after_header c.args.schema.now c.args.rows.now.columns c.args.number c.args.rows.now.text.left),
   λ whole. refl,
 )
 
@@ -20,31 +20,31 @@ pub returns-then-not-branch-clause-gives : goal.returns-then-not-branch-clause-g
 returns-then-not-branch-clause-gives g c =
     let s = c.args.schema.now in
     let columns = c.args.rows.now.columns in
-    let left = c.loop-before.rows.records.left in
-    let new = after_header s columns c.args.number c.advance.new.self.left in
+    let left = c.loop-before.rows.text.left in
+    let new = after_header s columns c.args.number c.take_record.new.text.left in
     rw c.loop-before.invariant.1
-    (StillComes-Gives (after_header s columns c.args.number c.args.rows.now.records.left)
+    (StillComes-Gives (after_header s columns c.args.number c.args.rows.now.text.left)
     (after_header s columns c.loop-before.before left)
     new (Ok None) c.loop-before.invariant.2
-    (none-Gives s columns c.loop-before.before left c.advance.new.self new
-    (rw c.if-not-branch.true at c.in_ok-advance.ensures.takes)))
+    (none-Gives s columns c.loop-before.before left c.take_record.new.text new
+    (rw c.if-not-branch.true at c.in_ok-take_record.ensures)))
 
 pub returns-then-is_read_at-clause-gives : goal.returns-then-is_read_at-clause-gives
 returns-then-is_read_at-clause-gives g c =
     let s = c.args.schema.now in
     let columns = c.args.rows.now.columns in
     let before = c.loop-before.before in
-    let left = c.loop-before.rows.records.left in
+    let left = c.loop-before.rows.text.left in
     let item = c.in_ok-item_of.field-0 in
     let same = c.loop-before.invariant.1 in
     let below : before < s.max_records = search rules in
     let read = rw (c.fields.ensures, same) at (sym c.is_read_at.ensures ∙ c.if-is_read_at.true) in
     rw (c.in_ok-item_of.ensures.kept.0, c.in_ok-item_of.ensures.kept.1, same)
-    (StillComes-Gives (after_header s columns c.args.number c.args.rows.now.records.left)
+    (StillComes-Gives (after_header s columns c.args.number c.args.rows.now.text.left)
     (after_header s columns before left)
-    (after_header s columns item.number c.advance.new.self.left) (Ok (Some item)) c.loop-before.invariant.2
-    (item-Gives s columns before left c.advance.new.self item below
-    (rw c.if-not-branch.false at c.in_ok-advance.ensures.takes) read
+    (after_header s columns item.number c.take_record.new.text.left) (Ok (Some item)) c.loop-before.invariant.2
+    (item-Gives s columns before left c.take_record.new.text item below
+    (rw c.if-not-branch.false at c.in_ok-take_record.ensures) read
     c.in_ok-item_of.ensures.number (rw same at c.in_ok-item_of.ensures.what)))
 
 pub returns-then-is_read_at-clause-taken : goal.returns-then-is_read_at-clause-taken
@@ -52,7 +52,7 @@ returns-then-is_read_at-clause-taken g c =
     let s = c.args.schema.now in
     let number = c.loop-before.before + 1 in
     rw c.in_ok-item_of.ensures.what
-    (takes-change_of s (plain_of s c.loop-before.rows.columns number c.advance.new.self.fields))
+    (takes-change_of s (plain_of s c.loop-before.rows.columns number c.take_record.new.text.fields))
 
 pub loop-before-preserved : goal.loop-before-preserved
 loop-before-preserved g c =
@@ -64,38 +64,9 @@ loop-before-preserved g c =
     let other = rw (c.fields.ensures, same) at (sym c.is_read_at.ensures ∙ c.if-is_read_at.false) in (
       omega arith,
       same,
-      StillComes-skip s columns before (after_header s columns c.args.number c.args.rows.now.records.left)
-          c.loop-before.rows.records.left c.advance.new.self below
-          (rw c.if-not-branch.false at c.in_ok-advance.ensures.takes) other c.loop-before.invariant.2,
+      StillComes-skip s columns before (after_header s columns c.args.number c.args.rows.now.text.left)
+          c.loop-before.rows.text.left c.take_record.new.text below
+          (rw c.if-not-branch.false at c.in_ok-take_record.ensures) other c.loop-before.invariant.2,
       λ whole. absurd (not_read-whole_feed s
-          (plain_of s columns (before + 1) c.advance.new.self.fields) whole other),
+          (plain_of s columns (before + 1) c.take_record.new.text.fields) whole other),
     )
-
-pub returns-then-branch-clause-gives : goal.returns-then-branch-clause-gives
-returns-then-branch-clause-gives g c =
-    let s = c.args.schema.now in
-    let columns = c.args.rows.now.columns in
-    let before = c.loop-before.before in
-    let left = c.loop-before.rows.records.left in
-    let new = after_header s columns c.args.number c.advance-2.new.self.left in
-    let full : nat_lt before s.max_records ≡ false = search rules in
-    rw c.loop-before.invariant.1
-    (StillComes-Gives (after_header s columns c.args.number c.args.rows.now.records.left)
-    (after_header s columns before left) new
-    (Err TooMany) c.loop-before.invariant.2
-    (too_many-Gives s columns before left c.advance-2.new.self new full
-    (rw c.if-branch.true at c.in_ok-advance-2.ensures.takes)))
-
-pub returns-clause-gives : goal.returns-clause-gives
-returns-clause-gives g c =
-    let s = c.args.schema.now in
-    let columns = c.args.rows.now.columns in
-    let before = c.loop-before.before in
-    let left = c.loop-before.rows.records.left in
-    let new = after_header s columns c.args.number c.advance-2.new.self.left in
-    rw c.loop-before.invariant.1
-    (StillComes-Gives (after_header s columns c.args.number c.args.rows.now.records.left)
-    (after_header s columns before left) new (Ok None)
-    c.loop-before.invariant.2
-    (none-Gives s columns before left c.advance-2.new.self new
-    (rw c.if-branch.false at c.in_ok-advance-2.ensures.takes)))

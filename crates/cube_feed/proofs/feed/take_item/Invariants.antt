@@ -8,6 +8,6 @@ abbrev pub invariant-loop-before : goal.invariant-loop-before
 invariant-loop-before g l =
     (l.number ≤ l.before)
     × (l.rows.columns ≡ l.initial.rows.columns)
-    × StillComes (after_header l.schema l.initial.rows.columns l.number l.initial.rows.records.left)
-    (after_header l.schema l.initial.rows.columns l.before l.rows.records.left)
+    × StillComes (after_header l.schema l.initial.rows.columns l.number l.initial.rows.text.left)
+    (after_header l.schema l.initial.rows.columns l.before l.rows.text.left)
     × (l.schema.shard ≡ whole_feed → l.before ≡ l.number)

@@ -1,7 +1,7 @@
-use Rattle.std.proofs.Common.{◌≡◌, false, sym, ◌∙◌}
+use Rattle.std.proofs.Common.{◌≡◌, false, refl, sym, ◌∙◌}
 use Rattle.std.specs.Prelude.{is_err}
 use Rattle.cube_feed.proofs.FaultLaws.{OnOk-holds}
-use Rattle.cube_ledger.proofs.FeedLaws.{HasTaken-none, HasTaken-more}
+use Rattle.cube_ledger.proofs.FeedLaws.{HasTaken-none, HasTaken-more, TakesFeed-all, fault-told}
 use Rattle.cube_ledger.proofs.build.take_items.Goals as goal
 
 pub loop-item-init : goal.loop-item-init
@@ -19,3 +19,15 @@ loop-item-preserved g c =
 
 pub returns-in-Err-clause-ok : goal.returns-in-Err-clause-ok
 returns-in-Err-clause-ok g c = tt
+
+pub returns-in-Ok-None-clause-ok : goal.returns-in-Ok-None-clause-ok
+returns-in-Ok-None-clause-ok g c bytes is =
+    TakesFeed-all c.args.feed.now.schema bytes c.args.feed.now.to_come c.args.source c.args.ledger.now c.loop-item.ledger
+    c.loop-item.feed c.next.new.self is c.loop-item.invariant (rw c.in-Ok-None.field-0-is at c.in-Ok-None.ensures.gives)
+
+pub returns-in-Err-clause-err : goal.returns-in-Err-clause-err
+returns-in-Err-clause-err g c bytes is = (
+  refl,
+  fault-told c.args.feed.now.schema bytes c.args.feed.now.to_come c.args.source c.args.ledger.now c.loop-item.ledger
+      c.loop-item.feed c.next.new.self c.in-Err.fault is c.loop-item.invariant c.in-Err.ensures.gives,
+)

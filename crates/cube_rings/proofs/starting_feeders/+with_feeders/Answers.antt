@@ -1,4 +1,4 @@
-use Rattle.std.proofs.Common.{arith, ap, sym, ◌≡◌, ◌≤◌, ◌+◌, ◌∷◌, [], ℕ, ◌∙◌, vec_len}
+use Rattle.std.proofs.Common.{arith, rules, ap, sym, ◌≡◌, ◌≤◌, ◌<◌, ◌+◌, ◌∷◌, [], ℕ, ◌∙◌, vec_len}
 use Rattle.std.proofs.lemmas.Bool.{eqb-true, eqb-false}
 use Rattle.std.proofs.lemmas.Result.{on_ok_weaker}
 use Rattle.cube_rings.specs.Starting.{HasGathered}
@@ -17,6 +17,9 @@ less-one all rest most count within = omega arith
 
 less-both : (all rest posts left : ℕ) → all ≡ rest + 1 → posts ≡ left + 1 → all ≤ posts → rest ≤ left
 less-both all rest posts left count posts_count within = omega arith
+
+falls-by : (all rest most : ℕ) → all ≡ most → all ≡ rest + 1 → rest < most
+falls-by all rest most is count = omega arith
 
 pub returns-then-is_empty-clause-ends : goal.returns-then-is_empty-clause-ends
 returns-then-is_empty-clause-ends g t c =
@@ -47,14 +50,8 @@ returns-clause-room g t c =
 pub returns-clause-gatherers : goal.returns-clause-gatherers
 returns-clause-gatherers g t c = c.keep_end.ensures.gatherers ∙ c.with_feeders-answer.ensures.gatherers
 
-pub with_feeders-answer-requires-clause-outlets : goal.with_feeders-answer-requires-clause-outlets
-with_feeders-answer-requires-clause-outlets g t c κs within =
-    let last = c.start_last-feeders.ensures in
-    All-append_front c.start_last-feeders.result.0.items (last.feeder ∷ [])
-    (λ feeder. (1 ≤ vec_len feeder.outlets) × (vec_len feeder.outlets ≤ 8)) (rw last.split at c.requires.outlets)
-
-pub with_feeders-answer-requires-clause-room : goal.with_feeders-answer-requires-clause-room
-with_feeders-answer-requires-clause-room g t c κs within =
+pub with_feeders-answer-requires : goal.with_feeders-answer-requires
+with_feeders-answer-requires g t c κs within =
     let last = c.start_last-feeders.ensures in
     let rest = c.start_last-feeders.result.0 in
     let count : c.args.feeders.len ≡ rest.len + 1 =
@@ -65,13 +62,44 @@ with_feeders-answer-requires-clause-room g t c κs within =
     ∙ length-last c.args.roster.now.posts.items c.pop.new.self.items c.unwrap-post.result
     (rw c.unwrap-post.ensures at c.pop.ensures.items)
     ∙ ap (λ (n : ℕ). n + 1) (sym c.pop.new.self.ok.0) in
-    let room = c.requires.room in
-    record {
-      most = less-one _ _ _ count room.most;
-      none = room.none;
-      room = less-one _ _ _ count room.room;
-      posts = less-both _ _ _ _ count posts room.posts;
-    }
+    let room = c.requires.room in (
+      falls-by c.args.feeders.len rest.len t c.decreases count,
+      (
+        within.0,
+        (
+          within.1.0,
+          (
+            within.1.1.0,
+            (
+              within.1.1.1,
+              (
+                search rules,
+                (
+                  search rules,
+                  (
+                    search rules,
+                    (
+                      All-append_front rest.items (last.feeder ∷ [])
+                          (λ feeder. (1 ≤ vec_len feeder.outlets) × (vec_len feeder.outlets ≤ 8))
+                          (rw last.split at c.requires.outlets),
+                      (
+                        record {
+                          most = less-one _ _ _ count room.most;
+                          none = room.none;
+                          room = less-one _ _ _ count room.room;
+                          posts = less-both _ _ _ _ count posts room.posts;
+                        },
+                        c.requires.ready,
+                      ),
+                    ),
+                  ),
+                ),
+              ),
+            ),
+          ),
+        ),
+      ),
+    )
 
 pub keep_end-requires : goal.keep_end-requires
 keep_end-requires g t c =

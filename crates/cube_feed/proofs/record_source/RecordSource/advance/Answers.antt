@@ -1,5 +1,5 @@
 use Rattle.cube_feed.proofs.RecordLaws.{ReadRecord-Advances}
-use Rattle.cube_feed.proofs.record_reader.RecordReader.advance.Goals as goal
+use Rattle.cube_feed.proofs.record_source.RecordSource.advance.Goals as goal
 
 pub returns-in-Ok-clause-takes : goal.returns-in-Ok-clause-takes
 returns-in-Ok-clause-takes g c =
