@@ -29,6 +29,7 @@ use Rattle.cube_store_commands.specs.Stored.{failure_of}
 use Rattle.cube_store_commands.proofs.ReplayLaws.{LeadsTo-schema, LeadsTo-stands}
 use Rattle.cube_tool.proofs.RunLaws.{Done-MayAnswer, IsTextOn-Tells, StandsUnder, Wrote-weaker, WroteFirst-weaker}
 use Rattle.cube_tool.proofs.RunLaws.{refused-under}
+use Rattle.cube_tool.proofs.SessionLaws.{AreWithin-live}
 use Rattle.cube_tool.specs.Answering.{AnswersOn, FailsOn, Fits, IsQueryFault, IsToldOf, MayAnswer, first_refusal}
 use Rattle.cube_tool.specs.Answering.{question_fault}
 use Rattle.cube_tool.specs.Command.{status_after}
@@ -67,6 +68,8 @@ AnsweredAt-ledger terms question cube status old new is answers arrivals stands 
     let stood = under cube arrivals is stands in
     record {
       wrote = Wrote-weaker (λ text. IsTextOn-Tells terms.conditions.items question text stood) answers.wrote;
+      asked = answers.asked;
+      within = AreWithin-live arrivals is stands.numbers;
       status_is = answers.status_is ∙ ap status_after (refused-under stood);
       strict = Done-MayAnswer (refusals_of_accounts cube.ledger.accounts) answers.status_is answers.may;
     }

@@ -22,6 +22,8 @@ use Rattle.cube_tool.specs.Command.{status_after}
 use Rattle.cube_tool.specs.Run.{OfFeeds}
 use Rattle.cube_tool.specs.declared.command.status.Status.{Status}
 use Rattle.cube_tool.proofs.RunLaws.{StandsUnder, refused-under}
+use Rattle.cube_tool.proofs.SessionLaws.{AreWithin-live}
+use Rattle.cube_tool.specs.Session.{AreWithin}
 use Rattle.cube_store_commands.specs.Stored.{BreaksStoredOver, FailsToServeStored, HasTooManyOver, ServesStoredOver}
 use Rattle.cube_store_commands.specs.Stored.{failure_of}
 
@@ -63,6 +65,8 @@ module _ {s : Layout} {sources : SourceBytes} (was : View) (notes : List Entry) 
             holds = subst (λ (rs : List (List (List ℕ))). AreReplies s start rs answered.text) whole answered.replies;
             written = answered.written;
           };
+          within = subst (λ (l : Layout). AreWithin l (arrivals_after s start taken)) schema
+              (AreWithin-live (arrivals_after s start taken) live (serves.stands opens.start opens.stands).numbers);
           status_is = is ∙ ap status_after (refused-under under);
           held = serves.held;
           leaves = serves.leaves;

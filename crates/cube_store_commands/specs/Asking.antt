@@ -1,5 +1,5 @@
 -- What a question over feeds and a store writes and leaves (this project's choice).
-use Rattle.std.specs.Prelude.{◌≡◌, ◌≢◌, ◌⊎◌, ℕ, true, List, map, Option, Some}
+use Rattle.std.specs.Prelude.{◌≡◌, ◌≢◌, ◌⊎◌, ℕ, true, List, map, Option, Some, None}
 use Rattle.sqlite_trees.specs.Tree.{Trees}
 use Rattle.sqlite_trees.specs.View.{View}
 use Rattle.cube_core.specs.Arrival.{Arrivals, of_sources}
@@ -16,6 +16,7 @@ use Rattle.cube_live.specs.Opening.{StartsOver}
 use Rattle.cube_store_commands.specs.Replay.{arrivals_from}
 use Rattle.cube_tool.specs.Answering.{MayAnswer, first_refusal, question_fault, status_over}
 use Rattle.cube_tool.specs.Run.{ExplainsRun, IsTextOn, OfFeeds, Wrote, WroteFirst}
+use Rattle.cube_tool.specs.Session.{AreWithin}
 use Rattle.cube_tool.specs.declared.command.failure.Failure.{Failure}
 use Rattle.cube_tool.specs.declared.command.failure.Failure.TheVariants.{Query, Run, LineRefused}
 use Rattle.cube_tool.specs.declared.command.status.Status.{Status}
@@ -37,11 +38,14 @@ abbrev pub IsTextAt : Terms → Question → Layout → Arrivals → List ℕ �
 IsTextAt terms question s arrivals text =
     IsTextOn terms.conditions.items question s (of_sources 64 arrivals) text
 
--- a question was answered on terms at an arrival list: its text was written whole, and the status tells whether an item
--- of it is refused, as none is where no line may be
+-- a question that isn't refused was answered on terms at an arrival list: its text was written whole, and the status
+-- tells whether an item of it is refused, as none is where no line may be; no source has a record past those that the
+-- schema takes
 pub record AnsweredAt (terms : Terms) (question : Question) (s : Layout) (arrivals : Arrivals) (status : Status)
     (old new : Option (List ℕ)) : Type 0 where
   pub wrote : Wrote (IsTextAt terms question s arrivals) old new
+  pub asked : question_fault s question ≡ None
+  pub within : AreWithin s arrivals
   pub status_is : status ≡ status_over s (of_sources 64 arrivals)
   pub strict : terms.is_strict ≡ true → status ≡ Done
 

@@ -20,6 +20,7 @@ use Rattle.cube_store_commands.specs.declared.session.StoredFault.TheVariants as
 use Rattle.cube_tool.specs.Answering.{status_over}
 use Rattle.cube_tool.specs.Command.{status_of}
 use Rattle.cube_tool.specs.Run.{ExplainsRun, OfFeeds, Wrote}
+use Rattle.cube_tool.specs.Session.{AreWithin}
 use Rattle.cube_tool.specs.declared.command.failure.Failure.TheVariants.{Run, Session}
 use Rattle.cube_tool.specs.declared.command.status.Status.{Status}
 use Rattle.cube_tool.specs.declared.command.status.Status.TheVariants.{Failed}
@@ -40,6 +41,7 @@ status_of_stored (TooMany source) = Failed
 
 -- a session over feeds and a store was served to its end: the replies to its records were written,
 -- from an arrival list that has the items of the feeds and then the stored changes;
+-- no source has a record past those that the schema takes;
 -- the store has the changes that it had and those of the session, and so leaves each crash
 pub record ServesStoredOver (s : Layout) (feeds : List (List Item)) (was : View) (notes : List Entry)
     (records : List (List (List ℕ))) (status : Status) (now : View) (Leaves : Trees → Type 0)
@@ -47,6 +49,7 @@ pub record ServesStoredOver (s : Layout) (feeds : List (List Item)) (was : View)
   pub start : Arrivals
   pub starts : StartsOver feeds start
   pub replied : Wrote (AreReplies s (arrivals_from s start (stored_in was)) records) old new
+  pub within : AreWithin s (arrivals_after s (arrivals_from s start (stored_in was)) records)
   pub status_is : status
       ≡ status_over s (of_sources 64 (arrivals_after s (arrivals_from s start (stored_in was)) records))
   pub held : held_in now ≡ stored_in was ++ changes_in s records

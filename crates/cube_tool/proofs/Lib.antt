@@ -4,5 +4,5 @@ mod CommandLaws
 mod MergingLaws
 mod QueryWordLaws
 mod AnsweringLaws
-mod SessionLaws
+pub mod SessionLaws
 mod SchemaFileLaws

@@ -1,20 +1,28 @@
 -- What a session over feeds writes and leaves, from where it was opened.
-use Rattle.std.proofs.Common.{◌≡◌, ℕ, List, length, take, ap, ◌∙◌, subst, arith}
+use Rattle.std.proofs.Common.{◌≡◌, ◌≤◌, ◌-◌, ℕ, List, length, take, ap, ◌∙◌, subst, arith}
 use Rattle.std.specs.Prelude.{Option, Some, None, IfSome}
 use Rattle.std.proofs.lemmas.List.{take_all}
+use Rattle.cube_core.specs.Arrival.{Arrivals}
 use Rattle.cube_core.specs.Layout.{Layout}
 use Rattle.cube_core.specs.Run.{SourceBytes}
+use Rattle.cube_ledger.specs.Ledger.{LedgerView}
 use Rattle.cube_live.proofs.RefusalLaws.{refusals_of_accounts}
-use Rattle.cube_live.specs.Live.{IsLive, LiveStandsAt, LiveView}
+use Rattle.cube_live.specs.Live.{AreLast, IsLive, LiveStandsAt, LiveView}
 use Rattle.cube_live.specs.Opening.{OpensOver}
 use Rattle.cube_live.specs.Serving.{Serves, ServingFails}
 use Rattle.cube_live.specs.Session.{AreReplies, arrivals_after}
 use Rattle.cube_live.specs.declared.session.SessionFault.{SessionFault}
 use Rattle.cube_tool.specs.Command.{status_after}
 use Rattle.cube_tool.specs.Run.{OfFeeds}
-use Rattle.cube_tool.specs.Session.{BreaksOver, ServesOver}
+use Rattle.cube_tool.specs.Session.{AreWithin, BreaksOver, ServesOver}
 use Rattle.cube_tool.specs.declared.command.status.Status.{Status}
 use Rattle.cube_tool.proofs.RunLaws.{StandsUnder, refused-under}
+
+-- no source of a cube that is kept right has an item past the last record that the schema takes
+pub AreWithin-live : {s : Layout} {ledger : LedgerView} {numbers : List ℕ} (arrivals : Arrivals)
+    → IsLive s ledger numbers → AreLast numbers arrivals → AreWithin s arrivals
+AreWithin-live {s = s} arrivals live last = λ source from to.
+    subst (λ (n : ℕ). n ≤ s.max_records) (last source from to) (live.at_most (source - 1))
 
 -- a session that was opened over feeds and served to its end
 served-over : {s : Layout} {sources : SourceBytes} (before after : LiveView) (records : Option (List (List (List ℕ))))
@@ -46,6 +54,7 @@ served-over {s = s} before after (Some taken) status old new opens live is serve
               subst (λ (rs : List (List (List ℕ))). AreReplies s opens.start rs served.0.text) whole served.0.replies;
           written = served.0.written;
         };
+        within = AreWithin-live (arrivals_after s opens.start taken) live served.1.numbers;
         status_is = is ∙ ap status_after (refused-under under);
       };
     }

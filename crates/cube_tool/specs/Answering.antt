@@ -66,11 +66,12 @@ Writes Holds (Ok _) old new = Wrote Holds old new
 Writes Holds (Err text_fault.Full) old new = new ≡ old
 Writes Holds (Err (text_fault.Write sent)) old new = WroteFirst Holds sent old new
 
--- what answering a question over these facts and refusals comes to: its text was written whole, or its first bytes,
--- as many as the failure says, or nothing, where the question is refused or memory ran out
+-- what answering a question over these facts and refusals comes to: its text was written whole, where the question
+-- isn't refused, or its first bytes, as many as the failure says, or nothing, where it is refused or memory ran out
 abbrev pub Answers : {T : Type 0} → Question → Layout → List Fact → List (List Refusal) → Result T Failure
     → Option (List ℕ) → Option (List ℕ) → Type 0
-Answers question s facts refusals (Ok _) old new = Wrote (Tells question s facts refusals) old new
+Answers question s facts refusals (Ok _) old new =
+    Wrote (Tells question s facts refusals) old new × (question_fault s question ≡ None)
 Answers question s facts refusals (Err (Query fault)) old new = (new ≡ old) × IsQueryFault s question fault
 Answers question s facts refusals (Err (Run run_fault.Full)) old new = (new ≡ old) × (question_fault s question ≡ None)
 Answers question s facts refusals (Err (Run (run_fault.Write sent))) old new =
@@ -105,11 +106,12 @@ IsFirstRefusal is_strict refusals (LineRefused source number code) =
     (is_strict ≡ true) × (first_refusal 1 refusals ≡ Some (source, refusal number code))
 IsFirstRefusal is_strict refusals _ = ⊥
 
--- what answering a question over these facts and refusals on terms comes to: where it may be answered its text was
--- written whole, and the status tells whether a line was refused
+-- what answering a question over these facts and refusals on terms comes to: where it may be answered, and isn't
+-- refused, its text was written whole, and the status tells whether a line was refused
 pub record AnswersOn (is_strict : Bool) (question : Question) (s : Layout) (facts : List Fact)
     (refusals : List (List Refusal)) (status : Status) (old new : Option (List ℕ)) : Type 0 where
   pub wrote : Wrote (Tells question s facts refusals) old new
+  pub asked : question_fault s question ≡ None
   pub status_is : status ≡ status_after refusals
   pub may : MayAnswer is_strict refusals
 

@@ -1,11 +1,11 @@
 //! The commands over feeds: a question is asked of what is built of them.
-ghost use Rattle.std.specs.Prelude.{◌≡◌, ◌≤◌, true, map, vec_len, IfOk, IfErr, OnOk};
+ghost use Rattle.std.specs.Prelude.{◌≡◌, ◌≤◌, true, map, vec_len, None, IfOk, IfErr, OnOk};
 ghost use Rattle.cube_core.specs.Conditions.{of_interest};
 ghost use Rattle.cube_ledger.specs.Interest.{ledger_of_interest};
 ghost use Rattle.cube_ledger.specs.Ledger.{all_facts};
 ghost use Rattle.cube_build.specs.Parts.{facts_of_run, first_ledger, schema_of_run};
 ghost use Rattle.cube_tool.specs.Answering.{AnswersOn, FailsOn, FailsOnTerms, Fits, HasTakenOn, IsFirstRefusal, MayAnswer};
-ghost use Rattle.cube_tool.specs.Answering.{refusals_of_run, status_over};
+ghost use Rattle.cube_tool.specs.Answering.{question_fault, refusals_of_run, status_over};
 ghost use Rattle.cube_tool.specs.Run.{IsTextOn, OfFeeds, Wrote};
 
 use crate::answers::{answer, first_builder, has_builder};
@@ -27,7 +27,8 @@ use std::thread::Threads;
 /// conditions, over the facts alone of which all hold, and where no line may be refused, it fails by the first refusal.
 /// The watcher is the gate of the reading, and is told what begins once the feeds have ended.
 ///
-/// What was built comes back with the status, which tells whether a line of a feed was refused. Nothing was written on
+/// What was built comes back with the status, which tells whether a line of a feed was refused; a question that is to be
+/// refused never is answered. Nothing was written on
 /// a failure, but where the writing failed: then the first bytes went out, as many as the failure says. Once all feeds
 /// were taken and before anything is written, the first refusal is told, where none may be; then a drill-down may be
 /// refused: its key isn't ALL in the dimension, its grouping set with the dimension isn't kept, or memory ran out.
@@ -50,6 +51,7 @@ pub fn ask<T: Threads + Wait + Sync, R: Read + Drop + Send, G: Gate + Reporter +
         × (ended.0 ≡ status_over schema.now feeds)
         × (terms.now.is_strict ≡ true → ended.0 ≡ Status.Done)
         × HasTakenOn terms.now.conditions.items schema.now settings.now.builders feeds ended.1)) }
+    ensures asked { OnOk result (question_fault schema.now question.now ≡ None) }
     ensures err { IfErr result (λ failure. FailsOnTerms terms.now question.now schema.now
         (map R.Read.remaining readers.items) failure (W.contents out.old) (W.contents out.new)) }
 {

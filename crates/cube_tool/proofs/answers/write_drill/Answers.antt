@@ -50,8 +50,11 @@ returns-in_err-write_rows g c =
 pub returns : goal.returns
 returns g c =
     let given = DrillsDown-given c.args.dimension c.args.key.now c.args.schema.now c.args.built.now c.in_ok-rows.rows
-    c.requires.schema c.in_ok-rows.ensures in
-    Wrote-weaker
-    (λ text is. IsTextWhere-rows (drills_down c.args.dimension c.args.key.now) c.args.schema.now c.args.built.now
-    c.in_ok-rows.rows.items text c.requires.schema given.are_rows (rw c.deref.ensures.value at is))
-    c.in_ok-write_rows.ensures
+    c.requires.schema c.in_ok-rows.ensures in (
+      Wrote-weaker
+          (λ text is. IsTextWhere-rows (drills_down c.args.dimension c.args.key.now) c.args.schema.now
+          c.args.built.now c.in_ok-rows.rows.items text c.requires.schema given.are_rows
+          (rw c.deref.ensures.value at is))
+          c.in_ok-write_rows.ensures,
+      given.lawful,
+    )

@@ -22,7 +22,8 @@ returns-in_err-answer-clause-err g c =
 
 pub returns-clause-ok : goal.returns-clause-ok
 returns-clause-ok g c = record {
-  wrote = c.in_ok-answer.ensures;
+  wrote = c.in_ok-answer.ensures.0;
+  asked = c.in_ok-answer.ensures.1;
   status_is = c.status_of_run.ensures;
   may = c.in_ok-refuse_none.ensures.may;
 }

@@ -21,3 +21,6 @@ pub returns-clause-ok : goal.returns-clause-ok
 returns-clause-ok g c =
     let builds = rw c.as_slice-conditions.ensures.value at c.in_ok-built.ensures.ok in
     OfFeeds-where c.has_builder.ensures builds c.in_ok-status.ensures.ok
+
+pub returns-clause-asked : goal.returns-clause-asked
+returns-clause-asked g c = c.in_ok-status.ensures.ok.asked

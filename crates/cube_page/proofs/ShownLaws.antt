@@ -1,0 +1,36 @@
+-- From a run on one thread to what a page is shown.
+use Rattle.std.proofs.Common.{◌≡◌, ◌∙◌, ℕ, List, [], length, map, sym, subst, ap}
+use Rattle.std.specs.Prelude.{Some}
+use Rattle.cube_core.proofs.ListLaws.{AllZip-length}
+use Rattle.cube_core.specs.Layout.{Layout}
+use Rattle.cube_core.specs.Run.{SourceBytes, AreItemsOf}
+use Rattle.cube_core.specs.Text.{text_of_refusals}
+use Rattle.cube_build.specs.Builder.{BuilderView, StandsAt}
+use Rattle.cube_live.proofs.RefusalLaws.{refusals_of_accounts}
+use Rattle.cube_tool.specs.Run.{IsTextOf, OfFeeds, StandsOver, Wrote}
+use Rattle.cube_tool.specs.declared.question.Question.TheVariants.{Cube, Refusals}
+use Rattle.cube_tool.proofs.RunLaws.{refused-StandsOver}
+
+-- a text that was written alone is the cube's, and the refusals of the builder are those of the feeds
+pub OfFeeds-shown : {s : Layout} {sources : SourceBytes} {builder : BuilderView} {cube refusals : List ℕ}
+    → builder.ledger.schema ≡ s → length builder.ledger.accounts ≡ length sources
+    → refusals ≡ text_of_refusals (refusals_of_accounts builder.ledger.accounts)
+    → OfFeeds s sources (λ feeds. Wrote (IsTextOf Cube s feeds) (Some []) (Some cube)
+    × StandsOver (StandsAt builder) feeds)
+    → OfFeeds s sources (λ feeds. IsTextOf Cube s feeds cube × IsTextOf Refusals s feeds refusals)
+OfFeeds-shown {s = s} {sources = sources} {builder = builder} schema all refused of =
+    let wrote = of.holds.0 in
+    record {
+      feeds = of.feeds;
+      good = of.good;
+      items = of.items;
+      holds = (
+        subst (IsTextOf Cube s of.feeds) (sym wrote.written) wrote.holds,
+        record {
+          facts = wrote.holds.facts;
+          survive = wrote.holds.survive;
+          tells = refused ∙ ap text_of_refusals (refused-StandsOver {builder = builder} schema
+              (all ∙ AllZip-length (AreItemsOf s) sources of.feeds of.items) of.holds.1);
+        },
+      );
+    }
