@@ -4,8 +4,8 @@
     scripts/promises.py                   prints the tables; scripts/documents.py writes them into the page
 
 A call has a row: the first sentence of its documentation, the clauses of its contract by their names (one without a name
-as it stands there, unless it is long), and its error with what the documentation says of it; one that may wait for another thread is marked. The types of errors have a table of
-their own, with what each variant means.
+as it stands there, unless it is long), and its error with what the documentation says of it; one that may wait for another
+thread is marked. The types of errors have a table of their own, with what each variant means.
 """
 import collections
 import os
