@@ -12,7 +12,7 @@ import sys
 
 ROOT = os.path.dirname(os.path.dirname(os.path.realpath(__file__)))
 LINE = re.compile(r"^(\w+)[^:#\n]*:(.*)$", re.MULTILINE)
-WIDE, HIGH, ACROSS, DOWN, EDGE = 124, 26, 12, 34, 14
+WIDE, HIGH, ACROSS, DOWN, EDGE = 140, 26, 12, 34, 14
 STYLE = """<style>
 rect { fill: #f4f4f4; stroke: #888 } rect.program { fill: #d9e8fb; stroke: #2f6fb5 }
 text { fill: #111; font: 12px sans-serif; text-anchor: middle } path { fill: none; stroke: #9a9a9a }

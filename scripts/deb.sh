@@ -16,8 +16,9 @@ files=$room/files/usr
 rm "$files/share/doc/datacube/folders"
 version=$("$files/bin/datacube" --version)
 version=${version#datacube }
-gzip -9n "$files/share/man/man1/datacube.1" "$files/share/doc/datacube/CHANGELOG.md"
-mv "$files/share/doc/datacube/CHANGELOG.md.gz" "$files/share/doc/datacube/changelog.gz"
+gzip -9n "$files/share/man/man1/datacube.1"
+# (documents name CHANGELOG.md, so that stays too)
+gzip -9nc "$files/share/doc/datacube/CHANGELOG.md" >"$files/share/doc/datacube/changelog.gz"
 mv "$files/share/doc/datacube/NOTICES" "$files/share/doc/datacube/copyright"
 mkdir -p "$files/share/zsh/vendor-completions"
 mv "$files/share/zsh/site-functions/_datacube" "$files/share/zsh/vendor-completions/_datacube"

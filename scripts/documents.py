@@ -8,9 +8,10 @@ README.md and docs/DEFINITIONS.md say of the bounds of a schema from its definit
                                                      docs/PROMISES.md (scripts/promises.py), the last column of the
                                                      crates in docs/ARCHITECTURE.md and their map, docs/crates.svg, and
                                                      the bounds in README.md and docs/DEFINITIONS.md
-    scripts/documents.py --check [--program PATH]    says what of them isn't what the program or the code says, and which
-                                                     functions docs/ARCHITECTURE.md names that aren't there; the last
-                                                     line is `N passed, M failed`, and it fails where something isn't
+    scripts/documents.py --check [--program PATH]    says what of them isn't what the program or the code says, which
+                                                     functions docs/ARCHITECTURE.md names that aren't there, and which
+                                                     words of contracts README.md and docs/PROMISES.md do; the last line
+                                                     is `N passed, M failed`, and it fails where something isn't
 
 The program is the one at PATH, else the one that `./datacube` would run. In docs/FORMATS.md a table stands between
 `<!-- codes: ABOUT -->` and `<!-- end of codes -->`; ABOUT is what the program's notes say that a code is about. The table
@@ -43,6 +44,9 @@ CRATES = f"{ROOT}/crates.txt"
 CRATE = re.compile(r"^(\w+)[^:#\n]*:(.*)$", re.MULTILINE)
 ROW = re.compile(r"^(\| `(\w+)` \| [^|]* \| )[^|]* \|$", re.MULTILINE)
 FUNCTION = re.compile(r"`(\w+)::(?:\w+::)*(\w+)`")
+# a clause, a law or another word of the code, as documents name it, and the sections that say what is proved
+NAMED = re.compile(r"`(?:\w+::)*([A-Za-z]\w+)`")
+PROVED = re.compile(r"^## What is proved\n(.*?)^## ", re.DOTALL | re.MULTILINE)
 # where it stands what there is to do at each code, an entry there, and what FORMATS calls the kinds of files and of headers
 ADVICE_CODE = f"{ROOT}/crates/cube_why/src/advice.rt"
 ADVICE = re.compile(r'    Advice \{\n        code: "(.*?)",\n        lines: &\[(.*?)\],\n    \},', re.DOTALL)
@@ -66,7 +70,7 @@ BOUNDED = {
     ],
     README: ["at most {dimensions} dimensions, {measures} measures and {sources} feeds"],
 }
-# what README.md says in its first lines, so many
+# how many lines of README.md a newcomer surely reads, and what these have to say
 FIRST_LINES = 20
 FIRST_SAID = ["whole numbers of 64 bits", "decimals", "dimensions", "status 4", "Licence: none has been chosen yet"]
 
@@ -157,6 +161,14 @@ def lost_functions(text):
 def code_of(crate):
     """The text of all files of a crate's code."""
     return "".join(text_at(path) for path in sorted(glob.glob(f"{ROOT}/crates/{crate}/src/**/*.rt", recursive=True)))
+
+
+def lost_words(paths):
+    """The words of contracts and of definitions that documents name where they say what is proved, and that aren't there."""
+    named = {(path, word) for path in paths for word in NAMED.findall(PROVED.search(text_at(path))[1])}
+    files = (it for kind in ("src/**/*.rt", "specs/**/*.antt") for it in glob.glob(f"{ROOT}/crates/*/{kind}", recursive=True))
+    words = {word for path in files for word in re.findall(r"\w+", text_at(path))} | {it for it, _ in CRATE.findall(text_at(CRATES))}
+    return [f"{os.path.relpath(path, ROOT)} names {word}" for path, word in sorted(named) if word not in words]
 
 
 def bounds():
@@ -337,11 +349,11 @@ def main():
         stale = [path for path, text in documents.items() if text_at(path) != text]
         for path in stale:
             print(f"FAILED: {os.path.relpath(path, ROOT)} isn't what the program or the code says: scripts/documents.py writes it anew")
-        lost = lost_functions(text_at(ARCHITECTURE))
-        for name in lost:
-            print(f"FAILED: docs/ARCHITECTURE.md names {name}, which isn't there")
-        failed = len(stale) + len(lost)
-        print(f"{len(documents) + 1 - len(stale) - (len(lost) > 0)} passed, {failed} failed")
+        lost = [[f"docs/ARCHITECTURE.md names {it}" for it in lost_functions(text_at(ARCHITECTURE))], lost_words([README, PROMISES])]
+        for name in sum(lost, []):
+            print(f"FAILED: {name}, which isn't there")
+        failed = len(stale) + len(sum(lost, []))
+        print(f"{len(documents) + len(lost) - len(stale) - sum(map(bool, lost))} passed, {failed} failed")
         return 1 if failed else 0
     for path, text in documents.items():
         os.makedirs(os.path.dirname(path), exist_ok=True)

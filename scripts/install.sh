@@ -48,15 +48,9 @@ completions/_datacube share/zsh/site-functions/_datacube 644
 completions/datacube.fish share/fish/vendor_completions.d/datacube.fish 644
 release/NOTICES $documents/NOTICES 644
 END
-    for file in CHANGELOG.md README.md explorer/index.html docs/progress.png examples/first/feed.csv \
-        examples/first/cube.csv examples/live/README.md examples/serve/datacube-serve.service; do
+    for file in CHANGELOG.md README.md docs/*.md docs/*.svg docs/*.png docs/explorer/*.png explorer/index.html \
+        examples/first/feed.csv examples/first/cube.csv examples/live/README.md examples/serve/datacube-serve.service; do
         echo "$file $documents/$file 644"
-    done
-    for name in EXPLORER FORMATS POSTGRES PYTHON SERVE SQL STORE TUTORIAL; do
-        echo "docs/$name.md $documents/docs/$name.md 644"
-    done
-    for name in dark days heat million start table; do
-        echo "docs/explorer/$name.png $documents/docs/explorer/$name.png 644"
     done
     for name in schema.toml market.csv street.csv online.csv cube.csv drill.csv refusals.csv slice.csv; do
         echo "examples/shop/$name $documents/examples/shop/$name 644"

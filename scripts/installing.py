@@ -21,6 +21,7 @@ import tempfile
 import time
 
 sys.dont_write_bytecode = True
+import links
 import programs
 
 ROOT = programs.ROOT
@@ -248,7 +249,8 @@ def installs(copy):
     for path in examples():
         holds(os.path.exists(f"{documents}/{path}"), f"{path} isn't installed")
     ran = subprocess.run(["../../datacube", "print", *SHOP], cwd=f"{documents}/examples/shop", stdout=subprocess.PIPE)
-    expect(ran.stdout, content(f"{ROOT}/examples/shop/cube.csv"), "the shop's cube, as README has it")
+    expect(ran.stdout, content(f"{ROOT}/examples/shop/cube.csv"), "the shop's cube, as the tutorial has it")
+    lead_somewhere(documents)
     put(f"{caller}/new/prefix/share/doc/datacube/mine", b"")
     for prefix in ("there", "new/prefix"):
         expect(copy.run("scripts/install.sh", "--uninstall", prefix, folder=caller)[0], 0, "taking away")
@@ -259,6 +261,15 @@ def installs(copy):
     holds(os.path.exists(f"{copy.folder}/stage/below/usr/bin/datacube"), "nothing is below DESTDIR")
     copy.run("scripts/install.sh", "--uninstall", "/usr", **stage)
     holds(not os.path.exists(f"{copy.folder}/stage"), "folders are left below DESTDIR")
+
+
+def lead_somewhere(documents):
+    """What installed documents link to, and the documents that they name, are there; one that isn't is noticed."""
+    expect(links.lost_where_installed(documents), [], "links of installed documents that lead nowhere")
+    os.rename(f"{documents}/docs/PROMISES.md", f"{documents}/kept")
+    lost = links.lost_where_installed(documents)
+    os.rename(f"{documents}/kept", f"{documents}/docs/PROMISES.md")
+    holds(any(it.startswith("README.md: ") for it in lost), f"a document that isn't there isn't noticed: {lost}")
 
 
 def examples():
@@ -305,6 +316,7 @@ def packs(copy):
     documents = f"{usr}/share/doc/datacube"
     for path in ("docs/FORMATS.md", "explorer/index.html", "README.md", "changelog.gz", "copyright", *examples()):
         holds(os.path.exists(f"{documents}/{path}"), f"{path} isn't in the package")
+    expect(links.lost_where_installed(documents), [], "links of the package's documents that lead nowhere")
     holds(not os.path.exists(f"{documents}/folders"), "the package has notes of an installation")
     with gzip.open(f"{usr}/share/man/man1/datacube.1.gz") as page:
         expect(page.read(), content(f"{copy.root}/docs/datacube.1"), "the manual page")

@@ -31,11 +31,25 @@ WRONG, WRONG_TEXT = "docs/wrong.md", """[a file](NONE.md)
 
 def lost():
     """For each document the links that lead nowhere, and so for one that has some of each kind."""
-    texts = {WRONG: WRONG_TEXT}
-    for path in sorted(it for pattern in DOCUMENTS for it in glob.glob(f"{ROOT}/{pattern}")):
+    texts = {WRONG: WRONG_TEXT, **texts_below(ROOT)}
+    finds = (lost_links, lost_documents, lost_files, lost_titles)
+    return {name: [it for find in finds for it in find(name, texts)] for name in texts}
+
+
+def lost_where_installed(root):
+    """The links of the documents below a folder that is laid out as the repository, and the documents that they name, which
+    aren't there."""
+    texts = texts_below(root)
+    return [f"{name}: {it}" for name in texts for find in (lost_links, lost_documents) for it in find(name, texts, root)]
+
+
+def texts_below(root):
+    """The documents below the repository, or below what is laid out as it is, without their blocks."""
+    texts = {}
+    for path in sorted(it for pattern in DOCUMENTS for it in glob.glob(f"{root}/{pattern}")):
         with open(path, encoding="utf-8") as file:
-            texts[os.path.relpath(path, ROOT)] = FENCED.sub("", file.read())
-    return {name: [it for find in (lost_links, lost_files, lost_titles) for it in find(name, texts)] for name in texts}
+            texts[os.path.relpath(path, root)] = FENCED.sub("", file.read())
+    return texts
 
 
 def titles_of(text):
@@ -48,28 +62,43 @@ def anchor_of(title):
     return re.sub(r"[^\w -]", "", title.lower()).replace(" ", "-")
 
 
-def lost_links(name, texts):
+def lost_links(name, texts, root=ROOT):
     """The links of a document to files and titles that aren't there."""
     for path, anchor in LINK.findall(CODED.sub("", texts[name])):
         if "://" in path:
             continue
-        to = os.path.normpath(f"{os.path.dirname(name)}/{path}") if path else name
-        if path and not os.path.exists(f"{ROOT}/{to}"):
+        to = os.path.normpath(os.path.join(os.path.dirname(name), path)) if path else name
+        if path and not os.path.exists(f"{root}/{to}"):
             yield f"there is no {to}"
         elif anchor and anchor not in map(anchor_of, titles_of(texts.get(to, ""))):
             yield f"{to} has no title #{anchor}"
 
 
-def lost_files(name, texts):
-    """The files of the repository that code in a document's lines names, and that aren't there."""
-    for path in sorted({word for code in CODED.findall(texts[name]) for word in PATH.findall(code)}):
-        begin, is_document = path.partition("/")[0], path.endswith(".md")
-        if not is_document and ("/" not in path or begin not in TOPS | CRATES):
+def paths_in(text):
+    """The paths that code in a document's lines names."""
+    return sorted({word for code in CODED.findall(text) for word in PATH.findall(code)})
+
+
+def lost_documents(name, texts, root=ROOT):
+    """The documents that code in a document's lines names, and that aren't there. One in a folder that isn't installed is
+    named by its place in the repository."""
+    for path in (it for it in paths_in(texts[name]) if it.endswith(".md")):
+        folder = path.partition("/")[0]
+        if folder in TOPS and not os.path.exists(f"{root}/{folder}"):
             continue
-        places = (os.path.dirname(name), "", "docs") if is_document else ("crates" if begin in CRATES else "",)
-        tried = [os.path.join(ROOT, it, ANY.sub("*", path)) for it in places]
+        if not any(glob.glob(os.path.join(root, it, ANY.sub("*", path))) for it in (os.path.dirname(name), "", "docs")):
+            yield f"there is no {path}"
+
+
+def lost_files(name, texts):
+    """The other files of the repository that code in a document's lines names, and that aren't there."""
+    for path in paths_in(texts[name]):
+        folder, below, _ = path.partition("/")
+        if path.endswith(".md") or not below or folder not in TOPS | CRATES:
+            continue
+        named = f"{ROOT}/{'crates/' if folder in CRATES else ''}{ANY.sub('*', path)}"
         # (a file of definitions may be named without its ending)
-        if not any(glob.glob(it) or glob.glob(f"{it}.antt") for it in tried):
+        if not glob.glob(named) and not glob.glob(f"{named}.antt"):
             yield f"there is no {path}"
 
 

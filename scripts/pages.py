@@ -47,6 +47,7 @@ SQL = "docs/SQL.md"
 # The pages, and where in the repository the reader of each stands.
 PAGES = {
     "README.md": ".",
+    "docs/INSTALL.md": ".",
     "docs/TUTORIAL.md": ".",
     "docs/STORE.md": "examples/shop",
     SQL: "examples/shop",

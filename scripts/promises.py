@@ -3,10 +3,11 @@
 
     scripts/promises.py                   prints the tables; scripts/documents.py writes them into the page
 
-A call has a row: the first sentence of its documentation, the names of the clauses of its contract, and its error with
-what the documentation says of it; one that may wait for another thread is marked. The types of errors have a table of
-their own, with what each variant means.
+A call has a row: the first sentence of its documentation, the clauses of its contract by their names (one without a name
+as it stands there, unless it is long), and its error with what the documentation says of it; one that may wait for another
+thread is marked. The types of errors have a table of their own, with what each variant means.
 """
+import collections
 import os
 import re
 import sys
@@ -15,6 +16,8 @@ ROOT = os.path.dirname(os.path.dirname(os.path.realpath(__file__)))
 # the crates of the library, from the values up
 CRATES = ["cube_core", "cube_files", "cube_feed", "cube_values", "cube_cells", "cube_ledger", "cube_rings", "cube_build", "cube_console", "cube_writing",
           "cube_text", "cube_tool", "cube_live", "merge_lines", "cube_merge", "cube_library", "cube_store", "cube_store_commands"]
+# (the longest clause that stands in a table, in characters)
+LONGEST = 120
 PLACE = re.compile(r"(<!-- promises -->\n).*?(<!-- end of promises -->)", re.DOTALL)
 
 OWNER = re.compile(r"(impl|pub trait|trait)(?:<.*?>)? (\w+)")
@@ -26,16 +29,20 @@ USE = re.compile(r"pub use ([\w:]+?)(?:::\{(.*?)\})?;", re.DOTALL)
 OF_ERRORS = re.compile(r"\b(errors?|faults?|failures?|memory|refused|wanting|gives? it back|given back)\b")
 
 
+# A clause of a contract: `requires` or `ensures`, its name or None, and what it says.
+Clause = collections.namedtuple("Clause", "kind name text")
+
+
 class Call:
     """A function: its names, documentation, the clauses of its contract, and the type of its error or ''."""
 
     def __init__(self, owner, name, doc, head):
         self.owner, self.name, self.doc = owner, name, doc
-        found = [CLAUSE.match(line) for line in head]
-        first = next((at for at, it in enumerate(found) if it), len(head))
-        self.asks = [it[2] for it in found if it and it[1] == "requires"]
-        self.promises = [it[2] for it in found if it and it[1] == "ensures"]
-        signature = " ".join(line.strip() for line in head[:first])
+        starts = [at for at, line in enumerate(head) if CLAUSE.match(line)] + [len(head)]
+        clauses = [clause_of(head[at:end]) for at, end in zip(starts, starts[1:])]
+        self.asks = [it for it in clauses if it.kind == "requires"]
+        self.promises = [it for it in clauses if it.kind == "ensures"]
+        signature = " ".join(line.strip() for line in head[: starts[0]])
         self.error, self.waits = error_of(signature), re.search(r"\bWait\b", signature) is not None
 
 
@@ -88,6 +95,13 @@ class Module:
             if line.endswith(";") and is_trait or not CLAUSE.match(line) and line.endswith(" {"):
                 break
         self.calls.append(Call(name, opened[3], text_of(doc), head))
+
+
+def clause_of(lines):
+    """The clause that stands in these lines."""
+    found = CLAUSE.match(lines[0])
+    whole = " ".join(line.strip() for line in lines)
+    return Clause(found[1], found[2], whole[whole.index("{") + 1 : whole.rindex("}")].strip())
 
 
 def one_of(path):
@@ -172,11 +186,11 @@ def cell(text):
     return text.replace("|", "\\|")
 
 
-def clauses(names):
-    """The names of clauses; those without a name are counted."""
-    unnamed = names.count(None)
-    told = [f"`{it}`" for it in names if it]
-    return ", ".join(told + ([f"{unnamed} unnamed" if told else "one clause"] if unnamed else []))
+def clauses_told(clauses):
+    """Clauses by their names; those without one as they stand, except for long ones, which are counted."""
+    told = [f"`{it.name or it.text}`" for it in clauses if it.name or len(it.text) <= LONGEST]
+    others = len(clauses) - len(told)
+    return ", ".join(told + ([f"{others} unnamed" if told else "one clause"] if others else []))
 
 
 def error_told(call):
@@ -196,7 +210,7 @@ def tables_of(crate):
         if not call.doc:
             sys.exit(f"{crate.name}: {name} has no documentation")
         named = f"`{name}`" + " (waits)" * call.waits
-        cells = [named, sentences(call.doc)[0], clauses(call.asks), clauses(call.promises), error_told(call)]
+        cells = [named, sentences(call.doc)[0], clauses_told(call.asks), clauses_told(call.promises), error_told(call)]
         made.append("| " + " | ".join(map(cell, cells)) + " |")
     if crate.calls:
         made.append("")

@@ -35,7 +35,7 @@ def read(name):
 
 
 class Shop(unittest.TestCase):
-    """The shop's sales, as README tells of them."""
+    """The shop's sales, as docs/TUTORIAL.md tells of them."""
 
     def test_cube(self):
         cube = jackraisin.cube(SCHEMA, FEEDS)
