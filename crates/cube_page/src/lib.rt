@@ -13,10 +13,9 @@ mod room;
 mod schema;
 mod shown;
 
-use cube_files::Asked;
 use room::hand;
-use schema::{asked_in, made_schema, told_of_guess};
-use shown::{shown, told};
+use schema::{made_schema, told_of_guess};
+use shown::{show, told};
 use std::alloc::Global;
 
 /// There is an answer.
@@ -48,11 +47,7 @@ pub extern "C" fn page_schema(
 ) -> u32
     ensures { result ≡ 0 → HandsSchema room.new size.new }
 {
-    let made = match asked_in(alloc, by, of) {
-        Ok(asked) => made_schema(alloc, start, is_whole, asked),
-        Err(fault) => Err(fault),
-    };
-    match made {
+    match made_schema(alloc, start, is_whole, by, of) {
         Ok(text) => {
             hand(text.as_bytes(), room, size);
             ANSWERED
@@ -81,7 +76,7 @@ pub extern "C" fn page_run(
     ensures { result ≡ 0 → HandsShown schema.now (feeds_in lengths.now feeds.now)
         cube.new sizes.new.cube refusals.new sizes.new.refusals }
 {
-    match shown(alloc, schema, feeds, lengths) {
+    match show(alloc, schema, feeds, lengths) {
         Ok(shown) => {
             hand(&shown.cube, cube, &mut sizes.cube);
             hand(&shown.refusals, refusals, &mut sizes.refusals);

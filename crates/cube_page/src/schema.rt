@@ -7,12 +7,8 @@ use cube_files::{Asked, GuessFault, SAMPLE_BYTES, schema_text};
 use std::alloc::Global;
 use std::str;
 
-/// What the texts of two options ask for, where they are texts; nothing where one is empty.
-pub(crate) fn asked_in<'w>(
-    alloc: Global,
-    by: &'w [u8],
-    of: &'w [u8],
-) -> Result<Asked<'w>, GuessFault> {
+// What the texts of two options ask for, where they are texts; nothing where one is empty.
+fn asked_in<'w>(alloc: Global, by: &'w [u8], of: &'w [u8]) -> Result<Asked<'w>, GuessFault> {
     match (str::from_utf8(by), str::from_utf8(of)) {
         (Ok(by), Ok(of)) => Ok(Asked {
             by: unless_empty(by),
@@ -26,15 +22,18 @@ fn unless_empty(text: &str) -> Option<&str> {
     if text.is_empty() { None } else { Some(text) }
 }
 
-/// The text of the schema of a file that begins with these bytes, of which no more are looked at than of any file.
+/// The text of the schema of a file that begins with these bytes, of which no more are looked at than of any file; two
+/// texts ask for its dimensions and measures.
 pub(crate) fn made_schema(
     alloc: Global,
     start: &[u8],
     is_whole: bool,
-    asked: Asked,
+    by: &[u8],
+    of: &[u8],
 ) -> Result<String, GuessFault>
     ensures { IfOk result (λ text. IsSchemaText (string_bytes text)) }
 {
+    let asked = asked_in(alloc, by, of)?;
     match start.get(..SAMPLE_BYTES) {
         Some(sample) if sample.len() < start.len() => schema_text(alloc, sample, false, asked),
         _ => schema_text(alloc, start, is_whole, asked),

@@ -19,7 +19,7 @@ pub(crate) struct Shown {
 ///
 /// The failure is that there are more, the schema's, or why the feeds were not taken: that of the lowest source at fault,
 /// or that memory ran out.
-pub(crate) fn shown(
+pub(crate) fn show(
     alloc: Global,
     schema: &[u8],
     feeds: &[u8],
@@ -33,15 +33,15 @@ pub(crate) fn shown(
     }
     let schema = read_schema(alloc, schema)?;
     match feeds_in(alloc, feeds, lengths) {
-        Ok(readers) => shown_under(alloc, &schema, readers),
+        Ok(readers) => show_under(alloc, &schema, readers),
         Err(_) => Err(Failure::Run(RunFault::Memory)),
     }
 }
 
 // Takes feeds under a schema.
-fn shown_under(alloc: Global, schema: &Schema, readers: Vec<&[u8]>) -> Result<Shown, Failure>
+fn show_under(alloc: Global, schema: &Schema, readers: Vec<&[u8]>) -> Result<Shown, Failure>
     requires { vec_len readers ≤ 64 }
-    ensures { IfOk result (λ shown. Shows schema.now (map (λ reader. reader.now) readers.items)
+    ensures { IfOk result (λ shown. Shows schema.now (map (λ reader. reader.now) readers.entry.items)
         shown.cube.items shown.refusals.items) }
 {
     let mut cube = Vec::new(alloc);
