@@ -243,6 +243,7 @@ def prove_copy(tally, ci, is_anew):
         rows = sampler.rows()
         tally.rows += [("proofs, tests and edits", time.time() - start, sum(it[2] for it in rows)), *sorted(rows, key=lambda it: -it[2])]
         take_programs(copy)
+        see_page(tally, copy)
         return found
 
 
@@ -256,6 +257,27 @@ def take_programs(copy):
             os.replace(f"{ROOT}/crates/{name}/out/{name}.new", f"{ROOT}/crates/{name}/out/{name}")
     if os.path.exists(f"{copy}/crates/datacube/out/datacube"):
         shell(f"record {BUILT} $(sources_of {copy})")
+
+
+def see_page(tally, copy):
+    """Sees that the modules in the page for files of one's own are what the proved crate in a copy gives."""
+    if not shutil.which("wasm-opt"):
+        print("left out, since there is no wasm-opt: the modules in the page")
+        return
+    with temporary_files() as room:
+        os.mkdir(f"{room}/libraries")
+        for path in glob.glob(f"{copy}/crates/*/out/rlib/*.rlib"):
+            os.symlink(path, f"{room}/libraries/{os.path.basename(path)}")
+        kept, modules = f"{room}/page.bc", [f"{room}/page64.wasm", f"{room}/page32.wasm"]
+        steps = ["ir", f"{room}/libraries", f"{copy}/crates/cube_page", kept], ["module", kept, *modules], ["check", *modules]
+        start = time.monotonic()
+        for words in steps:
+            ran = subprocess.run(["scripts/page.py", *words], cwd=ROOT, stdout=subprocess.PIPE, stderr=subprocess.STDOUT, text=True, errors="replace")
+            if ran.returncode:
+                print(*ran.stdout.splitlines()[-20:], sep="\n", flush=True)
+                break
+        tally.rows.append(("making the modules of the page", time.monotonic() - start, 0))
+        tally.note(ran.returncode == 0, "the modules in the page are what the proved crate gives")
 
 
 def see_release(tally):
