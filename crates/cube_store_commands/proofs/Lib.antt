@@ -6,3 +6,5 @@ mod StartLaws
 mod StoredLaws
 mod AskingLaws
 mod SessionLaws
+mod GoesOnLaws
+mod SessionFeedLaws

@@ -1,5 +1,6 @@
 pub mod Pieces
 pub mod Records
+pub mod Changed
 pub mod Replay
 pub mod Kept
 pub mod Serving
