@@ -1,12 +1,12 @@
 #!/usr/bin/env python3
 """Measures how much readers of a large cube hold up a follower that is served.
 
-    scripts/readers_speed.py [--rows N] [--rate N] [--probes N] [--readers N] [--rounds N]
+    scripts/readers_speed.py [--rows N] [--rate N] [--probes N] [--readers N] [--rounds N] [--path PATH]
 
 A private PostgreSQL has a table of N rows (300,000), whose cube is printed in about 5 MB; `python -m jackraisin.postgres --serve` follows
 it, while pgbench makes 500 transactions a second. A probe commits a sale to a city of its own and asks for that city over HTTP until
 the sale is in the answer: the time from the end of the commit to the end of the answer, 200 times in each round, without readers and with
-six in turn (3 rounds of each), each of which asks for the whole cube again as soon as it has it. Needs Debian's packages postgresql,
+six in turn (3 rounds of each), each of which asks for the whole cube, or for what is at PATH, again as soon as it has it. Needs Debian's packages postgresql,
 python3-psycopg2, python3-aiohttp and python3-prometheus-client; where one isn't there, the status is 77.
 """
 import argparse
@@ -60,12 +60,12 @@ def ask(connection, path):
     return answer.status, answer.read()
 
 
-def read(port, readers, ended, counts):
-    """Asks for the whole cube, so many at a time, until the end."""
+def read(port, path, readers, ended, counts):
+    """Asks for what is at a path, so many at a time, until the end."""
     def one():
         connection = http.client.HTTPConnection("127.0.0.1", port)
         while not ended.is_set():
-            counts.put(len(ask(connection, "/cube.csv")[1]))
+            counts.put(len(ask(connection, path)[1]))
     threads = [threading.Thread(target=one) for _ in range(readers)]
     for it in threads:
         it.start()
@@ -91,10 +91,10 @@ def probed(bench, port, count):
             time.sleep(0.01)
 
 
-def with_readers(bench, port, probes, readers):
-    """The same while others read, with the number of whole cubes that they read in a second."""
+def with_readers(bench, port, path, probes, readers):
+    """The same while others read, with the number of answers that they read in a second."""
     ended, counts = multiprocessing.Event(), multiprocessing.Queue()
-    process = multiprocessing.Process(target=read, args=(port, readers, ended, counts))
+    process = multiprocessing.Process(target=read, args=(port, path, readers, ended, counts))
     process.start()
     sizes, start = [], time.perf_counter()
     found = list(probed(bench, port, probes))
@@ -111,6 +111,7 @@ def main():
     parser = argparse.ArgumentParser(description=__doc__, formatter_class=argparse.RawDescriptionHelpFormatter)
     for name, number in (("rows", 300_000), ("rate", 500), ("probes", 200), ("readers", 6), ("rounds", 3)):
         parser.add_argument(f"--{name}", type=int, default=number)
+    parser.add_argument("--path", default="/cube.csv")
     given = parser.parse_args()
     lacks = [it for it in MODULES if not importlib.util.find_spec(it)] + ([] if sql.newest_server() else ["postgresql"])
     if lacks:
@@ -125,7 +126,7 @@ def main():
             time.sleep(2)
             for _ in range(given.rounds):
                 without += probed(bench, port, given.probes)
-                among += with_readers(bench, port, given.probes, given.readers)
+                among += with_readers(bench, port, given.path, given.probes, given.readers)
             writing.terminate()
             writing.wait()
     postgres_speed.said("from commit to answer, without readers", without)

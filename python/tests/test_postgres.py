@@ -1512,8 +1512,14 @@ class Commands(Base):
             self.assertEqual(end.recv(100), b"STOPPING=1")
         self.assertEqual(command.end(), 0)
         self.assertEqual(self.slots(), [])
-        for words, status in ((("--serve", "0", "--listen", "127.0.0.1:0"), 2), (("--listen", "0.0.0.0:0"), 1), (("--serve", "70000"), 1)):
-            self.assertEqual((words, run(*self.words(*words)).returncode), (words, status))
+        told = {
+            ("--serve", "0", "--listen", "127.0.0.1:0"): "don't go together", ("--serve", "0", "--token-file", tokens): "--token-file goes with --listen",
+            ("--listen", "0.0.0.0:0"): "wants --token-file", ("--serve", "70000"): "70000 is no port", ("--listen", "what"): "what is no address",
+            ("--no-token",): "--no-token goes with --listen",
+        }
+        for words, why in told.items():
+            ran = run(*self.words(*words))
+            self.assertEqual((words, ran.returncode in (1, 2), why in ran.stderr), (words, True, True), ran.stderr)
 
     def test_without_aiohttp(self):
         """Serving says what it needs before anything is copied, and following needs none of it."""
@@ -1669,6 +1675,21 @@ class Served(Base):
                 self.assertEqual(it.getresponse().status, 200)
             self.assertLess(threading.active_count(), before + 10)
             self.assertEqual(get(f"{self.server.address}cube.csv")[1], self.cube_of_sql())
+
+    def test_a_reader_that_stands_still_is_cut_off(self):
+        text = "city,product,grouping(city),grouping(product),count(*),sum(cents)\n" + "x,y,0,0,1,1\n" * 2**21
+        large = mock.patch.object(self.followed, "ask_with_state", return_value=(self.followed.state, text))
+        with large, mock.patch("jackraisin.serve._http.SECONDS_FOR_A_PART", 0.2), socket.create_connection(("127.0.0.1", self.server.port)) as it:
+            it.settimeout(SECONDS)
+            it.sendall(b"GET /cube.csv HTTP/1.1\r\nHost: localhost\r\n\r\n")
+            it.recv(1)
+            time.sleep(1)
+            count = 0
+            with contextlib.suppress(ConnectionError):
+                while part := it.recv(2**20):
+                    count += len(part)
+        self.assertLess(count, len(text))
+        self.assertEqual(get(f"{self.server.address}slice")[0], 200)
 
     def test_before_it_has_caught_up(self):
         """A transaction that is open keeps the slot from being made."""

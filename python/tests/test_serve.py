@@ -39,7 +39,7 @@ WHY = f"{' and '.join(LACKS)} (Debian: python3-aiohttp, python3-prometheus-clien
 if WHY is None:
     from jackraisin._errors import Failure
     from jackraisin.serve import _access, _browsers, _command, _connections, _events, _forms, _http, _keys, _making, _metrics, _pace, _places
-    from jackraisin.serve import _query, _served, _session, _stored, _words
+    from jackraisin.serve import _query, _reading, _served, _session, _stored, _taking, _words
     from jackraisin.serve._errors import CantServe
 
 SECONDS = 30
@@ -54,6 +54,16 @@ feed = { null = ["", "NA"], delimiter = ";", columns = { city = "Town" } }
 decimals = { price = 2 }
 """
 
+
+ELSEWHERE = """<!DOCTYPE html>
+<title>elsewhere</title>
+<iframe src="ADDRESS/"></iframe>
+<script>
+  const asked = ["/slice", "/cube.csv?_token=TOKEN", "/healthz"].map((it) => fetch("ADDRESS" + it, { credentials: "include" }));
+  asked.push(fetch("ADDRESS/changes", { method: "POST", mode: "no-cors", credentials: "include", body: "9,D,a" }));
+  Promise.allSettled(asked).then((all) => document.title = all.map((it) => it.status).join());
+</script>
+"""
 
 COPY = None
 
@@ -736,22 +746,38 @@ class Ends(Case):
 
         text = "a,grouping(a),count(*)\n" + "x,0,1\n" * 2**22
 
-        async def both():
-            with mock.patch.object(Pretended, "ask", return_value=text), mock.patch.object(_http, "SECONDS_FOR_A_PART", 0.2):
-                cube = _session.SessionCube(jackraisin.Schema(["a"], ["n"], ["count(*)"]), Pretended)
-                running = asyncio.ensure_future(cube.run(lambda _: None))
-                site = _http.Site(cube, None, _access.Cookie("c", False), _browsers.Browsers(), ("print",))
-                server = await asyncio.get_running_loop().create_server(site.connections, "127.0.0.1", 0)
-                while cube.state is None:
-                    await asyncio.sleep(0.001)
-                try:
-                    await run(server.sockets[0].getsockname()[1])
-                finally:
-                    server.close()
-                    await site.end(1)
-                    cube.end()
-                    await running
-        asyncio.run(both())
+        with mock.patch.object(Pretended, "ask", return_value=text), mock.patch.object(_http, "SECONDS_FOR_A_PART", 0.2):
+            asyncio.run(self.within(run))
+
+    def test_a_body_that_doesnt_come(self):
+        """Within its time it is 408, and the connection is closed."""
+        async def run(server):
+            reader, writer = await asyncio.open_connection("127.0.0.1", server)
+            writer.write(b"POST /changes HTTP/1.1\r\nHost: localhost\r\nContent-Type: text/csv\r\nContent-Length: 100\r\n\r\n1,D,a\n")
+            answer = await asyncio.wait_for(reader.read(), SECONDS)
+            writer.close()
+            return answer
+
+        with mock.patch.object(_reading, "SECONDS_FOR_A_BODY", 0.2):
+            answer = asyncio.run(self.within(run))
+        self.assertTrue(answer.startswith(b"HTTP/1.1 408 ") and b"\r\nConnection: close\r\n" in answer, answer)
+
+    async def within(self, work):
+        """What some work at the port of a server in this process gives, over a pretended session."""
+        cube = _session.SessionCube(jackraisin.Schema(["a"], ["n"], ["count(*)"]), Pretended)
+        running = asyncio.ensure_future(cube.run(lambda _: None))
+        taking = _taking.Taking(cube, str, 2**20, 2**20)
+        site = _http.Site(cube, None, _access.Cookie("c", False), _browsers.Browsers(), ("print",), taking=taking)
+        server = await asyncio.get_running_loop().create_server(site.connections, "127.0.0.1", 0)
+        while cube.state is None:
+            await asyncio.sleep(0.001)
+        try:
+            return await work(server.sockets[0].getsockname()[1])
+        finally:
+            server.close()
+            await site.end(1)
+            cube.end()
+            await running
 
     def test_what_isnt_http(self):
         server = self.server()
@@ -1058,6 +1084,23 @@ class Explorer(Case):
             self.assertEqual([it for it in driver.get_log("browser") if it["level"] == "SEVERE"], [])
             self.assertEqual(server.end()[0], 0)
             until(lambda: "doesn't answer" in driver.find_element("id", "problem").text)
+
+
+    def test_a_page_of_elsewhere(self):
+        """It can't show the page in a frame, nor read an answer, nor make a change, also where the browser has the cookie."""
+        server = self.server()
+        page = self.written("elsewhere.html", ELSEWHERE.replace("ADDRESS", f"http://127.0.0.1:{server.port}").replace("TOKEN", server.token))
+        with beside.browser(self, self.folder) as driver:
+            driver.get(server.address)
+            until(lambda: driver.execute_script(beside.ROWS))
+            driver.get(f"file://{page}")
+            until(lambda: driver.title != "elsewhere")
+            self.assertEqual(driver.title, "rejected,rejected,rejected,rejected")
+            told = [it["message"] for it in driver.get_log("browser")]
+            self.assertTrue([it for it in told if "frame-ancestors" in it or "X-Frame-Options" in it or "403" in it], told)
+            driver.switch_to.frame(0)
+            self.assertEqual(driver.find_elements("id", "table"), [])
+        self.assertEqual(server.get("/slice").headers["Datacube-State"], "0")
 
 
 class Systemd(Case):

@@ -23,7 +23,7 @@ from typing import TYPE_CHECKING, Iterator, List, NoReturn, Optional, Sequence, 
 import psycopg2
 
 from .._errors import DatacubeError, Ended, Failure, Unsayable
-from .._records import LONGEST
+from .._records import lift_limit
 from ..serve._log import JsonLines, log_to_standard_error
 from ..serve._needs import lack
 from ..serve._notify import tell_systemd
@@ -31,7 +31,7 @@ from ..serve._words import MOST_SERIES, Reach, add_reach, reach_of
 from . import CantFollow, Follower, NotCaughtUp, Server, drop_slot, slot_name
 from ._publication import drop_publication
 from ._server import here
-from ._slot import PREFIX, connect
+from ._slot import PREFIX, TOLD, connect
 from ._table import find
 
 if TYPE_CHECKING:
@@ -39,6 +39,7 @@ if TYPE_CHECKING:
 
 SECONDS_BETWEEN_LOOKS, SECONDS_OF_A_THREAD = 0.2, 0.0005
 SKIPPING = "always", "never"
+WITH_LISTEN = "token-file", "no-token", "tls-cert", "tls-key", "behind-tls", "host", "allow-origin"
 ENDING = signal.SIGTERM, signal.SIGHUP
 
 
@@ -109,8 +110,6 @@ def lines(follower: Follower) -> Iterator[str]:
 
 def answer(follower: Follower) -> None:
     """Answers the questions of standard input."""
-    # (this process is the command's own)
-    csv.field_size_limit(LONGEST)
     follower.wait()
     for record in csv.reader(lines(follower)):
         if record:
@@ -139,11 +138,14 @@ def served_by(given: argparse.Namespace, asks: argparse.ArgumentParser) -> Optio
     """Where the follower is served, if it is."""
     if given.serve is not None and given.listen is not None:
         asks.error("--serve and --listen don't go together")
+    of_listen = [it for it in WITH_LISTEN if getattr(given, it.replace("-", "_"))]
+    if given.listen is None and of_listen:
+        asks.error(f"--{of_listen[0]} goes with --listen")
     if given.serve is None and given.listen is None:
         return None
     if lack():
         raise CantFollow(f"to serve, {lack()}")
-    return here(given.serve) if given.listen is None else reach_of(given)
+    return reach_of(given) if given.listen is not None else here(given.serve)._replace(connections=given.max_connections)
 
 
 def serve(follower: Follower, reach: Reach, slice: Optional[Sequence[str]], max_series: int) -> None:
@@ -212,6 +214,7 @@ def main(words: Optional[Sequence[str]] = None) -> int:
     given = asks.parse_args(words)
     if not given.drop and given.schema is None:
         asks.error("the following arguments are required: --schema")
+    lift_limit()
     handler = log_to_standard_error("jackraisin.postgres")
     if given.log_format == "json":
         handler.setFormatter(JsonLines())
@@ -221,7 +224,7 @@ def main(words: Optional[Sequence[str]] = None) -> int:
     except KeyboardInterrupt:
         return 0
     except (DatacubeError, OSError, OverflowError, psycopg2.Error) as why:
-        print(f"jackraisin.postgres: {why}", file=sys.stderr)
+        TOLD.error("%s", why)
         return 1
 
 

@@ -2,7 +2,6 @@
 from __future__ import annotations
 
 import asyncio
-import csv
 import functools
 import signal
 import sys
@@ -10,7 +9,7 @@ import time
 from typing import Optional, Sequence
 
 from .._errors import DatacubeError, Ended
-from .._records import LONGEST
+from .._records import lift_limit
 from .._schema import schema_of
 from ._errors import CantCount
 from ._http import TOLD
@@ -76,8 +75,7 @@ def is_ready(given: Given, session: StoredSession) -> None:
 
 def main(words: Optional[Sequence[str]] = None) -> int:
     handler = log_to_standard_error("jackraisin.serve")
-    # (this process is the command's own)
-    csv.field_size_limit(LONGEST)
+    lift_limit()
     sys.setswitchinterval(SECONDS_OF_A_THREAD)
     try:
         given = given_by(words)

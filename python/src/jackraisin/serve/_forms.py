@@ -48,7 +48,8 @@ def text_in_form(text: str, form: Form, schema: Schema, is_escaped: bool = False
     if form is Form.CSV:
         return text
     with records_of(text) as records:
-        head, *rows = records
+        # (other threads go on between two of them)
+        head, *rows = [it for it in records]
     if head == ["source", "record", "code"]:
         return refusals_json(head, rows) if form is Form.JSON else aligned([head, *rows], 0)
     read: Callable[[str], str] = str
