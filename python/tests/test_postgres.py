@@ -1657,11 +1657,12 @@ class Served(Base):
         """Each state, and how the follower is."""
         with urllib.request.urlopen(f"{self.server.address}events", timeout=SECONDS) as events:
             said = lambda: [events.readline() for _ in range(3)]
-            first = {"state": "1-0", "connected": True, "skipped": 0, "verified": None}
-            self.assertEqual(said(), [b"id: 1-0\n", f"data: {json.dumps(first)}\n".encode(), b"\n"])
+            version = lambda: "-".join(map(str, self.followed.state.version))
+            first = {"state": version(), "connected": True, "skipped": 0, "verified": None}
+            self.assertEqual(said(), [f"id: {version()}\n".encode(), f"data: {json.dumps(first)}\n".encode(), b"\n"])
             self.run_sql("UPDATE {table} SET cents = 8")
-            self.assertEqual(said()[0], b"id: 1-1\n")
-            self.assertEqual(get(f"{self.server.address}cube.csv")[2]["Datacube-State"], "1-1")
+            self.assertEqual(said()[0].decode(), f"id: {version()}\n")
+            self.assertEqual(get(f"{self.server.address}cube.csv")[2]["Datacube-State"], version())
             self.run_sql("ALTER TABLE {table} DROP COLUMN product")
             until(lambda: b"column product is gone" in events.readline(), SECONDS)
 
@@ -1718,6 +1719,17 @@ class Served(Base):
         with postgres.Server(self.follower()) as server:
             status, text, headers = get(f"{server.address}cube.csv", If_None_Match=tag)
             self.assertEqual((status, text, headers["ETag"] == tag), (200, self.cube_of_sql(), False))
+
+    def test_a_server_that_fails(self):
+        """That it can't begin, or ended, is told."""
+        server = postgres.Server(self.followed)
+        with mock.patch("jackraisin.serve._page.page_text", side_effect=jackraisin.DatacubeError("there is no page")):
+            self.assertRaisesRegex(jackraisin.DatacubeError, "there is no page", server.start)
+        server.close()
+        with postgres.Server(self.followed) as server, mock.patch("jackraisin.serve._pace.Pace.due", side_effect=ZeroDivisionError):
+            get(f"{server.address}slice")
+            until(lambda: server._failure, SECONDS)
+            self.assertRaises(ZeroDivisionError, server.check)
 
     def test_this_machine_alone(self):
         self.assertEqual(self.server._end.getsockname()[0], "127.0.0.1")

@@ -997,7 +997,9 @@ class Metrics(Case):
     def test_names(self):
         """Of columns whose names are none of Prometheus, or the same there; an answer that is null has no sample."""
         text = "a b,a_b,1,grouping(a b),grouping(a_b),grouping(1),count(*),avg(x),avg(x),sum(a.b)\n\\\\N,\\N,é,0,0,0,2,1/3,1/3,\\N\n"
-        found = {it.name: it.samples for it in _metrics.families_of(jackraisin.Cube(text, is_escaped=True), "t", 10)}
+        families, left_out = _metrics.families_of(text + "x,y,z,0,0,0,1,1/1,1/1,1\n" * 3, True, "t", 1)
+        found = {it.name: it.samples for it in families}
+        self.assertEqual(left_out, 3)
         labels = {"a_b": "\\N", "a_b_2": "\\N", "d_1": "é", "grouping_a_b": "0", "grouping_a_b_2": "0", "grouping_1": "0", "is_text_a_b": "1"}
         self.assertEqual([(it.labels, it.value) for it in found["datacube_avg_x_2"]], [(labels, 1 / 3)])
         self.assertEqual((sorted(found), found["datacube_sum_a_b"]), (["datacube_avg_x", "datacube_avg_x_2", "datacube_count", "datacube_sum_a_b"], []))

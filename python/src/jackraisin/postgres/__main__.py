@@ -159,6 +159,7 @@ def serve(follower: Follower, reach: Reach, slice: Optional[Sequence[str]], max_
             tell_systemd("READY=1")
             while True:
                 follower.check()
+                server.check()
                 time.sleep(SECONDS_BETWEEN_LOOKS)
         finally:
             tell_systemd("STOPPING=1")

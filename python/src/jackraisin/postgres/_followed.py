@@ -13,7 +13,7 @@ from ._follower import Follower, State
 from ._metrics import families_of
 
 # (how soon what listens is told of a commit)
-SECONDS_BETWEEN_LOOKS = 0.05
+SECONDS_BETWEEN_LOOKS = 0.1
 # (what a header may have of a name; the rest is spelled as in an address)
 SAFE = " !\"#$&'()*+,-./:;<=>?@[\\]^_`{|}~"
 

@@ -39,7 +39,7 @@ class Server(Running):
         self._ended: Optional[asyncio.Event] = None
         self._has_begun = threading.Event()
         self._failure: Optional[BaseException] = None
-        self._thread = threading.Thread(target=lambda: asyncio.run(self._serve()), name="datacube server", daemon=True)
+        self._thread = threading.Thread(target=self._run, name="datacube server", daemon=True)
 
     @property
     def port(self) -> int:
@@ -55,6 +55,10 @@ class Server(Running):
     def start(self) -> None:
         self._thread.start()
         self._has_begun.wait()
+        self.check()
+
+    def check(self) -> None:
+        """Raises why it ended, where it did by itself."""
         if self._failure:
             raise self._failure
 
@@ -67,6 +71,15 @@ class Server(Running):
             self._loop.call_soon_threadsafe(self._ended.set)
             self._thread.join()
 
+    def _run(self) -> None:
+        try:
+            asyncio.run(self._serve())
+        except BaseException as why:
+            self._failure = why
+        finally:
+            self._has_begun.set()
+            self._end.close()
+
     async def _serve(self) -> None:
         # (what isn't there everywhere is wanted by those alone who serve)
         from ..serve._serving import serve_until, site_of
@@ -74,14 +87,8 @@ class Server(Running):
 
         self._loop, self._ended = asyncio.get_running_loop(), asyncio.Event()
         cube = FollowedCube(self._follower)
-        try:
-            site = site_of(cube, self._reach, self._where, self._shown, self._max_series)
-        except Exception as why:
-            self._failure = why
-            self._end.close()
-            return
-        finally:
-            self._has_begun.set()
+        site = site_of(cube, self._reach, self._where, self._shown, self._max_series)
+        self._has_begun.set()
         await serve_until(site, self._end, self._where, self._tls, asyncio.ensure_future(cube.run()), self._ended)
 
 

@@ -1,15 +1,16 @@
 """Metrics for Prometheus: a slice of the cube, how its source is, and how the server is."""
 from __future__ import annotations
 
+import itertools
 from typing import Any, Dict, Iterable, Iterator, List, Optional, Tuple
 
 from prometheus_client import CollectorRegistry, Counter, Gauge, Histogram
 from prometheus_client.core import GaugeMetricFamily
 from prometheus_client.exposition import choose_encoder
 
-from .._cube import Cube, Row
+from .._cube import Answer, Row, row_of
 from .._metric_names import label_names, label_values, metric_names
-from .._records import NULL
+from .._records import NULL, Columns, head_of, records_of
 from ._served import ServedCube
 
 SECONDS = (0.001, 0.0025, 0.005, 0.01, 0.025, 0.05, 0.1, 0.25, 0.5, 1, 2.5, 5, 10)
@@ -33,12 +34,10 @@ class Metrics:
 
     def text(self, accept: str, text: Optional[str], connections: int) -> Tuple[bytes, str]:
         """All metrics, those of a printed slice among them, in the form that is accepted, with its content type."""
-        cube = None if text is None else Cube(text, is_escaped=self._source.is_escaped)
-        left_out = 0 if cube is None else max(0, len(cube) - self._most)
+        families, left_out = ([], 0) if text is None else families_of(text, self._source.is_escaped, self._source.subject, self._most)
         self._connections.set(connections)
-        own = [] if cube is None else list(families_of(cube, self._source.subject, self._most))
         encode, kind = choose_encoder(accept)
-        all_of_them: Any = Together(self._registry.collect(), self._source.families(left_out), own)
+        all_of_them: Any = Together(self._registry.collect(), self._source.families(left_out), families)
         return encode(all_of_them), kind
 
 
@@ -53,17 +52,28 @@ class Together:
             yield from part
 
 
-def families_of(cube: Cube, subject: str, most: int) -> Iterator[Any]:
-    """A metric for each aggregate, over the first so many rows. Its labels are the columns of the printed cube: `\\N` is null, or ALL
-    where GROUPING is 1, or it is that text where IS_TEXT is 1, which nothing else has. An answer that is null has no sample."""
-    rows, labels = cube[:most], label_names(cube.dimensions, KINDS)
-    for at, (name, aggregate) in enumerate(zip(metric_names(cube.aggregates), cube.aggregates)):
-        family = GaugeMetricFamily(name, f"{aggregate} of {subject}.")
-        for row in rows:
-            answer = row.answers[at]
-            if answer is not None:
-                family.add_sample(name, labels_of(labels, row), float(answer))
-        yield family
+def families_of(text: str, is_escaped: bool, subject: str, most: int) -> Tuple[List[Any], int]:
+    """A metric for each aggregate of a printed cube, over its first so many rows, and how many more rows it has."""
+    columns = Columns(head_of(text)[0], is_escaped)
+    with records_of(text) as records:
+        next(records, None)
+        rows = [row_of(columns, it) for it in itertools.islice(records, most)]
+        left_out = sum(1 for _ in records)
+    labels = label_names(columns.dimensions, KINDS)
+    samples = [(labels_of(labels, row), row.answers) for row in rows]
+    names = zip(metric_names(columns.aggregates), columns.aggregates)
+    families = [family_of(name, f"{it} of {subject}.", [(its, answers[at]) for its, answers in samples]) for at, (name, it) in enumerate(names)]
+    return families, left_out
+
+
+def family_of(name: str, text: str, samples: Iterable[Tuple[Dict[str, str], Answer]]) -> Any:
+    """A metric, in which an answer that is null has no sample. Its labels are the columns of the printed cube: `\\N` is null, or ALL
+    where GROUPING is 1, or it is that text where IS_TEXT is 1, which nothing else has."""
+    family = GaugeMetricFamily(name, text)
+    for labels, answer in samples:
+        if answer is not None:
+            family.add_sample(name, labels, float(answer))
+    return family
 
 
 def labels_of(names: List[str], row: Row) -> Dict[str, str]:
