@@ -1067,7 +1067,8 @@ class Explorer(Case):
         self.assertIn('<meta name="datacube-served" data-name="cube.csv" data-escaped="0">', page.text)
         policy = page.headers["Content-Security-Policy"]
         self.assertEqual((policy.count("'sha256-"), "unsafe" in policy, "unsafe-inline" in page.text, "frame-ancestors 'none'" in policy), (3, False, False, True))
-        self.assertEqual(server.get("/", headers={"If-None-Match": page.headers["ETag"]}).status, 304)
+        again = server.get("/", headers={"If-None-Match": page.headers["ETag"]})
+        self.assertEqual((again.status, again.headers["Content-Security-Policy"]), (304, policy))
         self.assertEqual(server.get("/", headers={"Cookie": f"jackraisin-1={server.token}"}, token=False).status, 401)
         self.assertEqual(server.change(b"9,D,a\n", {**CSV, "Cookie": said[0], "Origin": "http://evil.example"}, token=False).status, 403)
         self.assertNotIn("token", server.end()[1])
@@ -1080,13 +1081,27 @@ class Explorer(Case):
             rows = lambda: driver.execute_script(beside.ROWS)
             until(lambda: ["York", "2"] in [it[:2] for it in rows()])
             self.assertNotIn("token", driver.current_url)
+            driver.refresh()
+            until(lambda: ["York", "2"] in [it[:2] for it in rows()])
             server.made(b"9,I,a,York,tea,card,1,100\n9,I,b,Hull,tea,card,1,100\n")
             until(lambda: {("York", "3"), ("Hull", "1")} <= {tuple(it[:2]) for it in rows()})
             self.assertIn("lines, as they are at", driver.find_element("id", "about").text)
+            self.see_many_tabs(server, driver, rows)
             self.assertEqual([it for it in driver.get_log("browser") if it["level"] == "SEVERE"], [])
             self.assertEqual(server.end()[0], 0)
             until(lambda: "doesn't answer" in driver.find_element("id", "problem").text)
 
+
+    def see_many_tabs(self, server, driver, rows):
+        """More than a browser has connections to a server; one that is seen again goes on."""
+        first = driver.current_window_handle
+        for _ in range(7):
+            driver.switch_to.new_window("tab")
+            driver.get(f"http://127.0.0.1:{server.port}/")
+            until(lambda: ("York", "3") in [tuple(it[:2]) for it in rows()])
+        server.made(b"9,I,c,York,tea,card,1,100\n")
+        driver.switch_to.window(first)
+        until(lambda: ("York", "4") in [tuple(it[:2]) for it in rows()])
 
     def test_a_page_of_elsewhere(self):
         """It can't show the page in a frame, nor read an answer, nor make a change, also where the browser has the cookie."""

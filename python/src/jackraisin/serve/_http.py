@@ -245,9 +245,11 @@ class Site:
         if TOKEN in asked.words.own:
             return Reply(HTTPStatus.SEE_OTHER, b"", headers={"Location": "/", "Set-Cookie": self._cookie.said(asked.words.own[TOKEN])})
         answer, page = self._page_of_cube
+        # (with a page that it has a browser keeps the policy of the last reply)
+        policy = {"Content-Security-Policy": page.policy}
         if self._tags.has(asked.headers, answer.state, PAGE):
-            return self._not_modified(answer.state, PAGE, HTML)
-        return await self._versioned(asked, answer, PAGE, Reply(HTTPStatus.OK, page.body, HTML, {"Content-Security-Policy": page.policy}))
+            return self._not_modified(answer.state, PAGE, HTML, policy)
+        return await self._versioned(asked, answer, PAGE, Reply(HTTPStatus.OK, page.body, HTML, policy))
 
     def _not_modified(self, state: State, form: str, kind: str, headers: Mapping[str, str] = {}) -> Reply:
         return Reply(HTTPStatus.NOT_MODIFIED, b"", kind, {**KEPT, **headers, "ETag": self._tags.of(state, form, False)})

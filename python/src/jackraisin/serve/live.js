@@ -8,10 +8,11 @@
   const isEscaped = escaped === "1";
   let shown = null; // the cube that this script put in
   let known = null, latest = null; // the state that is shown, and the one that the server told of
-  let news = {}, time = "";
+  let news = {}, time = "", events = null;
   let isAsking = false, isWarned = false;
 
   async function put(file) {
+    if (cube !== shown) return;
     if (!shown) {
       await open(file, isEscaped);
     } else {
@@ -68,8 +69,8 @@
   }
 
   function listen() {
-    const events = new EventSource("events");
-    events.addEventListener("message", (event) => {
+    const mine = (events = new EventSource("events"));
+    mine.addEventListener("message", (event) => {
       news = JSON.parse(event.data);
       if (news.state === null) return warn(news.why);
       if (isWarned) tell("");
@@ -78,11 +79,16 @@
       describe();
       follow();
     });
-    events.addEventListener("error", () => {
-      warn(events.readyState === EventSource.CLOSED
+    mine.addEventListener("error", () => {
+      warn(mine.readyState === EventSource.CLOSED
         ? "The server takes no more questions from this page: open the address that it shows." : "The server doesn't answer: has it ended?");
     });
   }
 
-  listen();
+  // (a browser has six connections to a server for all its tabs, so one that isn't seen gives its own up)
+  document.addEventListener("visibilitychange", () => {
+    events?.close();
+    if (!document.hidden) listen();
+  });
+  if (!document.hidden) listen();
 })();
