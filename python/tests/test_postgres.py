@@ -1512,6 +1512,15 @@ class Commands(Base):
             self.assertEqual(end.recv(100), b"STOPPING=1")
         self.assertEqual(command.end(), 0)
         self.assertEqual(self.slots(), [])
+        path = f"{PRIVATE.folder_for_others()}/{self.table}.sock"
+        command = Command(*self.words("--listen", f"unix:{path}", "--no-token"))
+        self.assertEqual(command.process.stdout.readline().decode(), f"unix:{path}\n")
+        with contextlib.closing(http.client.HTTPConnection("localhost")) as connection, socket.socket(socket.AF_UNIX) as connection.sock:
+            connection.sock.connect(path)
+            connection.request("GET", "/healthz")
+            self.assertEqual(connection.getresponse().status, 200)
+        command.process.send_signal(signal.SIGTERM)
+        self.assertEqual((command.end(), os.path.exists(path)), (0, False))
         told = {
             ("--serve", "0", "--listen", "127.0.0.1:0"): "don't go together", ("--serve", "0", "--token-file", tokens): "--token-file goes with --listen",
             ("--listen", "0.0.0.0:0"): "wants --token-file", ("--serve", "70000"): "70000 is no port", ("--listen", "what"): "what is no address",

@@ -119,7 +119,7 @@ OVERSIZED = [
 ]
 ROWS = [*CROSS_SITE, *CROSS_SITE_CHANGES, *HOSTS, *TOKENS, *TRAVERSAL, *INJECTION, *FRAMING_OF_REQUESTS, *METHODS, *OVERSIZED]
 
-PRIVATE = FOLDER = None
+FOLDER = None
 
 
 def setUpModule():
@@ -301,13 +301,12 @@ class OfAFollower(Strangers, unittest.TestCase):
 
     @classmethod
     def begun(cls):
-        global PRIVATE
-        PRIVATE = private_server.Private()
-        cls.addClassCleanup(PRIVATE.close)
+        private = private_server.Private()
+        cls.addClassCleanup(private.close)
         name = '"' + cls.TABLE.replace('"', '""') + '"'
-        PRIVATE.run(f"CREATE TABLE {name} (id int PRIMARY KEY, city text, product text, cents bigint)",
+        private.run(f"CREATE TABLE {name} (id int PRIMARY KEY, city text, product text, cents bigint)",
         f"INSERT INTO {name} VALUES (1, 'York', 'tea', 5)")
-        return Served("jackraisin.postgres", "--dsn", PRIVATE.dsn, "--table", name, "--schema", f"{FOLDER.name}/schema.toml")
+        return Served("jackraisin.postgres", "--dsn", private.dsn, "--table", name, "--schema", f"{FOLDER.name}/schema.toml")
 
     def test_a_name_that_would_end_a_header(self):
         for path in ("/cube.csv", "/", "/metrics"):

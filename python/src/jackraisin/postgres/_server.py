@@ -2,6 +2,7 @@
 from __future__ import annotations
 
 import asyncio
+import contextlib
 import threading
 from typing import Optional, Sequence
 
@@ -66,10 +67,12 @@ class Server(Running):
         """Listens no more, and answers what came."""
         if self._thread.ident is None:
             self._end.close()
-        elif self._thread.is_alive():
-            assert self._loop is not None and self._ended is not None
-            self._loop.call_soon_threadsafe(self._ended.set)
-            self._thread.join()
+            return
+        if self._loop is not None and self._ended is not None:
+            # (it may have ended by itself)
+            with contextlib.suppress(RuntimeError):
+                self._loop.call_soon_threadsafe(self._ended.set)
+        self._thread.join()
 
     def _run(self) -> None:
         try:

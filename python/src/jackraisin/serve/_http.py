@@ -25,6 +25,7 @@ from ._replies import Refusal, Reply, not_yet
 from ._served import LONG, Answer, ServedCube, State, beside
 from ._taking import Taking
 from ._versions import SHORT, Tags, takes_gzip
+from ._words import MOST_CONNECTIONS, MOST_SERIES
 
 TOLD = logging.getLogger("jackraisin.serve")
 # (what isn't HTTP is answered by 400, and anyone may send it)
@@ -45,8 +46,8 @@ KEPT = {"Cache-Control": "private, no-cache", "Vary": "Accept, Accept-Encoding"}
 class Limits(NamedTuple):
     """The number of connections, and of rows in metrics."""
 
-    connections: int = 1000
-    series: int = 1000
+    connections: int = MOST_CONNECTIONS
+    series: int = MOST_SERIES
 
 
 class Path(NamedTuple):
