@@ -3,11 +3,12 @@
 
     scripts/readers_speed.py [--rows N] [--rate N] [--probes N] [--readers N] [--rounds N] [--path PATH]
 
-A private PostgreSQL has a table of N rows (300,000), whose cube is printed in about 5 MB; `python -m jackraisin.postgres --serve` follows
-it, while pgbench makes 500 transactions a second. A probe commits a sale to a city of its own and asks for that city over HTTP until
-the sale is in the answer: the time from the end of the commit to the end of the answer, 200 times in each round, without readers and with
-six in turn (3 rounds of each), each of which asks for the whole cube, or for what is at PATH, again as soon as it has it. Needs Debian's packages postgresql,
-python3-psycopg2, python3-aiohttp and python3-prometheus-client; where one isn't there, the status is 77.
+A private PostgreSQL has a table of N rows (300,000), whose cube is printed in about 5 MB; `python -m jackraisin.postgres --serve`
+follows it, while pgbench makes 500 transactions a second. A probe commits a sale to a city of its own and asks for that city over
+HTTP until the sale is in the answer: the time from the end of the commit to the end of the answer, 200 times in each round, without
+readers and with six in turn (3 rounds of each), each of which asks for the whole cube, or for what is at PATH, again as soon as it
+has it. RANDOM in PATH is a number below 250, another one each time. Needs Debian's packages postgresql, python3-psycopg2,
+python3-aiohttp and python3-prometheus-client; where one isn't there, the status is 77.
 """
 import argparse
 import contextlib
@@ -15,6 +16,7 @@ import http.client
 import importlib.util
 import multiprocessing
 import os
+import random
 import signal
 import statistics
 import subprocess
@@ -65,7 +67,7 @@ def read(port, path, readers, ended, counts):
     def one():
         connection = http.client.HTTPConnection("127.0.0.1", port)
         while not ended.is_set():
-            counts.put(len(ask(connection, path)[1]))
+            counts.put(len(ask(connection, path.replace("RANDOM", str(random.randrange(CITIES))))[1]))
     threads = [threading.Thread(target=one) for _ in range(readers)]
     for it in threads:
         it.start()

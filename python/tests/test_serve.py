@@ -1343,6 +1343,18 @@ class Together(unittest.TestCase):
         self.assertGreaterEqual(counts["whole"], 5 * (prints - 1))
         self.assertGreater(min(counts["cells"], counts["changes"]), prints, counts)
 
+    def test_changes_come_between_many_questions(self):
+        async def work(cube):
+            asked = [asyncio.ensure_future(cube.ask((f"question {at}",))) for at in range(40)]
+            await asyncio.sleep(0.01)
+            await cube.make(_making.Body([["1", "D", "a"]]))
+            before = sum(it.done() for it in asked)
+            return before, [it.state for it in await asyncio.gather(*asked)]
+        (before, states), session = self.served(work)
+        self.assertLess(before, 40)
+        self.assertEqual((states, len(session.questions)), (sorted(states), 40))
+        self.assertEqual(set(states), {0, 1})
+
     def test_who_asks_during_an_answer_is_told_of_the_state_behind_it(self):
         async def work(cube):
             first = asyncio.ensure_future(cube.ask(("print",)))

@@ -23,6 +23,8 @@ State = Union[int, str]
 
 # (so many bytes of a state's answers are kept)
 MOST_BYTES = 64 * 2**20
+# (so many questions are asked in a turn, so that changes come between)
+MOST_AT_ONCE = 16
 # (what is made of a text that is longer is made in a thread of its own)
 LONG = 2**15
 # (of gzip: what is beyond takes long and saves little)
@@ -182,6 +184,9 @@ class ServedCube(abc.ABC):
             asked, seconds = list(self._questions), None
         if seconds is not None:
             self._wake_in(seconds)
+        if len(asked) > MOST_AT_ONCE:
+            del asked[MOST_AT_ONCE:]
+            self._wake.set()
         if not asked:
             return
         # (who asks from now on may know of a later state, and isn't told of this one)
