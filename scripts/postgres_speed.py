@@ -47,12 +47,12 @@ SCHEMA = 'dimensions = ["city", "product"]\nmeasures = ["cents"]\naggregates = [
 class Bench:
     """A private server with the table, and pgbench on it."""
 
-    def __init__(self, server, room, rows):
+    def __init__(self, server, room, rows, table=TABLE):
         self.server, self.room = server, room
         self.dsn = f"host={server.room} user=datacube dbname=postgres"
         self.schema = self.write("schema.toml", SCHEMA)
         self.scripts = [f"{self.write(f'{weight}.sql', text.replace('ROWS', str(rows)))}@{weight}" for weight, text in SCRIPTS.items()]
-        server.ask(TABLE.replace('ROWS', str(rows)).encode())
+        server.ask(table.replace('ROWS', str(rows)).encode())
 
     def write(self, name, text):
         path = f"{self.room}/{name}"

@@ -1,12 +1,13 @@
 #!/usr/bin/env python3
 """Measures `jackraisin.serve`: clients that read slices, while changes come, each answered when it is certain.
 
-    scripts/serve_speed.py [--facts N] [--readers N] [--reads N] [--changes N] [--together N] [--seconds N] [--server CPUS] [--clients CPUS]
+    scripts/serve_speed.py [--facts N] [--readers N] [--reads N] [--changes N] [--together N] [--whole N] [--seconds N] [--server CPUS] [--clients CPUS]
 
 The facts are those of the workload `tall` of scripts/workloads.py, as many as `--facts` says. A reader asks for the slice of one
 value of one dimension, over a connection that stays. `--reads` is how many all of them ask for in a second, each at its time, and
 late ones count from that time; with 0 each asks again once it is answered. `--changes` is how many changes come in
-a second, `--together` how many one request has. The server runs on the processors of `--server`, the clients on those of
+a second, `--together` how many one request has. `--whole` is how many more readers ask for the whole cube, again as soon as they have
+it (`scripts/readers_speed.py` does so with a follower). The server runs on the processors of `--server`, the clients on those of
 `--clients`, as taskset takes them. It needs python3-aiohttp and python3-prometheus-client, of the Python that runs it.
 """
 import argparse
@@ -71,6 +72,16 @@ async def read(port, token, readers, rate, seconds):
     return [it for each in await asyncio.gather(*map(one, range(readers))) for it in each]
 
 
+async def read_whole(port, token, readers, seconds):
+    async def one():
+        client, times = await Client.of(port, token), []
+        start = time.perf_counter()
+        while time.perf_counter() < start + seconds:
+            times.append(await client.ask("GET", "/cube.csv"))
+        return times
+    return [it for each in await asyncio.gather(*(one() for _ in range(readers))) for it in each]
+
+
 async def change(port, token, rate, together, seconds):
     """Posts at its times, whether or not the ones before were answered."""
     pick, start, ids = random.Random(7), time.monotonic(), iter(range(10**9))
@@ -96,7 +107,7 @@ def values(pick):
 
 def work(name, cpus, out, *given):
     os.sched_setaffinity(0, cpus)
-    out.put((name, asyncio.run({"reads": read, "posts": change}[name](*given))))
+    out.put((name, asyncio.run({"reads": read, "posts": change, "whole cubes": read_whole}[name](*given))))
 
 
 def seconds_of(process):
@@ -112,7 +123,7 @@ def share(times, part):
 
 def main():
     parser = argparse.ArgumentParser(description=__doc__, formatter_class=argparse.RawDescriptionHelpFormatter)
-    for name, value in (("facts", 20000), ("readers", 32), ("reads", 1000), ("changes", 1000), ("together", 10), ("seconds", 10)):
+    for name, value in (("facts", 20000), ("readers", 32), ("reads", 1000), ("changes", 1000), ("together", 10), ("whole", 0), ("seconds", 10)):
         parser.add_argument(f"--{name}", type=int, default=value)
     parser.add_argument("--server", default="0,1")
     parser.add_argument("--clients", default="2,3")
@@ -132,11 +143,12 @@ def main():
         address = server.stdout.readline().strip()
         server.stderr.readline()
         port, token = int(address.split(":")[2].split("/")[0]), address.partition("_token=")[2]
-        found, results = multiprocessing.Queue(), {"reads": [], "posts": []}
+        found, results = multiprocessing.Queue(), {"reads": [], "posts": [], "whole cubes": []}
         before = seconds_of(server.pid)
         half, rate = given.readers // 2, given.reads / given.readers
         jobs = [("reads", port, token, it, rate, given.seconds) for it in (half, given.readers - half)]
         jobs += [("posts", port, token, given.changes, given.together, given.seconds)] if given.changes else []
+        jobs += [("whole cubes", port, token, given.whole, given.seconds)] if given.whole else []
         workers = [multiprocessing.Process(target=work, args=(name, cpus, found, *rest)) for name, *rest in jobs]
         for it in workers:
             it.start()

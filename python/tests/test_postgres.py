@@ -2,12 +2,15 @@
 
 With DATACUBE_LONG=1 in the environment the writers make more than 20,000 transactions, and more is killed and cut."""
 import contextlib
+import http.client
 import importlib.util
 import itertools
+import json
 import os
 import random
 import re
 import signal
+import socket
 import struct
 import subprocess
 import sys
@@ -31,8 +34,10 @@ WHY = private_server.missing()
 if WHY is None:
     import psycopg2.errors
     from jackraisin import postgres
-    from jackraisin.postgres import CantFollow, ColumnsChanged, Follower, NotCaughtUp, RowUnsayable, _errors, _messages, _metrics, _values
+    from jackraisin.postgres import CantFollow, ColumnsChanged, Follower, NotCaughtUp, RowUnsayable, _errors, _messages, _values
 
+LACKS = [it for it in ("aiohttp", "prometheus_client") if not importlib.util.find_spec(it)]
+serves = unittest.skipIf(LACKS, f"what a follower serves: {' and '.join(LACKS)} (Debian: python3-aiohttp, python3-prometheus-client) isn't installed for this Python")
 SALES = jackraisin.Schema(["city", "product"], ["cents"], ["count(*)", "sum(cents)"])
 SECONDS = 60
 PRIVATE = None
@@ -369,17 +374,12 @@ class Moments(Base):
         self.sales((1, "York", "tea", 5))
         with PRIVATE.connected() as cursor:
             cursor.execute(f"BEGIN; INSERT INTO {self.table} VALUES (2, 'York', 'tea', 7)")
-            follower = Follower(PRIVATE.dsn, self.table, SALES)
-            with follower, postgres.Server(follower) as server:
+            with Follower(PRIVATE.dsn, self.table, SALES) as follower:
                 time.sleep(0.5)
                 self.assertRaises(NotCaughtUp, follower.cube)
                 self.assertRaises(NotCaughtUp, follower.wait, 0.1)
                 self.see_that_it_ends_at_once()
-                self.assertEqual([get(f"{server.address}{it}")[0] for it in ("cube.csv", "healthz", "readyz")], [503, 200, 503])
                 self.assertEqual((follower.state.behind_seconds, follower.state.last_commit), (None, None))
-                self.assertNotIn("datacube_follower_behind_seconds{", get(f"{server.address}metrics")[1])
-                self.assertIn("datacube_follower_caught_up{table=", get(f"{server.address}metrics")[1])
-                self.assertNotIn("datacube_sum_cents", get(f"{server.address}metrics")[1])
                 cursor.execute("COMMIT")
                 follower.wait(SECONDS)
                 self.assertEqual(follower.slice({})[0]["sum(cents)"], 12)
@@ -593,21 +593,19 @@ class Verified(Base):
             (lambda live: live.insert(1, "1001", ["York", "tea", None], [None, 1]), "in all"),
         ):
             follower = self.follower(self.schema, verify=0.3)
-            with self.subTest(words), self.assertLogs("jackraisin.postgres", "ERROR") as told, postgres.Server(follower) as server:
+            with self.subTest(words), self.assertLogs("jackraisin.postgres", "ERROR") as told:
                 with follower._lock:
                     change(follower._mirror._live)
                 until(lambda: follower.state.differences == 1, SECONDS)
                 until(lambda: follower.state.is_caught_up and follower.state.copies == 2, SECONDS)
                 until(lambda: follower.state.is_verified, SECONDS)
-                self.assertIn('datacube_follower_verified{table="%s"} 1' % self.table, get(f"{server.address}metrics")[1])
-                self.assertIn('datacube_follower_differences_total{table="%s"} 1' % self.table, get(f"{server.address}metrics")[1])
-                self.assertEqual(get(f"{server.address}cube.csv")[2]["Datacube-Verified"], "1")
             self.assertIn(f"the cube isn't that of table public.{self.table}: ", told.output[0])
             self.assertIn(words, told.output[0])
             self.assertEqual(follower.slice({})[0]["count(*)"], 501)
             follower.close()
         self.assertEqual(self.slots(), [("jackraisin_never",)])
 
+    @serves
     def test_what_is_shown_of_it(self):
         """Until a comparison agrees the page and the metrics say that one didn't."""
         follower = self.follower(self.schema, verify=0.3)
@@ -622,14 +620,20 @@ class Verified(Base):
             with follower._lock:
                 follower._mirror._live.delete(1, "7")
             until(lambda: follower.state.is_caught_up and follower.state.copies == 2, SECONDS)
-            self.assertEqual(get(f"{server.address}cube.csv")[2]["Datacube-Verified"], "0")
-            self.assertIn('datacube_follower_verified{table="%s"} 0' % self.table, get(f"{server.address}metrics")[1])
+            self.see_whether_it_is_verified(server, 0)
             with browser(self, PRIVATE.folder_for_others()) as driver:
                 driver.get(server.address)
                 about = lambda: driver.find_element("id", "about").text
                 until(lambda: "It differed from the table" in about(), SECONDS)
                 follower._verify = 0.3
                 until(lambda: "lines, as they are at" in about() and "differed" not in about(), SECONDS)
+            self.see_whether_it_is_verified(server, 1)
+
+    def see_whether_it_is_verified(self, server, is_verified):
+        self.assertEqual(get(f"{server.address}cube.csv")[2]["Datacube-Verified"], str(is_verified))
+        lines = get(f"{server.address}metrics")[1].splitlines()
+        self.assertIn(f'datacube_follower_verified{{table="{self.table}"}} {is_verified}.0', lines)
+        self.assertIn(f'datacube_follower_differences_total{{table="{self.table}"}} 1.0', lines)
 
     def test_a_command_that_differed(self):
         """It ends with status 1, though what it serves is right again. (The row is taken from the table past the log.)"""
@@ -1475,16 +1479,72 @@ class Commands(Base):
         self.assertEqual(command.ask("slice,what,what"), "P2")
         self.assertEqual(command.end(), 0)
 
+    @serves
     def test_serving(self):
         self.sales((1, "York", "tea", 5))
         command = Command(*self.words("--serve", "0", "--slice", r"\A,?"))
         address = command.process.stdout.readline().decode().strip()
+        self.assertRegex(address, r"^http://127\.0\.0\.1:[0-9]+/$")
         until(lambda: get(f"{address}cube.csv")[0] == 200)
         self.assertEqual(get(f"{address}cube.csv")[1], self.cube_of_sql())
         self.assertIn('product="tea"', get(f"{address}metrics")[1])
         self.run_sql("ALTER TABLE {table} DROP COLUMN product")
         self.assertEqual(command.process.wait(SECONDS), 1)
         command.end()
+
+    @serves
+    def test_listening(self):
+        """Where and for whom the words of `jackraisin.serve` say, and a service manager is told when there are answers."""
+        self.sales((1, "York", "tea", 5))
+        tokens, notify = (f"{PRIVATE.folder_for_others()}/{self.table}.{it}" for it in ("tokens", "notify"))
+        with open(tokens, "w", encoding="utf-8") as out:
+            out.write("read of-a-reader\n")
+        with socket.socket(socket.AF_UNIX, socket.SOCK_DGRAM) as end:
+            end.bind(notify)
+            end.settimeout(SECONDS)
+            with mock.patch.dict(os.environ, {"NOTIFY_SOCKET": notify}):
+                command = Command(*self.words("--listen", "127.0.0.1:0", "--token-file", tokens))
+            address = command.process.stdout.readline().decode().strip()
+            self.assertEqual(end.recv(100), b"READY=1")
+            self.assertEqual([get(f"{address}{it}")[0] for it in ("readyz", "cube.csv", "metrics", "?_token=other")], [200, 401, 401, 401])
+            self.assertEqual(get(f"{address}cube.csv", Authorization="Bearer of-a-reader")[1], self.cube_of_sql())
+            command.process.send_signal(signal.SIGTERM)
+            self.assertEqual(end.recv(100), b"STOPPING=1")
+        self.assertEqual(command.end(), 0)
+        self.assertEqual(self.slots(), [])
+        path = f"{PRIVATE.folder_for_others()}/{self.table}.sock"
+        command = Command(*self.words("--listen", f"unix:{path}", "--no-token"))
+        self.assertEqual(command.process.stdout.readline().decode(), f"unix:{path}\n")
+        with contextlib.closing(http.client.HTTPConnection("localhost")) as connection, socket.socket(socket.AF_UNIX) as connection.sock:
+            connection.sock.connect(path)
+            connection.request("GET", "/healthz")
+            self.assertEqual(connection.getresponse().status, 200)
+        command.process.send_signal(signal.SIGTERM)
+        self.assertEqual((command.end(), os.path.exists(path)), (0, False))
+        told = {
+            ("--serve", "0", "--listen", "127.0.0.1:0"): "don't go together", ("--serve", "0", "--token-file", tokens): "--token-file goes with --listen",
+            ("--listen", "0.0.0.0:0"): "wants --token-file", ("--serve", "70000"): "70000 is no port", ("--listen", "what"): "what is no address",
+            ("--no-token",): "--no-token goes with --listen",
+        }
+        for words, why in told.items():
+            ran = run(*self.words(*words))
+            self.assertEqual((words, ran.returncode in (1, 2), why in ran.stderr), (words, True, True), ran.stderr)
+
+    def test_without_aiohttp(self):
+        """Serving says what it needs before anything is copied, and following needs none of it."""
+        self.sales((1, "York", "tea", 5))
+        folder = f"{PRIVATE.folder_for_others()}/without"
+        for it in ("aiohttp", "prometheus_client"):
+            os.makedirs(f"{folder}/{it}")
+            with open(f"{folder}/{it}/__init__.py", "w", encoding="utf-8") as out:
+                out.write("raise ImportError('there is none')\n")
+        with mock.patch(f"{__name__}.environment", return_value={**environment(), "PYTHONPATH": f"{folder}:{beside.ROOT}/python/src"}):
+            for words in (("--serve", "0"), ("--listen", "127.0.0.1:0")):
+                ran = run(*self.words(*words))
+                self.assertEqual((ran.returncode, ran.stdout, ran.stderr), (1, "", "jackraisin.postgres: to serve, it needs aiohttp (Debian: python3-aiohttp)\n"))
+            command = Command(*self.words())
+        self.assertEqual(command.ask("print"), self.cube_of_sql())
+        self.assertEqual(command.end(), 0)
 
     def test_faults(self):
         self.sales((1, "\\N", "tea", 2**62))
@@ -1530,6 +1590,11 @@ class Commands(Base):
         self.assertEqual(command.end(), 0)
 
 
+def sample(name, city, value, grouping=0):
+    """The line of a metric for a city, over all products."""
+    return f'datacube_{name}{{city="{city}",grouping_city="{grouping}",grouping_product="1",product="\\\\N"}} {value}'
+
+
 def get(address, **headers):
     """The status, the text and the headers of a page."""
     request = urllib.request.Request(address, headers={it.replace("_", "-"): value for it, value in headers.items()})
@@ -1541,6 +1606,7 @@ def get(address, **headers):
             return why.code, why.read().decode(), why.headers
 
 
+@serves
 class Served(Base):
     """What a follower serves."""
 
@@ -1561,6 +1627,98 @@ class Served(Base):
         status, text, others = get(f"{self.server.address}cube.csv", If_None_Match=headers["ETag"])
         self.assertEqual((status, text, others["ETag"] == headers["ETag"]), (200, self.cube_of_sql(), False))
 
+    def test_questions_in_each_form(self):
+        """Texts are asked for as they are, and null is told apart; a follower takes no changes, and refuses none."""
+        self.run_sql(r"INSERT INTO {table} VALUES (4, '\N', 'tea', 7), (5, '*', 'tea', 8)")
+        self.followed.catch_up(SECONDS)
+        wanted = {"city=York": "5", "city=%5CN": "6", "city==%5CN": "7", "city==*": "8", "city=": "\\N", "product=tea&city=%5CN": "6"}
+        for query, total in wanted.items():
+            text = get(f"{self.server.address}slice.csv?{query}")[1]
+            self.assertEqual((query, text.splitlines()[1].rpartition(",")[2]), (query, total))
+        found = json.loads(get(f"{self.server.address}drill.json?_along=city")[1])
+        self.assertEqual({it["dimensions"]["city"]: it["answers"]["sum(cents)"] for it in found}, {"": None, "*": 8, "\\N": 7, "York": 5, None: 6})
+        lines = get(f"{self.server.address}slice.txt?city=*&_top=1&_by=sum(cents)")[1].splitlines()
+        self.assertEqual([it.split() for it in lines], [["city", "product", "count(*)", "sum(cents)"], ["*", "(all)", "1", "8"]])
+        self.assertEqual([get(f"{self.server.address}{it}")[0] for it in ("changes", "refusals", "slice?town=York", "drill")], [404, 404, 400, 400])
+
+    def test_each_answer_has_what_was_taken_before(self):
+        """Also while others ask for the whole cube all the time."""
+        ended = threading.Event()
+
+        def read():
+            while not ended.is_set():
+                get(f"{self.server.address}cube.csv")
+        readers = [threading.Thread(target=read) for _ in range(4)]
+        for it in readers:
+            it.start()
+        try:
+            for cents in range(100, 130):
+                self.run_sql(f"UPDATE {{table}} SET cents = {cents} WHERE id = 1")
+                self.followed.catch_up(SECONDS)
+                for path in ("cube.csv", "slice.csv?city=York"):
+                    self.assertRegex(get(f"{self.server.address}{path}")[1], rf"York,\\N,0,1,1,{cents}\n")
+        finally:
+            ended.set()
+            for it in readers:
+                it.join()
+
+    def test_news(self):
+        """Each state, and how the follower is."""
+        with urllib.request.urlopen(f"{self.server.address}events", timeout=SECONDS) as events:
+            said = lambda: [events.readline() for _ in range(3)]
+            version = lambda: "-".join(map(str, self.followed.state.version))
+            first = {"state": version(), "connected": True, "skipped": 0, "verified": None}
+            self.assertEqual(said(), [f"id: {version()}\n".encode(), f"data: {json.dumps(first)}\n".encode(), b"\n"])
+            self.run_sql("UPDATE {table} SET cents = 8")
+            self.assertEqual(said()[0].decode(), f"id: {version()}\n")
+            self.assertEqual(get(f"{self.server.address}cube.csv")[2]["Datacube-State"], version())
+            self.run_sql("ALTER TABLE {table} DROP COLUMN product")
+            until(lambda: b"column product is gone" in events.readline(), SECONDS)
+
+    def test_idle_connections(self):
+        """300 of them, of which a half listens, cost no thread each."""
+        before = threading.active_count()
+        with contextlib.ExitStack() as idle:
+            for at in range(300):
+                it = idle.enter_context(contextlib.closing(http.client.HTTPConnection("127.0.0.1", self.server.port, timeout=SECONDS)))
+                it.request("GET", "/events" if at % 2 else "/readyz")
+                self.assertEqual(it.getresponse().status, 200)
+            self.assertLess(threading.active_count(), before + 10)
+            self.assertEqual(get(f"{self.server.address}cube.csv")[1], self.cube_of_sql())
+
+    def test_a_reader_that_stands_still_is_cut_off(self):
+        text = "city,product,grouping(city),grouping(product),count(*),sum(cents)\n" + "x,y,0,0,1,1\n" * 2**21
+        large = mock.patch.object(self.followed, "ask_with_state", return_value=(self.followed.state, text))
+        with large, mock.patch("jackraisin.serve._http.SECONDS_FOR_A_PART", 0.2), socket.create_connection(("127.0.0.1", self.server.port)) as it:
+            it.settimeout(SECONDS)
+            it.sendall(b"GET /cube.csv HTTP/1.1\r\nHost: localhost\r\n\r\n")
+            it.recv(1)
+            time.sleep(1)
+            count = 0
+            with contextlib.suppress(ConnectionError):
+                while part := it.recv(2**20):
+                    count += len(part)
+        self.assertLess(count, len(text))
+        self.assertEqual(get(f"{self.server.address}slice")[0], 200)
+
+    def test_before_it_has_caught_up(self):
+        """A transaction that is open keeps the slot from being made."""
+        with PRIVATE.connected() as cursor:
+            cursor.execute(f"BEGIN; INSERT INTO {self.table} VALUES (4, 'York', 'tea', 7)")
+            follower = Follower(PRIVATE.dsn, self.table, SALES, slot="jackraisin_other")
+            with follower, postgres.Server(follower) as server:
+                self.assertEqual([get(f"{server.address}{it}")[0] for it in ("", "cube.csv", "healthz", "readyz")], [200, 503, 200, 503])
+                text = get(f"{server.address}metrics")[1]
+                for name, is_there in (("follower_caught_up{", True), ("follower_build_info{", True), ("follower_behind_seconds{", False), ("sum_cents", False)):
+                    self.assertEqual((name, f"datacube_{name}" in text), (name, is_there))
+                with browser(self, PRIVATE.folder_for_others()) as driver:
+                    driver.get(server.address)
+                    until(lambda: "is being copied" in driver.find_element("id", "problem").text, SECONDS)
+                    cursor.execute("COMMIT")
+                    follower.wait(SECONDS)
+                    until(lambda: ["York", "2", "12"] in driver.execute_script(ROWS), SECONDS)
+                self.assertEqual(get(f"{server.address}readyz")[0], 200)
+
     def test_a_tag_of_an_earlier_start(self):
         """A browser that was given the cube by an earlier start is given it again, whatever number of changes this one has taken."""
         tag = get(f"{self.server.address}cube.csv")[2]["ETag"]
@@ -1571,34 +1729,46 @@ class Served(Base):
             status, text, headers = get(f"{server.address}cube.csv", If_None_Match=tag)
             self.assertEqual((status, text, headers["ETag"] == tag), (200, self.cube_of_sql(), False))
 
+    def test_a_server_that_fails(self):
+        """That it can't begin, or ended, is told."""
+        server = postgres.Server(self.followed)
+        with mock.patch("jackraisin.serve._page.page_text", side_effect=jackraisin.DatacubeError("there is no page")):
+            self.assertRaisesRegex(jackraisin.DatacubeError, "there is no page", server.start)
+        server.close()
+        with postgres.Server(self.followed) as server, mock.patch("jackraisin.serve._pace.Pace.due", side_effect=ZeroDivisionError):
+            get(f"{server.address}slice")
+            until(lambda: server._failure, SECONDS)
+            self.assertRaises(ZeroDivisionError, server.check)
+
     def test_this_machine_alone(self):
-        self.assertEqual(self.server._server.server_address[0], "127.0.0.1")
+        self.assertEqual(self.server._end.getsockname()[0], "127.0.0.1")
         self.assertEqual(get(f"{self.server.address}cube.csv", Host=f"shop.example:{self.server.port}")[0], 421)
         self.assertEqual(get(f"{self.server.address}cube.csv", Host=f"localhost:{self.server.port}")[0], 200)
         self.assertEqual(get(f"{self.server.address}etc/passwd")[0], 404)
 
     def test_metrics(self):
+        get(f"{self.server.address}cube.csv")
         status, text, headers = get(f"{self.server.address}metrics")
         self.assertEqual((status, headers["Content-Type"]), (200, "text/plain; version=0.0.4; charset=utf-8"))
         lines = text.splitlines()
         for line in (
-            "# TYPE datacube_sum_cents gauge", r'datacube_sum_cents{city="York",product="\\N",grouping_city="0",grouping_product="1"} 5',
-            r'datacube_sum_cents{city="\\N",product="\\N",grouping_city="0",grouping_product="1"} 6', r'datacube_count{city="",product="\\N",grouping_city="0",grouping_product="1"} 1',
-            r'datacube_sum_cents{city="\\N",product="\\N",grouping_city="1",grouping_product="1"} 11', f'datacube_follower_connected{{table="{self.table}"}} 1',
+            "# TYPE datacube_sum_cents gauge", f"# HELP datacube_sum_cents sum(cents) of {self.table}.", sample("sum_cents", "York", "5.0"), sample("sum_cents", r"\\N", "6.0"),
+            sample("count", "", "1.0"), sample("sum_cents", r"\\N", "11.0", grouping=1), f'datacube_follower_connected{{table="{self.table}"}} 1.0',
+            f'datacube_follower_copies_total{{table="{self.table}"}} 1.0', 'datacube_serve_requests_total{path="/cube.csv",status="200"} 1.0',
         ):
             self.assertIn(line, lines)
         self.assertFalse([it for it in lines if it.startswith('datacube_sum_cents{city="",')], "null has no sample")
         self.assertEqual(len(lines), len(set(lines)))
 
     def test_metrics_of_times(self):
-        number = r"([0-9]+\.[0-9]{3})$"
+        number = r"([0-9.e+]+)$"
         self.assertNotIn("datacube_follower_last_commit_time{", get(f"{self.server.address}metrics")[1])
         self.run_sql("UPDATE {table} SET cents = cents + 1")
         state, text = self.followed.catch_up(SECONDS), get(f"{self.server.address}metrics")[1]
         behind, commit = (re.search(rf'^datacube_follower_{it}{{table="{self.table}"}} {number}', text, re.MULTILINE)[1] for it in ("behind_seconds", "last_commit_time"))
         self.assertLess(float(behind), SECONDS)
         self.assertAlmostEqual(float(commit), state.last_commit, 3)
-        self.assertIn(f'datacube_follower_build_info{{version="{jackraisin.__version__}"}} 1\n', text)
+        self.assertIn(f'datacube_follower_build_info{{version="{jackraisin.__version__}"}} 1.0\n', text)
 
     def test_metrics_of_any_text(self):
         """Texts are as they are; that which is like null has a label more."""
@@ -1606,8 +1776,8 @@ class Served(Base):
         self.followed.catch_up(SECONDS)
         lines = get(f"{self.server.address}metrics")[1].splitlines()
         for line in (
-            r'datacube_sum_cents{city="\\N",product="\\N",grouping_city="0",grouping_product="1"} 6', r'datacube_sum_cents{city="\\N",product="\\N",grouping_city="0",grouping_product="1",is_text_city="1"} 7',
-            r'datacube_sum_cents{city="\\=",product="\\N",grouping_city="0",grouping_product="1"} 8', f'datacube_follower_skipped{{table="{self.table}"}} 0',
+            sample("sum_cents", r"\\N", "6.0"), r'datacube_sum_cents{city="\\N",grouping_city="0",grouping_product="1",is_text_city="1",product="\\N"} 7.0',
+            sample("sum_cents", r"\\=", "8.0"), f'datacube_follower_skipped{{table="{self.table}"}} 0.0',
         ):
             self.assertIn(line, lines)
         self.assertEqual(len(lines), len(set(lines)))
@@ -1616,14 +1786,14 @@ class Served(Base):
         server = postgres.Server(self.followed, slice=["?", "?"])
         server.start()
         self.addCleanup(server.close)
-        self.assertIn(r'datacube_sum_cents{city="York",product="green \"tea\"\n",grouping_city="0",grouping_product="0"} 5', get(f"{server.address}metrics")[1].splitlines())
+        self.assertIn(r'datacube_sum_cents{city="York",grouping_city="0",grouping_product="0",product="green \"tea\"\n"} 5.0', get(f"{server.address}metrics")[1].splitlines())
         self.assertRaises(CantFollow, postgres.Server, self.followed, slice=["?"])
 
     def test_metrics_of_the_first_rows(self):
         with postgres.Server(self.followed, max_series=2) as server:
             lines = get(f"{server.address}metrics")[1].splitlines()
         self.assertEqual(len([it for it in lines if it.startswith("datacube_count{")]), 2)
-        self.assertIn(f'datacube_follower_series_left_out{{table="{self.table}"}} 2', lines)
+        self.assertIn(f'datacube_follower_series_left_out{{table="{self.table}"}} 2.0', lines)
 
     def test_a_follower_that_stopped(self):
         self.assertEqual([get(f"{self.server.address}{it}")[0] for it in ("healthz", "readyz")], [200, 200])
@@ -1750,11 +1920,6 @@ class Parts(unittest.TestCase):
         for text, factor in (("3.505", 100), ("0.5", 1), ("NaN", 1), ("-Infinity", 100), ("", 1)):
             self.assertRaises(ValueError, _values.whole, text, factor)
 
-    def test_names_of_metrics(self):
-        text = "a b,a_b,1,grouping(a b),grouping(a_b),grouping(1),count(*),avg(x),avg(x),sum(a.b)\n\\\",,é,0,0,0,2,1/3,1/3,\\N\n"
-        metrics = "".join(_metrics.of_cube("t", jackraisin.Cube(text)))
-        self.assertIn('datacube_avg_x_2{a_b="\\\\\\"",a_b_2="",d_1="é",grouping_a_b="0",grouping_a_b_2="0",grouping_1="0"} 0.3333333333333333\n', metrics)
-        self.assertNotIn("datacube_sum_a_b{", metrics)
 
 
 if __name__ == "__main__":

@@ -25,6 +25,7 @@ import threading
 import time
 import types
 import unittest
+import urllib.parse
 from fractions import Fraction
 from unittest import mock
 
@@ -37,7 +38,8 @@ LACKS = [it for it in ("aiohttp", "prometheus_client") if not importlib.util.fin
 WHY = f"{' and '.join(LACKS)} (Debian: python3-aiohttp, python3-prometheus-client) isn't installed for this Python" if LACKS else None
 if WHY is None:
     from jackraisin._errors import Failure
-    from jackraisin.serve import _access, _browsers, _command, _connections, _events, _http, _keys, _making, _places, _query, _served, _stored, _words
+    from jackraisin.serve import _access, _browsers, _command, _connections, _events, _forms, _http, _keys, _making, _metrics, _pace, _places
+    from jackraisin.serve import _query, _reading, _served, _session, _stored, _taking, _words
     from jackraisin.serve._errors import CantServe
 
 SECONDS = 30
@@ -52,6 +54,16 @@ feed = { null = ["", "NA"], delimiter = ";", columns = { city = "Town" } }
 decimals = { price = 2 }
 """
 
+
+ELSEWHERE = """<!DOCTYPE html>
+<title>elsewhere</title>
+<iframe src="ADDRESS/"></iframe>
+<script>
+  const asked = ["/slice", "/cube.csv?_token=TOKEN", "/healthz"].map((it) => fetch("ADDRESS" + it, { credentials: "include" }));
+  asked.push(fetch("ADDRESS/changes", { method: "POST", mode: "no-cors", credentials: "include", body: "9,D,a" }));
+  Promise.allSettled(asked).then((all) => document.title = all.map((it) => it.status).join());
+</script>
+"""
 
 COPY = None
 
@@ -161,6 +173,12 @@ def until(is_so):
         if time.monotonic() > last:
             raise AssertionError("it didn't come in time")
         time.sleep(0.02)
+
+
+def threads_of(process):
+    """How many threads a process has."""
+    with open(f"/proc/{process}/status", encoding="utf-8") as file:
+        return int(dict(line.split(":", 1) for line in file)["Threads"])
 
 
 def records(rows):
@@ -596,7 +614,7 @@ class Commands(Case):
             with self.subTest(words=words), self.assertRaisesRegex(CantServe, why):
                 _words.given_by([SCHEMA, "--store", self.store, *words])
         for words in (("--listen", "0.0.0.0:0", "--token-file", tokens, "--behind-tls"), ("--listen", "localhost:0"), ("--listen", "[::1]:0"), ("--listen", "127.9.9.9:0")):
-            self.assertIsNotNone(_words.given_by([SCHEMA, "--store", self.store, *words]).tokens)
+            self.assertIsNotNone(_words.given_by([SCHEMA, "--store", self.store, *words]).reach.tokens)
         pair = "--tls-cert", tokens, "--tls-key", tokens, "--listen", "127.0.0.1:0"
         for words, why in ((pair, "the certificate or its key"), (("--listen", "0.0.0.0:0"), "wants --token-file")):
             status, out, told = self.said(SCHEMA, "--store", self.store, *words)
@@ -685,6 +703,8 @@ class Ends(Case):
         children = subprocess.run(["ps", "-o", "pid=", "--ppid", str(server.process.pid)], stdout=subprocess.PIPE, text=True).stdout.split()
         os.kill(int(children[0]), signal.SIGKILL)
         server.change(b"1,D,a\n")
+        # (a signal at its very end would be the status)
+        server.process.wait(SECONDS)
         status, told = server.end()
         self.assertEqual((status, told.splitlines()[-1]), (1, "jackraisin.serve: the program ended, killed by SIGKILL"))
 
@@ -702,9 +722,7 @@ class Ends(Case):
             self.assertEqual(server.made(records([[31, "I", at, "York", "tea", "card", 1, 1]]))["taken"], 1)
             self.assertEqual(server.get("/slice?city=York").status, 200)
         self.assertLess(time.monotonic() - start, 10)
-        with open(f"/proc/{server.process.pid}/status", encoding="utf-8") as file:
-            said = dict(line.split(":", 1) for line in file)
-        self.assertLess(int(said["Threads"]), 20)
+        self.assertLess(threads_of(server.process.pid), 20)
         with contextlib.closing(socket.create_connection(("127.0.0.1", server.port))) as listener:
             listener.sendall(f"GET /events HTTP/1.1\r\nHost: localhost\r\nAuthorization: Bearer {server.token}\r\n\r\n".encode())
             listener.recv(1000)
@@ -728,22 +746,38 @@ class Ends(Case):
 
         text = "a,grouping(a),count(*)\n" + "x,0,1\n" * 2**22
 
-        async def both():
-            with mock.patch.object(Pretended, "ask", return_value=text), mock.patch.object(_http, "SECONDS_FOR_A_PART", 0.2):
-                cube = _served.ServedCube(jackraisin.Schema(["a"], ["n"], ["count(*)"]), Pretended)
-                running = asyncio.ensure_future(cube.run(lambda _: None))
-                site = _http.Site(cube, str, None, _access.Cookie("c", False), _browsers.Browsers(), ("print",))
-                server = await asyncio.get_running_loop().create_server(site.connections, "127.0.0.1", 0)
-                while cube.state is None:
-                    await asyncio.sleep(0.001)
-                try:
-                    await run(server.sockets[0].getsockname()[1])
-                finally:
-                    server.close()
-                    await site.end(1)
-                    cube.end()
-                    await running
-        asyncio.run(both())
+        with mock.patch.object(Pretended, "ask", return_value=text), mock.patch.object(_http, "SECONDS_FOR_A_PART", 0.2):
+            asyncio.run(self.within(run))
+
+    def test_a_body_that_doesnt_come(self):
+        """Within its time it is 408, and the connection is closed."""
+        async def run(server):
+            reader, writer = await asyncio.open_connection("127.0.0.1", server)
+            writer.write(b"POST /changes HTTP/1.1\r\nHost: localhost\r\nContent-Type: text/csv\r\nContent-Length: 100\r\n\r\n1,D,a\n")
+            answer = await asyncio.wait_for(reader.read(), SECONDS)
+            writer.close()
+            return answer
+
+        with mock.patch.object(_reading, "SECONDS_FOR_A_BODY", 0.2):
+            answer = asyncio.run(self.within(run))
+        self.assertTrue(answer.startswith(b"HTTP/1.1 408 ") and b"\r\nConnection: close\r\n" in answer, answer)
+
+    async def within(self, work):
+        """What some work at the port of a server in this process gives, over a pretended session."""
+        cube = _session.SessionCube(jackraisin.Schema(["a"], ["n"], ["count(*)"]), Pretended)
+        running = asyncio.ensure_future(cube.run(lambda _: None))
+        taking = _taking.Taking(cube, str, 2**20, 2**20)
+        site = _http.Site(cube, None, _access.Cookie("c", False), _browsers.Browsers(), ("print",), taking=taking)
+        server = await asyncio.get_running_loop().create_server(site.connections, "127.0.0.1", 0)
+        while cube.state is None:
+            await asyncio.sleep(0.001)
+        try:
+            return await work(server.sockets[0].getsockname()[1])
+        finally:
+            server.close()
+            await site.end(1)
+            cube.end()
+            await running
 
     def test_what_isnt_http(self):
         server = self.server()
@@ -758,7 +792,7 @@ class Ends(Case):
     def test_a_session_that_ends_answers_all_who_wait(self):
         """Also those whose body came to its end after it."""
         async def work():
-            cube = _served.ServedCube(jackraisin.Schema(["a"], ["n"], ["count(*)"]), Pretended)
+            cube = _session.SessionCube(jackraisin.Schema(["a"], ["n"], ["count(*)"]), Pretended)
             running = asyncio.ensure_future(cube.run(lambda _: None))
             while cube.state is None:
                 await asyncio.sleep(0.001)
@@ -769,6 +803,23 @@ class Ends(Case):
                     await asyncio.wait_for(it, 5)
             return [type(it).__name__ for it in found]
         self.assertEqual(asyncio.run(work()), ["CantServe", "CantServe", "Ended"])
+
+    def test_idle_connections(self):
+        """300 of them, of which a half rests behind a request and a half listens, cost no thread each, and nobody waits for them."""
+        server = self.server()
+        before, idle = threads_of(server.process.pid), []
+        for at in range(300):
+            it = socket.create_connection(("127.0.0.1", server.port))
+            self.addCleanup(it.close)
+            it.settimeout(SECONDS)
+            path = "/events" if at % 2 else "/slice"
+            it.sendall(f"GET {path} HTTP/1.1\r\nHost: localhost\r\nAuthorization: Bearer {server.token}\r\n\r\n".encode())
+            self.assertEqual(it.recv(12), b"HTTP/1.1 200")
+            idle.append(it)
+        self.assertIn("datacube_serve_connections 301.0", server.get("/metrics").text.splitlines())
+        self.assertLess(threads_of(server.process.pid), before + 10)
+        server.made(b"9,D,a\n")
+        self.assertEqual(server.get("/slice").headers["Datacube-State"], "1")
 
     def test_too_many_connections(self):
         server = self.server("--max-connections", "3")
@@ -913,7 +964,7 @@ class Events(Case):
         async def run():
             told, cube = [], types.SimpleNamespace(state=1)
             ended, moves = asyncio.get_running_loop().create_future(), asyncio.Queue()
-            cube.moved = moves.get
+            cube.moved, cube.news = moves.get, lambda: {"state": cube.state}
 
             async def write(part):
                 told.append(part)
@@ -942,6 +993,16 @@ class Metrics(Case):
         self.assertEqual(len([it for it in lines if it.startswith("datacube_avg_cents{")]), 2)
         self.assertIn("openmetrics", server.get("/metrics", headers={"Accept": "application/openmetrics-text"}).headers["Content-Type"])
         self.assertEqual(server.get("/metrics", token=False).status, 401)
+
+    def test_names(self):
+        """Of columns whose names are none of Prometheus, or the same there; an answer that is null has no sample."""
+        text = "a b,a_b,1,grouping(a b),grouping(a_b),grouping(1),count(*),avg(x),avg(x),sum(a.b)\n\\\\N,\\N,é,0,0,0,2,1/3,1/3,\\N\n"
+        families, left_out = _metrics.families_of(text + "x,y,z,0,0,0,1,1/1,1/1,1\n" * 3, True, "t", 1)
+        found = {it.name: it.samples for it in families}
+        self.assertEqual(left_out, 3)
+        labels = {"a_b": "\\N", "a_b_2": "\\N", "d_1": "é", "grouping_a_b": "0", "grouping_a_b_2": "0", "grouping_1": "0", "is_text_a_b": "1"}
+        self.assertEqual([(it.labels, it.value) for it in found["datacube_avg_x_2"]], [(labels, 1 / 3)])
+        self.assertEqual((sorted(found), found["datacube_sum_a_b"]), (["datacube_avg_x", "datacube_avg_x_2", "datacube_count", "datacube_sum_a_b"], []))
 
     def test_the_grand_total_by_default(self):
         lines = self.server().get("/metrics").text.splitlines()
@@ -993,7 +1054,7 @@ class Browsers(Shared):
 class Explorer(Case):
     """The page at `/`."""
 
-    def test_the_page_has_the_cube_and_a_policy_by_hashes(self):
+    def test_the_page_has_a_policy_by_hashes(self):
         server = self.server()
         answer = server.get("/", token=False)
         self.assertEqual(answer.status, 401)
@@ -1003,11 +1064,11 @@ class Explorer(Case):
         self.assertEqual(said, [f"jackraisin-{server.port}={server.token}", "Path=/", "HttpOnly", "SameSite=Strict"])
         page = server.get("/", headers={"Cookie": f"other=1; {said[0]}"}, token=False)
         self.assertEqual((page.status, page.headers["Content-Type"]), (200, "text/html; charset=utf-8"))
-        added = re.search(r'open\(new File\(\[(".*?[^\\]")\], ', page.text)
-        self.assertEqual(json.loads(added[1]), server.get("/cube.csv").text)
+        self.assertIn('<meta name="datacube-served" data-name="cube.csv" data-escaped="0">', page.text)
         policy = page.headers["Content-Security-Policy"]
-        self.assertEqual((policy.count("'sha256-"), "unsafe" in policy, "unsafe-inline" in page.text, "frame-ancestors 'none'" in policy), (4, False, False, True))
-        self.assertEqual(server.get("/", headers={"If-None-Match": page.headers["ETag"]}).status, 304)
+        self.assertEqual((policy.count("'sha256-"), "unsafe" in policy, "unsafe-inline" in page.text, "frame-ancestors 'none'" in policy), (3, False, False, True))
+        again = server.get("/", headers={"If-None-Match": page.headers["ETag"]})
+        self.assertEqual((again.status, again.headers["Content-Security-Policy"]), (304, policy))
         self.assertEqual(server.get("/", headers={"Cookie": f"jackraisin-1={server.token}"}, token=False).status, 401)
         self.assertEqual(server.change(b"9,D,a\n", {**CSV, "Cookie": said[0], "Origin": "http://evil.example"}, token=False).status, 403)
         self.assertNotIn("token", server.end()[1])
@@ -1020,12 +1081,43 @@ class Explorer(Case):
             rows = lambda: driver.execute_script(beside.ROWS)
             until(lambda: ["York", "2"] in [it[:2] for it in rows()])
             self.assertNotIn("token", driver.current_url)
+            driver.refresh()
+            until(lambda: ["York", "2"] in [it[:2] for it in rows()])
             server.made(b"9,I,a,York,tea,card,1,100\n9,I,b,Hull,tea,card,1,100\n")
             until(lambda: {("York", "3"), ("Hull", "1")} <= {tuple(it[:2]) for it in rows()})
             self.assertIn("lines, as they are at", driver.find_element("id", "about").text)
+            self.see_many_tabs(server, driver, rows)
             self.assertEqual([it for it in driver.get_log("browser") if it["level"] == "SEVERE"], [])
             self.assertEqual(server.end()[0], 0)
             until(lambda: "doesn't answer" in driver.find_element("id", "problem").text)
+
+
+    def see_many_tabs(self, server, driver, rows):
+        """More than a browser has connections to a server; one that is seen again goes on."""
+        first = driver.current_window_handle
+        for _ in range(7):
+            driver.switch_to.new_window("tab")
+            driver.get(f"http://127.0.0.1:{server.port}/")
+            until(lambda: ("York", "3") in [tuple(it[:2]) for it in rows()])
+        server.made(b"9,I,c,York,tea,card,1,100\n")
+        driver.switch_to.window(first)
+        until(lambda: ("York", "4") in [tuple(it[:2]) for it in rows()])
+
+    def test_a_page_of_elsewhere(self):
+        """It can't show the page in a frame, nor read an answer, nor make a change, also where the browser has the cookie."""
+        server = self.server()
+        page = self.written("elsewhere.html", ELSEWHERE.replace("ADDRESS", f"http://127.0.0.1:{server.port}").replace("TOKEN", server.token))
+        with beside.browser(self, self.folder) as driver:
+            driver.get(server.address)
+            until(lambda: driver.execute_script(beside.ROWS))
+            driver.get(f"file://{page}")
+            until(lambda: driver.title != "elsewhere")
+            self.assertEqual(driver.title, "rejected,rejected,rejected,rejected")
+            told = [it["message"] for it in driver.get_log("browser")]
+            self.assertTrue([it for it in told if "frame-ancestors" in it or "X-Frame-Options" in it or "403" in it], told)
+            driver.switch_to.frame(0)
+            self.assertEqual(driver.find_elements("id", "table"), [])
+        self.assertEqual(server.get("/slice").headers["Datacube-State"], "0")
 
 
 class Systemd(Case):
@@ -1050,16 +1142,77 @@ class Systemd(Case):
         self.assertEqual([service[it] for it in ("Type", "KillMode", "DynamicUser", "ProtectSystem")], ["notify", "mixed", "yes", "strict"])
 
 
+    @unittest.skipUnless(shutil.which("systemd-analyze"), "systemd-analyze isn't installed")
+    def test_the_unit_is_one(self):
+        """As systemd itself reads it, and it isn't exposed much."""
+        path = f"{beside.ROOT}/examples/serve/datacube-serve.service"
+        with open(path, encoding="utf-8") as file:
+            spoiled = self.written("spoiled.service", file.read().replace("DynamicUser=", "DynamicUsers="))
+        for unit, is_right in ((path, True), (spoiled, False)):
+            ran = subprocess.run(["systemd-analyze", "verify", "--man=no", unit], stdout=subprocess.PIPE, stderr=subprocess.STDOUT, text=True)
+            self.assertEqual((unit, ran.returncode == 0 and not ran.stdout), (unit, is_right), ran.stdout)
+
+
+def blocks_of(part, port):
+    """The blocks of a part of docs/SERVE.md, each with its kind, in which the server has some port."""
+    with open(f"{beside.ROOT}/docs/SERVE.md", encoding="utf-8") as file:
+        text = file.read().partition(f"\n## {part}\n")[2].partition("\n## ")[0]
+    return [(kind, block.replace("8000", str(port))) for kind, block in re.findall(r"^```(\w*)\n(.*?)^```$", text, re.MULTILINE | re.DOTALL)]
+
+
+def free_port():
+    with socket.socket() as it:
+        it.bind(("127.0.0.1", 0))
+        return it.getsockname()[1]
+
+
 class Page(Case):
-    """The first minutes of docs/SERVE.md behind the installation, word for word."""
+    """What docs/SERVE.md shows, word for word."""
+
+    def reader(self, *words):
+        """A server over the shop's feeds, with the tokens of the page."""
+        return self.server("--token-file", self.written("tokens", "read of-the-dashboard\nchange of-the-till\n"), *words, is_awaited=False)
+
+    def test_grafana(self):
+        """The requests that its sources make."""
+        server = self.reader()
+        server.wait()
+        blocks = blocks_of("Grafana", server.port)
+        ran = subprocess.run(["bash", "-e"], input="".join(text for kind, text in blocks if kind), stdout=subprocess.PIPE, text=True, timeout=SECONDS)
+        self.assertEqual((ran.returncode, ran.stdout), (0, "".join(text for kind, text in blocks if not kind)))
+
+    @unittest.skipUnless(shutil.which("prometheus"), "Debian's package prometheus isn't installed")
+    def test_prometheus(self):
+        """It scrapes a server, by the page's configuration and token, and is asked for what it found."""
+        server, port = self.reader("--metrics", "city=*"), free_port()
+        (_, token), (_, configured) = blocks_of("Prometheus", server.port)
+        subprocess.run(["sh", "-e"], input=token, text=True, cwd=self.folder, check=True)
+        path = self.written("prometheus.yml", f"global: {{ scrape_interval: 500ms, scrape_timeout: 500ms }}\n{configured}")
+        words = [f"--config.file={path}", f"--storage.tsdb.path={self.folder}/data", f"--web.listen-address=127.0.0.1:{port}", "--log.level=error"]
+        process = subprocess.Popen(["prometheus", *words], cwd=self.folder, stdout=subprocess.DEVNULL, stderr=subprocess.DEVNULL)
+        try:
+            until(lambda: self.asked(port, 'datacube_sum_cents{city="York"}') == ["800"])
+            self.assertEqual(self.asked(port, 'sum(datacube_sum_cents{grouping_city="0"}) - on() datacube_sum_cents{grouping_city="1"}'), ["0"])
+            server.ask("POST", "/changes", b"9,I,a,York,tea,card,1,100\n", {**CSV, "Authorization": "Bearer of-the-till"})
+            until(lambda: self.asked(port, 'datacube_sum_cents{city="York"}') == ["900"])
+            self.assertEqual(self.asked(port, 'up{job="cube"}'), ["1"])
+        finally:
+            process.terminate()
+            process.wait()
+
+    def asked(self, port, query):
+        """The values that an instant query of Prometheus has."""
+        with contextlib.closing(http.client.HTTPConnection("127.0.0.1", port, timeout=SECONDS)) as connection:
+            try:
+                connection.request("GET", f"/api/v1/query?{urllib.parse.urlencode({'query': query})}")
+                found = json.loads(connection.getresponse().read())
+            except (OSError, ValueError):
+                return []
+        return [it["value"][1] for it in found["data"]["result"]]
 
     def test_five_minutes(self):
-        with open(f"{beside.ROOT}/docs/SERVE.md", encoding="utf-8") as file:
-            part = file.read().partition("\n## Five minutes from nothing\n")[2].partition("\n## ")[0]
-        with socket.socket() as it:
-            it.bind(("127.0.0.1", 0))
-            port = str(it.getsockname()[1])
-        blocks = [(kind, text.replace("8000", port)) for kind, text in re.findall(r"^```(\w*)\n(.*?)^```$", part, re.MULTILINE | re.DOTALL)]
+        """But the installation."""
+        blocks = blocks_of("Five minutes from nothing", free_port())
         self.assertIn("pip install", blocks[0][1])
         script = "set -e\n"
         for kind, text in blocks[1:]:
@@ -1114,7 +1267,7 @@ class Together(unittest.TestCase):
         session = Pretended()
 
         async def run():
-            cube = _served.ServedCube(jackraisin.Schema(["a"], ["n"], ["count(*)"]), lambda: session)
+            cube = _session.SessionCube(jackraisin.Schema(["a"], ["n"], ["count(*)"]), lambda: session)
             running = asyncio.ensure_future(cube.run(lambda _: None))
             while cube.state is None:
                 await asyncio.sleep(0.001)
@@ -1167,6 +1320,50 @@ class Together(unittest.TestCase):
                 return {it.text for it in [*found, again]}, made.call_count
         self.assertEqual(self.served(work)[0], ({"a,grouping(a),count(*)\ny,0,3\n"}, 1))
 
+    def test_long_answers_leave_time_for_changes(self):
+        """Of one print each takes 20 ms; while changes come, the next begins 60 ms later at the earliest, and cells go through."""
+        async def work(cube):
+            ended, counts = time.monotonic() + 1.5, collections.Counter()
+
+            async def again(name, work):
+                while time.monotonic() < ended:
+                    await work()
+                    counts[name] += 1
+                    await asyncio.sleep(0.001)
+            with mock.patch.object(_pace, "LONG_ANSWER", 5):
+                await asyncio.gather(
+                    *(again("whole", lambda: cube.ask(("print",))) for _ in range(6)), again("cells", lambda: cube.ask(("slice", "=x"))),
+                    again("changes", lambda: cube.make(_making.Body([["1", "D", "a"]]))),
+                )
+            return counts
+        with mock.patch.object(_pace.Pace, "is_long", lambda self, question: question[0] == "print"):
+            counts, session = self.served(work)
+        prints = sum(it == ("print",) for it in session.questions)
+        self.assertLessEqual(prints, 1.5 / 0.08 + 2)
+        self.assertGreaterEqual(counts["whole"], 5 * (prints - 1))
+        self.assertGreater(min(counts["cells"], counts["changes"]), prints, counts)
+
+    def test_changes_come_between_many_questions(self):
+        async def work(cube):
+            asked = [asyncio.ensure_future(cube.ask((f"question {at}",))) for at in range(40)]
+            await asyncio.sleep(0.01)
+            await cube.make(_making.Body([["1", "D", "a"]]))
+            before = sum(it.done() for it in asked)
+            return before, [it.state for it in await asyncio.gather(*asked)]
+        (before, states), session = self.served(work)
+        self.assertLess(before, 40)
+        self.assertEqual((states, len(session.questions)), (sorted(states), 40))
+        self.assertEqual(set(states), {0, 1})
+
+    def test_who_asks_during_an_answer_is_told_of_the_state_behind_it(self):
+        async def work(cube):
+            first = asyncio.ensure_future(cube.ask(("print",)))
+            await asyncio.sleep(0.01)
+            await cube.make(_making.Body([["1", "D", "a"]]))
+            later = await cube.ask(("print",))
+            return (await first).state, later.state
+        self.assertEqual(self.served(work)[0], (0, 1))
+
     def test_what_is_kept_of_a_state_is_bounded(self):
         async def work(cube):
             for at in range(50):
@@ -1176,6 +1373,34 @@ class Together(unittest.TestCase):
             (count, last), _ = self.served(work)
         self.assertLess(count, 7)
         self.assertEqual(last, ("question 49",))
+
+
+class Paces(unittest.TestCase):
+    """Which questions may be asked now."""
+
+    def test_one_long_one_at_a_time(self):
+        pace, questions = _pace.Pace(), [("print",), ("slice", "=x"), ("slice", "?")]
+        self.assertEqual([pace.is_long(it) for it in questions], [True, False, True])
+        self.assertEqual(pace.due(questions, 1), ([("print",), ("slice", "=x")], 0.0))
+        pace.note(("slice", "?"), 100, 5, 1)
+        self.assertEqual(pace.due(questions, 1), (questions, None))
+        pace.note(("print",), _pace.LONG_ANSWER + 1, 5, 1)
+        self.assertEqual(pace.due(questions, 1), (questions, None))
+        due, seconds = pace.due(questions, 2)
+        self.assertEqual(due, [("slice", "=x"), ("slice", "?")])
+        self.assertTrue(14 < seconds <= 15, seconds)
+
+
+class Forms(unittest.TestCase):
+    def test_texts_that_are_escaped(self):
+        """In JSON and for people they are as they are, and null is told apart."""
+        schema, text = jackraisin.Schema(["a"], ["n"], ["count(*)"]), "a,grouping(a),count(*)\n\\\\N,0,1\n\\N,0,2\n\\N,1,3\n"
+        found = json.loads(_forms.text_in_form(text, _forms.Form.JSON, schema, True))
+        self.assertEqual([it["dimensions"]["a"] for it in found], ["\\N", None, None])
+        self.assertEqual([it.split()[0] for it in _forms.text_in_form(text, _forms.Form.ALIGNED, schema, True).splitlines()], ["a", "\\N", "(null)", "(all)"])
+        self.assertEqual(_forms.text_in_form(text, _forms.Form.CSV, schema, True), text)
+        words = _query.words_of("a==%5CN")
+        self.assertEqual([_query.question_of("slice", words, schema, it) for it in (True, False)], [("slice", "=\\\\N"), ("slice", "=\\N")])
 
 
 class Heads(unittest.TestCase):

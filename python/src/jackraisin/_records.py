@@ -17,6 +17,8 @@ AGGREGATE = re.compile(r"(count|sum|min|max|avg)\(.*\)", re.DOTALL)
 # (texts may be longer than what csv takes at first, whose limit is one for the whole process)
 LONGEST = 2**31 - 1
 LIMIT = threading.RLock()
+# (what has happened in this process for good)
+LIFTED = threading.Event()
 
 
 def escaped(text: str) -> str:
@@ -63,16 +65,30 @@ def unreadable(why: object) -> Unreadable:
     return Unreadable(f"the text is no printed cube: {why}")
 
 
+def lift_limit() -> None:
+    """Has `csv` read fields of any length for good, in a process that is a command's own: its threads don't wait for one another then."""
+    csv.field_size_limit(LONGEST)
+    LIFTED.set()
+
+
 @contextlib.contextmanager
 def long_fields() -> Iterator[None]:
     """For as long as it is entered, `csv` reads fields of any length; the limit is the caller's own again behind that."""
+    try:
+        with contextlib.nullcontext() if LIFTED.is_set() else limit_lifted():
+            yield
+    except csv.Error as why:
+        raise Unreadable(f"this Python's csv can't read the text: {why}") from None
+
+
+@contextlib.contextmanager
+def limit_lifted() -> Iterator[None]:
+    """The same in a process that has a limit of its own, one thread after the other."""
     with LIMIT:
         limit = csv.field_size_limit()
         csv.field_size_limit(max(limit, LONGEST))
         try:
             yield
-        except csv.Error as why:
-            raise Unreadable(f"this Python's csv can't read the text: {why}") from None
         finally:
             csv.field_size_limit(limit)
 

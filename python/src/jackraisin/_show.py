@@ -13,13 +13,18 @@ PAGES = [os.path.join(HERE, "postgres", "explorer.html"), os.path.join(HERE, *["
 END = "</body>"
 
 
-def page_with(text: str, name: str, is_escaped: bool = False) -> str:
-    """The explorer with a script at its end that opens a printed cube, which is a text in it and nothing else."""
+def page_text() -> str:
+    """The explorer, as it is for a cube that is opened by hand."""
     path = next((it for it in PAGES if os.path.exists(it)), None)
     if path is None:
         raise DatacubeError("the package has no page: install it from the repository")
     with open(path, encoding="utf-8") as file:
-        start, end = file.read().rsplit(END, 1)
+        return file.read()
+
+
+def page_with(text: str, name: str, is_escaped: bool = False) -> str:
+    """The explorer with a script at its end that opens a printed cube, which is a text in it and nothing else."""
+    start, end = page_text().rsplit(END, 1)
     # (no letter of it ends the script, or begins a comment)
     quoted, called = (json.dumps(it).replace("<", "\\u003c") for it in (text, name))
     how = ", true" if is_escaped else ""

@@ -3,14 +3,14 @@
 Without --serve, questions are read from standard input as `datacube live` reads them (print, slice, drill, rollup), and
 answered so, after the follower has caught up; the end of the input ends it. Every answer is over all transactions until
 some commit. In both a text that begins with a backslash has one more, so that \\N is null alone. With --serve there is a page at
-http://127.0.0.1:PORT/, and /metrics for Prometheus, until it is interrupted.
+http://127.0.0.1:PORT/, with the paths of `python -m jackraisin.serve` and no token, until it is interrupted; --listen serves
+elsewhere, and for those who have a token.
 """
 from __future__ import annotations
 
 import argparse
 import contextlib
 import csv
-import logging
 import math
 import os
 import select
@@ -23,18 +23,23 @@ from typing import TYPE_CHECKING, Iterator, List, NoReturn, Optional, Sequence, 
 import psycopg2
 
 from .._errors import DatacubeError, Ended, Failure, Unsayable
-from .._records import LONGEST
+from .._records import lift_limit
+from ..serve._log import JsonLines, log_to_standard_error
+from ..serve._needs import lack
+from ..serve._notify import tell_systemd
+from ..serve._words import MOST_SERIES, Reach, add_reach, reach_of
 from . import CantFollow, Follower, NotCaughtUp, Server, drop_slot, slot_name
-from ._metrics import MOST_SERIES
 from ._publication import drop_publication
-from ._slot import PREFIX, connect
+from ._server import here
+from ._slot import PREFIX, TOLD, connect
 from ._table import find
 
 if TYPE_CHECKING:
     from psycopg2.extensions import connection as Connection
 
-SECONDS_BETWEEN_LOOKS = 0.2
+SECONDS_BETWEEN_LOOKS, SECONDS_OF_A_THREAD = 0.2, 0.0005
 SKIPPING = "always", "never"
+WITH_LISTEN = "token-file", "no-token", "tls-cert", "tls-key", "behind-tls", "host", "allow-origin"
 ENDING = signal.SIGTERM, signal.SIGHUP
 
 
@@ -58,9 +63,11 @@ def parser() -> argparse.ArgumentParser:
     asks.add_argument("--slot", metavar="NAME", help=f"the replication slot, and the publication, by default {PREFIX}TABLE_OID; one of another prefix is never dropped")
     asks.add_argument("--publication", metavar="NAME", help="a publication that names the table, where the role may not make one")
     asks.add_argument("--drop", action="store_true", help="drop the slot and the publication of a follower that was killed, and end")
-    asks.add_argument("--serve", type=int, metavar="PORT", help="serve the page and metrics on this port of 127.0.0.1; 0 is any free one")
-    asks.add_argument("--slice", type=names, metavar="PATTERN", help="what /metrics shows, as `datacube slice` takes it; by default each value of the first dimension")
-    asks.add_argument("--max-series", type=int, metavar="N", default=MOST_SERIES, help=f"the most rows of it that /metrics shows: {MOST_SERIES} by default")
+    serving = asks.add_argument_group("serving", "With --serve or --listen the page, questions and metrics are served; tokens and TLS go with --listen.")
+    serving.add_argument("--serve", type=int, metavar="PORT", help="serve on this port of 127.0.0.1, without a token; 0 is any free one")
+    add_reach(serving, None)
+    serving.add_argument("--slice", type=names, metavar="PATTERN", help="what /metrics shows, as `datacube slice` takes it; by default each value of the first dimension")
+    serving.add_argument("--max-series", type=int, metavar="N", default=MOST_SERIES, help=f"the most rows of it that /metrics shows: {MOST_SERIES} by default")
     return asks
 
 
@@ -103,8 +110,6 @@ def lines(follower: Follower) -> Iterator[str]:
 
 def answer(follower: Follower) -> None:
     """Answers the questions of standard input."""
-    # (this process is the command's own)
-    csv.field_size_limit(LONGEST)
     follower.wait()
     for record in csv.reader(lines(follower)):
         if record:
@@ -129,13 +134,35 @@ def reply(follower: Follower, record: Sequence[str]) -> bytes:
         return b"ok %d\n%s" % (len(text), text)
 
 
-def serve(follower: Follower, port: int, slice: Optional[Sequence[str]], max_series: int) -> None:
+def served_by(given: argparse.Namespace, asks: argparse.ArgumentParser) -> Optional[Reach]:
+    """Where the follower is served, if it is."""
+    if given.serve is not None and given.listen is not None:
+        asks.error("--serve and --listen don't go together")
+    of_listen = [it for it in WITH_LISTEN if getattr(given, it.replace("-", "_"))]
+    if given.listen is None and of_listen:
+        asks.error(f"--{of_listen[0]} goes with --listen")
+    if given.serve is None and given.listen is None:
+        return None
+    if lack():
+        raise CantFollow(f"to serve, {lack()}")
+    return reach_of(given) if given.listen is not None else here(given.serve)._replace(connections=given.max_connections)
+
+
+def serve(follower: Follower, reach: Reach, slice: Optional[Sequence[str]], max_series: int) -> None:
     """Serves until the follower ends."""
-    with Server(follower, port, slice, max_series) as server:
+    # (the follower's thread has little to do between two waits, and would stand behind those that serve each time)
+    sys.setswitchinterval(SECONDS_OF_A_THREAD)
+    with Server(follower, slice=slice, max_series=max_series, reach=reach) as server:
         print(server.address, flush=True)
-        while True:
-            follower.check()
-            time.sleep(SECONDS_BETWEEN_LOOKS)
+        try:
+            follower.wait()
+            tell_systemd("READY=1")
+            while True:
+                follower.check()
+                server.check()
+                time.sleep(SECONDS_BETWEEN_LOOKS)
+        finally:
+            tell_systemd("STOPPING=1")
 
 
 def drop(dsn: str, table: str, slot: Optional[str]) -> None:
@@ -156,16 +183,16 @@ def slot_of(connection: "Connection", table: str) -> str:
     return slot_name(found[1], found[0])
 
 
-def run(given: argparse.Namespace) -> int:
+def run(given: argparse.Namespace, reach: Optional[Reach]) -> int:
     """Does what is asked, and gives the status: 1 where the cube was found not to be the table's."""
     if given.drop:
         drop(given.dsn, given.table, given.slot)
         return 0
     with follower_of(given) as follower, contextlib.suppress(KeyboardInterrupt):
-        if given.serve is None:
+        if reach is None:
             answer(follower)
         else:
-            serve(follower, given.serve, given.slice, given.max_series)
+            serve(follower, reach, given.slice, given.max_series)
     return int(follower.state.differences > 0)
 
 
@@ -188,14 +215,17 @@ def main(words: Optional[Sequence[str]] = None) -> int:
     given = asks.parse_args(words)
     if not given.drop and given.schema is None:
         asks.error("the following arguments are required: --schema")
-    logging.basicConfig(format="jackraisin.postgres: %(message)s", level=logging.INFO)
+    lift_limit()
+    handler = log_to_standard_error("jackraisin.postgres")
+    if given.log_format == "json":
+        handler.setFormatter(JsonLines())
     take_signals()
     try:
-        return run(given)
+        return run(given, served_by(given, asks))
     except KeyboardInterrupt:
         return 0
     except (DatacubeError, OSError, OverflowError, psycopg2.Error) as why:
-        print(f"jackraisin.postgres: {why}", file=sys.stderr)
+        TOLD.error("%s", why)
         return 1
 
 

@@ -24,7 +24,7 @@ ALLOWED = {
     "Access-Control-Allow-Headers": "Authorization, Content-Type, Idempotency-Key, If-None-Match",
     "Access-Control-Max-Age": "600",
 }
-EXPOSED = "Datacube-State, ETag, Retry-After"
+EXPOSED = "Datacube-Connected, Datacube-Skipped, Datacube-State, Datacube-Table, Datacube-Verified, ETag, Retry-After"
 
 
 @dataclass(frozen=True)

@@ -3,7 +3,8 @@ from __future__ import annotations
 
 import asyncio
 import contextlib
-from typing import Awaitable, Callable
+import json
+from typing import Awaitable, Callable, Mapping
 
 from ._served import ServedCube
 
@@ -17,10 +18,10 @@ async def tell_states(cube: ServedCube, write: Callable[[bytes], Awaitable[None]
     """Tells of the state that is there and of each that comes, until the end. Who reads slowly is told of the latest one."""
     told = None
     while not ended.done():
-        state = cube.state
-        if state is not None and state != told:
-            await write(b'id: %d\ndata: {"state": %d}\n\n' % (state, state))
-            told = state
+        news = cube.news()
+        if news is not None and news != told:
+            await write(event_of(news))
+            told = news
             continue
         moved = asyncio.ensure_future(cube.moved())
         with contextlib.suppress(asyncio.CancelledError):
@@ -28,3 +29,10 @@ async def tell_states(cube: ServedCube, write: Callable[[bytes], Awaitable[None]
             if not done:
                 await write(NOTHING)
         moved.cancel()
+
+
+def event_of(news: Mapping[str, object]) -> bytes:
+    """The event that tells of news. (A line end within a text is spelled, so an event has one line.)"""
+    state = news.get("state")
+    number = "" if state is None else f"id: {state}\n"
+    return f"{number}data: {json.dumps(news)}\n\n".encode("ascii")

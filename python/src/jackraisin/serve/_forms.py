@@ -1,16 +1,14 @@
 """The forms of an answer: CSV as the program prints it, JSON, and aligned columns for people."""
 from __future__ import annotations
 
-import csv
 import enum
-import io
 import json
 import re
 import unicodedata
 from typing import Callable, Dict, Iterable, List, Sequence
 
 from .._columns import is_mean
-from .._records import NULL, dimensions_in
+from .._records import NULL, dimensions_in, records_of, unescaped
 from .._schema import Schema
 
 NUMBER = re.compile(r"-?[0-9]+(\.[0-9]+)?")
@@ -45,23 +43,28 @@ def weight_of(wanted: str) -> float:
     return float(found[1]) if found else 1.0
 
 
-def text_in_form(text: str, form: Form, schema: Schema) -> str:
-    """An answer of the program in a form."""
+def text_in_form(text: str, form: Form, schema: Schema, is_escaped: bool = False) -> str:
+    """An answer of the program in a form. Texts that are escaped are so in CSV alone, in which null would be one of them else."""
     if form is Form.CSV:
         return text
-    head, *rows = csv.reader(io.StringIO(text, newline=""))
+    with records_of(text) as records:
+        # (other threads go on between two of them)
+        head, *rows = [it for it in records]
     if head == ["source", "record", "code"]:
         return refusals_json(head, rows) if form is Form.JSON else aligned([head, *rows], 0)
-    return cube_json(head, rows) if form is Form.JSON else cube_aligned(head, rows, schema)
+    read: Callable[[str], str] = str
+    if is_escaped:
+        read = unescaped
+    return cube_json(head, rows, read) if form is Form.JSON else cube_aligned(head, rows, schema, read)
 
 
-def cube_json(head: Sequence[str], rows: Iterable[List[str]]) -> str:
+def cube_json(head: Sequence[str], rows: Iterable[List[str]], read: Callable[[str], str]) -> str:
     """An array of the objects that `datacube print --json` writes, one on each line."""
     count = dimensions_of(head)
     names, aggregates = head[:count], head[2 * count :]
     return array(
         '{"dimensions":%s,"grouping":%s,"answers":%s}' % (
-            members(names, ["null" if it == NULL else quoted(it) for it in row[:count]]),
+            members(names, ["null" if it == NULL else quoted(read(it)) for it in row[:count]]),
             members(names, row[count : 2 * count]),
             members(aggregates, [answer_json(it) for it in row[2 * count :]]),
         )
@@ -94,14 +97,14 @@ def answer_json(field: str) -> str:
     return field if NUMBER.fullmatch(field) else quoted(field)
 
 
-def cube_aligned(head: Sequence[str], rows: Sequence[Sequence[str]], schema: Schema) -> str:
+def cube_aligned(head: Sequence[str], rows: Sequence[Sequence[str]], schema: Schema, read: Callable[[str], str]) -> str:
     """The columns that `datacube print --aligned` shows."""
     count = dimensions_of(head)
     aggregates = head[2 * count :]
     shown = [answer_shown_of(it, schema) for it in aggregates]
     lines = [[*head[:count], *aggregates]]
     for row in rows:
-        coordinates = [coordinate_shown(*it) for it in zip(row[:count], row[count : 2 * count])]
+        coordinates = [coordinate_shown(text, mark, read) for text, mark in zip(row[:count], row[count : 2 * count])]
         answers = ["(null)" if it == NULL else show(it) for it, show in zip(row[2 * count :], shown)]
         lines.append([*coordinates, *answers])
     return aligned(lines, count) + (f"{ROUNDED}\n" if any(map(is_mean, aggregates)) else "")
@@ -122,8 +125,8 @@ def answer_shown_of(aggregate: str, schema: Schema) -> Callable[[str], str]:
     return str
 
 
-def coordinate_shown(text: str, mark: str) -> str:
-    return "(all)" if mark == "1" else "(null)" if text == NULL else text
+def coordinate_shown(text: str, mark: str, read: Callable[[str], str]) -> str:
+    return "(all)" if mark == "1" else "(null)" if text == NULL else read(text)
 
 
 def rounded(fraction: str, digits: int, times: int = 1) -> str:

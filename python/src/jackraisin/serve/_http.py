@@ -5,12 +5,11 @@ import asyncio
 import contextlib
 import logging
 import time
-from hashlib import sha256
 from http import HTTPStatus
 from typing import Awaitable, Callable, Dict, Mapping, NamedTuple, Optional, Sequence, Union
 from urllib.parse import unquote
 
-from aiohttp import web
+from aiohttp import HttpVersion10, HttpVersion11, web
 
 from .._errors import Failure
 from ._access import Cookie, Right, Tokens, token_of_header
@@ -19,32 +18,36 @@ from ._connections import SECONDS_OF_REST, Connections
 from ._errors import BadBody, BadQuery, CantServe, OtherBody
 from ._events import KIND, tell_states
 from ._forms import SUFFIXES, form_accepted
-from ._making import Body, Made
 from ._metrics import Metrics
 from ._page import page_of
-from ._query import OWN_WORDS, TOKEN, Question, Words, question_of, view_of, words_of
-from ._reading import Room, key_of, reader_of
-from ._replies import Refusal, Reply, json_reply, not_yet
-from ._served import LONG, Answer, ServedCube, beside
+from ._query import TOKEN, Question, Words, question_of, view_of, words_of
+from ._replies import Refusal, Reply, not_yet
+from ._served import LONG, Answer, ServedCube, State, beside
+from ._taking import Taking
 from ._versions import SHORT, Tags, takes_gzip
+from ._words import MOST_CONNECTIONS, MOST_SERIES
 
 TOLD = logging.getLogger("jackraisin.serve")
+# (what isn't HTTP is answered by 400, and anyone may send it)
+NOT_TOLD = logging.getLogger("jackraisin.serve.requests")
+NOT_TOLD.propagate = False
+NOT_TOLD.addHandler(logging.NullHandler())
 
 SECONDS_FOR_A_PART = 30.0
 PART = 2**16
 READS = ("GET", "HEAD")
+# (what reads requests takes any other as one of these)
+VERSIONS = (HttpVersion10, HttpVersion11)
 PAGE, HTML = "page", "text/html; charset=utf-8"
 # (a client may keep what has a tag, and asks each time whether it still holds)
 KEPT = {"Cache-Control": "private, no-cache", "Vary": "Accept, Accept-Encoding"}
 
 
 class Limits(NamedTuple):
-    """The bytes of a body and of all bodies that are read at a time, the number of connections, and of rows in metrics."""
+    """The number of connections, and of rows in metrics."""
 
-    body: int = 8 * 2**20
-    bodies: int = 64 * 2**20
-    connections: int = 1000
-    series: int = 1000
+    connections: int = MOST_CONNECTIONS
+    series: int = MOST_SERIES
 
 
 class Path(NamedTuple):
@@ -69,27 +72,28 @@ class Asked(NamedTuple):
 
 
 class Site:
-    """Answers requests over a served cube. A token is wanted where there are tokens; the metrics are of what a question asks."""
+    """Answers requests over a served cube. A token is wanted where there are tokens; the metrics are of what a question asks. Changes
+    are taken by what takes them, where there is that."""
 
     def __init__(
         self,
         cube: ServedCube,
-        meaning: Callable[[int], str],
         tokens: Optional[Tokens],
         cookie: Cookie,
         browsers: Browsers,
         shown: Question,
         limits: Limits = Limits(),
+        taking: Optional[Taking] = None,
     ) -> None:
         self.cube, self.limits = cube, limits
-        self._meaning, self._tokens, self._cookie, self._browsers, self._shown = meaning, tokens, cookie, browsers, shown
-        self._room = Room(limits.body, limits.bodies)
-        self._tags, self._metrics = Tags(), Metrics(limits.series)
+        self._taking, self._tokens, self._cookie, self._browsers, self._shown = taking, tokens, cookie, browsers, shown
+        self._page_of_cube = Answer(PAGE, "", cube.schema), page_of(cube.name, cube.is_escaped)
+        self._tags, self._metrics = Tags(), Metrics(cube, limits.series)
         self._ended: "asyncio.Future[None]" = asyncio.get_running_loop().create_future()
         self._busy = 0
         self._rest = asyncio.Event()
         self.is_ending = False
-        handlers = web.Server(self._answer, keepalive_timeout=SECONDS_OF_REST, access_log=None, auto_decompress=False)
+        handlers = web.Server(self._answer, keepalive_timeout=SECONDS_OF_REST, access_log=None, auto_decompress=False, logger=NOT_TOLD)
         self._handlers = handlers
         self.connections = Connections(handlers, limits.connections)
         self._paths = self._all_paths()
@@ -97,13 +101,14 @@ class Site:
     def _all_paths(self) -> Dict[str, Path]:
         paths = {
             "/": Path(READS, Right.READ, self._page),
-            "/changes": Path(["POST"], Right.CHANGE, self._changes),
             "/events": Path(["GET"], Right.READ, self._events),
             "/metrics": Path(READS, Right.READ, self._measured),
             "/healthz": Path(READS, None, self._health),
             "/readyz": Path(READS, None, self._readiness),
         }
-        for name in OWN_WORDS:
+        if self._taking is not None:
+            paths["/changes"] = Path(["POST"], Right.CHANGE, self._changes)
+        for name in self.cube.questions:
             for suffix in ("", *(f".{it}" for it in SUFFIXES)):
                 paths[f"/{name}{suffix}"] = Path(READS, Right.READ, self._question)
         return paths
@@ -162,6 +167,8 @@ class Site:
             return Refusal(HTTPStatus.INTERNAL_SERVER_ERROR, "the server failed at this request").reply
 
     async def _replied(self, request: web.BaseRequest) -> Union[Reply, web.StreamResponse]:
+        if request.version not in VERSIONS:
+            raise Refusal(HTTPStatus.HTTP_VERSION_NOT_SUPPORTED, "this is HTTP/1.1", {"Connection": "close"})
         self._browsers.check(request.headers)
         if is_asked_before(request.method, request.headers):
             return may_ask()
@@ -225,45 +232,43 @@ class Site:
 
     async def _question(self, asked: Asked) -> Reply:
         name, _, suffix = asked.path[1:].partition(".")
-        question, view = question_of(name, asked.words, self.cube.schema), view_of(asked.words.own, self.cube.schema)
+        question, view = question_of(name, asked.words, self.cube.schema, self.cube.is_escaped), view_of(asked.words.own, self.cube.schema)
         form = SUFFIXES[suffix] if suffix else form_accepted(asked.headers.get("Accept", ""))
-        if self._tags.has(asked.headers, self._ready_state(), form.name):
-            return self._not_modified(form.name, form.value)
+        state = self._ready_state()
+        if self._tags.has(asked.headers, state, form.name):
+            return self._not_modified(state, form.name, form.value, self.cube.headers())
         answer = await (self.cube.ask(question) if view is None else self.cube.ask_in_view(question, view))
-        return await self._versioned(asked, answer, form.name, Reply(HTTPStatus.OK, await answer.form(form), form.value))
+        headers = {"Datacube-State": str(answer.state), **self.cube.headers()}
+        return await self._versioned(asked, answer, form.name, Reply(HTTPStatus.OK, await answer.form(form), form.value, headers))
 
     async def _page(self, asked: Asked) -> Reply:
         """The explorer. A token of the address becomes a cookie, so that it doesn't stay there."""
         if TOKEN in asked.words.own:
             return Reply(HTTPStatus.SEE_OTHER, b"", headers={"Location": "/", "Set-Cookie": self._cookie.said(asked.words.own[TOKEN])})
-        if self._tags.has(asked.headers, self._ready_state(), PAGE):
-            return self._not_modified(PAGE, HTML)
-        answer = await self.cube.ask(("print",))
-        page = await answer.once(PAGE, lambda: page_of(answer.text, answer.state))
-        return await self._versioned(asked, answer, PAGE, Reply(HTTPStatus.OK, page.body, HTML, {"Content-Security-Policy": page.policy}))
+        answer, page = self._page_of_cube
+        # (with a page that it has a browser keeps the policy of the last reply)
+        policy = {"Content-Security-Policy": page.policy}
+        if self._tags.has(asked.headers, answer.state, PAGE):
+            return self._not_modified(answer.state, PAGE, HTML, policy)
+        return await self._versioned(asked, answer, PAGE, Reply(HTTPStatus.OK, page.body, HTML, policy))
 
-    def _not_modified(self, form: str, kind: str) -> Reply:
-        return Reply(HTTPStatus.NOT_MODIFIED, b"", kind, {**KEPT, "ETag": self._tags.of(self._ready_state(), form, False)})
+    def _not_modified(self, state: State, form: str, kind: str, headers: Mapping[str, str] = {}) -> Reply:
+        return Reply(HTTPStatus.NOT_MODIFIED, b"", kind, {**KEPT, **headers, "ETag": self._tags.of(state, form, False)})
 
     async def _versioned(self, asked: Asked, answer: Answer, form: str, reply: Reply) -> Reply:
         """A reply of a state with its tag, packed where it may be."""
         body, is_packed = reply.body, len(reply.body) > SHORT and takes_gzip(asked.headers)
-        headers = {**KEPT, **reply.headers, "Datacube-State": str(answer.state), "ETag": self._tags.of(answer.state, form, is_packed)}
+        headers = {**KEPT, **reply.headers, "ETag": self._tags.of(answer.state, form, is_packed)}
         if is_packed:
             body, headers["Content-Encoding"] = await answer.packed(form, body), "gzip"
         return Reply(reply.status, body, reply.kind, headers)
 
     async def _changes(self, asked: Asked) -> Reply:
-        read, key = reader_of(asked.headers), key_of(asked.request)
-        self._ready_state()
-        with self._room.held(asked.request):
-            data = await self._room.read(asked.request)
-            made = await self.cube.make(await beside(len(data), lambda: Body(read(data, self.cube.schema), sha256(data).digest(), key)))
-            self._metrics.changes(made.taken, len(made.refused))
-            return json_reply(await beside(LONG if made.refused else 0, lambda: self._told_of(made)))
+        assert self._taking is not None
+        return await self._taking.reply(asked.request)
 
     async def _events(self, asked: Asked) -> web.StreamResponse:
-        self._ready_state()
+        self.cube.check_running()
         response = web.StreamResponse(headers=self._headers_of(asked.request, Reply(HTTPStatus.OK, b"", KIND)))
         with contextlib.suppress(ConnectionError):
             await response.prepare(asked.request)
@@ -271,15 +276,19 @@ class Site:
         return response
 
     async def _measured(self, asked: Asked) -> Reply:
-        """The metrics; before the session is there, those of the server alone."""
-        state = self.cube.state
-        text = (await self.cube.ask(self._shown)).text if state is not None else None
+        """The metrics; before there are answers those of the source and the server alone. A source that has stopped has none, so that
+        monitors see it."""
+        text = None
+        with contextlib.suppress(CantServe):
+            text = (await self.cube.ask(self._shown)).text
+        self.cube.check_running()
         size = LONG if text is not None and len(text) > SHORT else 0
         accept = asked.headers.get("Accept", "")
-        body, kind = await beside(size, lambda: self._metrics.text(accept, state, text, len(self.connections)))
+        body, kind = await beside(size, lambda: self._metrics.text(accept, text, len(self.connections)))
         return Reply(HTTPStatus.OK, body, kind)
 
     async def _health(self, asked: Asked) -> Reply:
+        self.cube.check_running()
         return Reply(HTTPStatus.OK, b"ok\n")
 
     async def _readiness(self, asked: Asked) -> Reply:
@@ -288,16 +297,13 @@ class Site:
             raise not_yet("the server is ending")
         return Reply(HTTPStatus.OK, b"ok\n")
 
-    def _ready_state(self) -> int:
+    def _ready_state(self) -> State:
         """The state that questions see."""
         self.cube.check()
-        assert self.cube.state is not None
-        return self.cube.state
-
-    def _told_of(self, made: Made) -> Dict[str, object]:
-        """What became of changes, as it is told."""
-        refused = [{**it._asdict(), "means": self._meaning(it.code)} for it in made.refused]
-        return {"taken": made.taken, "refused": refused, "state": made.state}
+        state = self.cube.state
+        if state is None:
+            raise CantServe("there is no answer now")
+        return state
 
 
 def told_of(why: Failure) -> str:

@@ -7,7 +7,7 @@ from urllib.parse import parse_qsl
 
 from .._cells import text_of
 from .._errors import Unsayable
-from .._records import NULL
+from .._records import NULL, escaped
 from .._schema import Schema
 from ._errors import BadQuery
 
@@ -54,8 +54,8 @@ def words_of(query: str) -> Words:
     return found
 
 
-def question_of(name: str, words: Words, schema: Schema) -> Question:
-    """The question that a path of some name asks."""
+def question_of(name: str, words: Words, schema: Schema, is_escaped: bool = False) -> Question:
+    """The question that a path of some name asks, of a cube whose texts may be escaped."""
     strangers = [it for it in words.own if it not in (*OWN_WORDS[name], TOKEN)]
     if strangers:
         raise BadQuery(f"/{name} has no word {strangers[0]}: a dimension of that name is _{strangers[0]}")
@@ -65,7 +65,7 @@ def question_of(name: str, words: Words, schema: Schema) -> Question:
         return ("print",)
     if name == "refusals":
         return refusals_question(words.own)
-    fields = fields_of_words(words.dimensions, schema)
+    fields = fields_of_words(words.dimensions, schema, is_escaped)
     if name == "slice":
         return ("slice", *fields)
     if "_along" not in words.own:
@@ -102,15 +102,15 @@ def view_of(own: Mapping[str, str], schema: Schema) -> Optional[View]:
     return View(None if top is None else int(top), by, percent)
 
 
-def fields_of_words(given: Mapping[str, str], schema: Schema) -> List[str]:
+def fields_of_words(given: Mapping[str, str], schema: Schema, is_escaped: bool = False) -> List[str]:
     """A field for each dimension, as a session takes it; one that isn't named is ALL."""
     strangers = [it for it in given if it not in schema.dimensions]
     if strangers:
         raise BadQuery(f"no dimension is named {strangers[0]}: they are {', '.join(schema.dimensions)}")
-    return [field_of_word(it, given[it]) if it in given else ALL_FIELD for it in schema.dimensions]
+    return [field_of_word(it, given[it], is_escaped) if it in given else ALL_FIELD for it in schema.dimensions]
 
 
-def field_of_word(name: str, value: str) -> str:
+def field_of_word(name: str, value: str, is_escaped: bool = False) -> str:
     """The field for `*`, which is any coordinate, for `\\N`, which is null, and for a text, which has a `=` before it where it
     begins with `*`, `\\` or `=`."""
     if value == "*":
@@ -118,7 +118,8 @@ def field_of_word(name: str, value: str) -> str:
     if value == NULL:
         return NULL
     if value.startswith("="):
-        return checked(value, name)
+        text = value[1:]
+        return checked(f"={escaped(text) if is_escaped else text}", name)
     if value.startswith(("*", "\\")):
         raise BadQuery(f"{name}={value}: * is any coordinate and {NULL} is null; a text that begins so has a = before it")
     return checked(f"={value}", name)

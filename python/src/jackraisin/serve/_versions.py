@@ -5,6 +5,8 @@ import re
 import secrets
 from typing import Dict, Mapping
 
+from ._served import State
+
 # (what is shorter isn't worth packing)
 SHORT = 1024
 TAG = re.compile(r'(?:W/)?("[^"]*")|\*')
@@ -16,10 +18,10 @@ class Tags:
     def __init__(self) -> None:
         self._word = secrets.token_hex(8)
 
-    def of(self, state: int, form: str, is_packed: bool) -> str:
+    def of(self, state: State, form: str, is_packed: bool) -> str:
         return f'"{self._word}-{state}-{form.lower()}{"-gzip" if is_packed else ""}"'
 
-    def has(self, headers: Mapping[str, str], state: int, form: str) -> bool:
+    def has(self, headers: Mapping[str, str], state: State, form: str) -> bool:
         """Whether a client has an answer of this state and form, packed or not."""
         known = [it[1] or "*" for it in TAG.finditer(headers.get("If-None-Match", ""))]
         return "*" in known or any(self.of(state, form, it) in known for it in (False, True))
