@@ -120,7 +120,8 @@ def shop_contrast(trials, page, cube):
         page.colours(look)
         page.fresh()
         see_contrast(trials, page, f"{look}, the start", 8)
-        for name, address in (("table", "#slice=%3F,%3F,%5CA"), ("heat map", "#slice=%3F,%3F,%5CA&form=heat&colour=9")):
+        for name, address in (("table", "#slice=%3F,%3F,%5CA"), ("heat map", "#slice=%3F,%3F,%5CA&form=heat&colour=9"),
+                              ("bars", "#slice=%3F,%3F,%5CA&form=bars&colour=9"), ("lines", "#slice=%3F,%3F,%5CA&form=lines&colour=9")):
             page.open(cube, address)
             see_contrast(trials, page, f"{look}, the {name}", 60)
     page.colours("light")

@@ -3,25 +3,55 @@ how wide the page may be."""
 import time
 from fractions import Fraction
 
-from explorer_page import SHOP, SHOP_SCHEMA, printed, shown_answer, wanted_rows
+from explorer_page import SETTLED, SHOP, SHOP_SCHEMA, printed, shown_answer
 
 # the addresses of the shop's views that are looked at in each width
-VIEWS = {"each city": "#slice=%3F,%5CA,%5CA", "each cell": "#slice=%3F,%3F,%3F", "the heat map": "#slice=%3F,%3F,%5CA&form=heat&colour=9"}
+TWO = "#slice=%3F,%3F,%5CA"
+VIEWS = {"each city": "#slice=%3F,%5CA,%5CA", "each cell": "#slice=%3F,%3F,%3F", "the heat map": f"{TWO}&form=heat&colour=9",
+         "bars": f"{TWO}&form=bars&answers=7,9", "lines": f"{TWO}&form=lines&colour=9", "stacked bars": f"{TWO}&form=stacked&colour=9"}
 WIDTHS = (420, 1280, 2560)
 # what of the page stands over its right side, and which numbers of the first column of answers can't be seen
 OVER = """
 const wide = document.documentElement.clientWidth, inside = (it) => it.closest("#scroller, #chart") !== null;
 const over = [...document.querySelectorAll("body *")].filter((it) => !inside(it) && it.checkVisibility()
   && !it.closest(".unseen") && it.getBoundingClientRect().right > wide + 0.5).map((it) => it.id || it.textContent.slice(0, 40));
-return [document.documentElement.scrollWidth <= wide, over];
+const chart = document.getElementById("chart");
+return [document.documentElement.scrollWidth <= wide && (chart.hidden || chart.scrollWidth <= chart.clientWidth), over];
 """
 UNSEEN = """
+const numbers = [...document.querySelectorAll("#chart svg text")], frame = document.getElementById("chart").getBoundingClientRect();
+if (numbers.length) {
+  return [numbers.length, numbers.map((it) => [it.textContent, it.getBoundingClientRect()]).filter(([, it]) =>
+    it.left < frame.left || it.right > Math.min(frame.right, innerWidth)).map((it) => it[0])];
+}
 const box = document.getElementById("scroller").getBoundingClientRect();
 const firsts = [...document.querySelectorAll("#table tr[data-row]")].map((it) => it.querySelector(".main-number, td.heat button, td .pill"));
 return [firsts.length, firsts.filter((it) => {
   const here = it.getBoundingClientRect(), cell = it.closest("td").getBoundingClientRect();
   return here.right > Math.min(box.right, innerWidth) || here.left < Math.max(box.left, cell.left - 0.5) || here.width < 5;
 }).map((it) => it.textContent)];
+"""
+
+# of each colour of a chart, its contrast with the paper
+SHAPES = """
+const luminance = (text) => {
+  const [red, green, blue] = text.match(/\\d+/g).map((it) => it / 255).map((it) => it <= 0.04045 ? it / 12.92 : ((it + 0.055) / 1.055) ** 2.4);
+  return 0.2126 * red + 0.7152 * green + 0.0722 * blue;
+};
+const paper = luminance(getComputedStyle(document.getElementById("chart")).backgroundColor), shape = document.querySelector("#chart .shape");
+return ["s0", "s1", "s2", "s3", "s4", "s5", "s6", "rest"].map((name) => {
+  shape.setAttribute("class", `shape ${name}`);
+  const [high, low] = [luminance(getComputedStyle(shape).fill), paper].sort((a, b) => b - a);
+  return [name, (high + 0.05) / (low + 0.05)];
+});
+"""
+# of each mark of a chart: its name, the exact text, its place and series, and what is drawn of it
+MARKS = """
+return [...document.querySelectorAll("#chart figure")].map((figure) => [...figure.querySelectorAll(".mark")].map((it) => {
+  const shape = it.querySelector(".shape"), read = (name) => shape && shape.hasAttribute(name) ? Number(shape.getAttribute(name)) : null;
+  return { name: it.getAttribute("aria-label"), exact: it.dataset.exact, place: Number(it.dataset.place), series: it.dataset.series,
+    drawn: Number(it.dataset.drawn), x: read("x"), width: read("width"), cx: read("cx"), cy: read("cy"), role: it.getAttribute("role") };
+}));
 """
 
 
@@ -109,6 +139,144 @@ def first_rows(trials, page, cube):
     trials.see("least in it", "least=400x" in address)
 
 
+def name_of(text):
+    return "null" if text == "\\N" else text
+
+
+def is_linear(pairs):
+    """Whether numbers and lengths go together, as those of a scale do."""
+    (low, start), (high, end) = min(pairs), max(pairs)
+    return high > low and all(abs(length - start - (value - low) * (end - start) / (high - low)) < 0.51 for value, length in pairs)
+
+
+def bars(trials, page, cube):
+    """Bars have the numbers of the cube's lines, and their lengths; what isn't shown is one more bar, which is exact."""
+    cells, _, whole = city_products()
+    page.open(cube, f"{TWO}&colour=9")
+    page.click("#as-bars")
+    marks = page.js(MARKS)[0]
+    cents = {" · ".join(map(name_of, key[:2])): line[2] for key, line in cells.items()}
+    trials.see("bars: names and numbers", [it["name"] for it in marks], [f"{name}: {name_of(shown_answer(it).strip('[]'))}" for name, it in cents.items()])
+    there = [it for it in marks if it["width"] is not None]
+    trials.see("bars: exact texts", [it["exact"] for it in there], [it for it in cents.values() if it != "\\N"])
+    trials.see("bars: lengths", is_linear([(0, 0), *((int(it["exact"]), it["width"]) for it in there)]))
+    trials.see("bars: null has no bar", [it["name"] for it in marks if it["width"] is None], ["null · coffee: null"])
+    page.go(f"{TWO}&form=bars&answers=7,9,12&sort=-9&top=2")
+    counts, sums, means = page.js(MARKS)
+    trials.see("several answers side by side", [len(counts), len(sums), len(means)], [3, 3, 2])
+    rest = sum(sorted((int(it) for it in cents.values() if it != "\\N"), reverse=True)[2:])
+    trials.see("the rest as a bar", (sums[2]["name"], sums[2]["exact"], sums[2]["role"]), (f"rest ({len(cells) - 2}): {rest:,}", str(rest), "img"))
+    sides = page.js("return new Set([...document.querySelectorAll('#chart figure')].map((it) => it.getBoundingClientRect().top)).size")
+    trials.see("they stand side by side", sides, 1)
+    trials.see("a mean under the pointer", "/" in means[0]["exact"])
+    page.go(f"{TWO}&form=bars&colour=9&share=total")
+    wanted = [percent(it, whole[2]) if it != "\\N" else "null" for it in cents.values()]
+    trials.see("bars of shares", [it["name"].split(": ")[1] for it in page.js(MARKS)[0]], wanted)
+    trials.see("the share is drawn", page.js(MARKS)[0][0]["drawn"], float(wanted[0].split(" ")[0]))
+
+
+def lines(trials, page, cube):
+    """Lines go along a dimension in its order, a line for each value of the other one."""
+    cells, _, _ = city_products()
+    page.open(cube, f"{TWO}&form=lines&colour=9&along=2")
+    marks = page.js(MARKS)[0]
+    cents = {f"{name_of(key[1])}, {name_of(key[0])}": line[2] for key, line in cells.items() if line[2] != "\\N"}
+    trials.see("lines: exact texts", {it["name"].split(": ")[0]: it["exact"] for it in marks}, cents)
+    trials.see("lines: heights", is_linear([(int(it["exact"]), -it["cy"]) for it in marks]))
+    products = ["coffee", "tea", "tea, green"]
+    trials.see("lines: in the order of the dimension", all(it["name"].startswith(products[it["place"]] + ", ") for it in marks))
+    trials.see("lines: from the left", is_linear([(it["place"], it["cx"]) for it in marks]))
+    paths = page.js("return [...document.querySelectorAll('#chart path.line')].map((it) => it.getAttribute('d').split(/[ML]/).length - 1)")
+    trials.see("lines: a point for each number", sum(paths), len(cents))
+    page.choose("along", "0")
+    trials.see("along the other one", {it["name"].split(": ")[0] for it in page.js(MARKS)[0]},
+               {f"{name_of(key[0])}, {name_of(key[1])}" for key, line in cells.items() if line[2] != "\\N"})
+    page.go("#slice=%3F,%5CA,%5CA&form=lines&colour=12")
+    wanted = [it[-1] for it in printed("slice", SHOP_SCHEMA, "?,\\A,\\A", *SHOP)[1:] if it[3] == "0"]
+    trials.see("one line, of means", [it["exact"] for it in page.js(MARKS)[0]], wanted)
+    trials.see("its heights", is_linear([(float(Fraction(it["exact"])), -it["cy"]) for it in page.js(MARKS)[0]]))
+
+
+def stacked(trials, page, cube):
+    """Parts of a bar follow each other, and their sum is the line's."""
+    cells, cities, _ = city_products()
+    page.open(cube, f"{TWO}&form=stacked&colour=9")
+    marks = [it for it in page.js(MARKS)[0] if it["width"] is not None]
+    cents = {f"{name_of(key[0])}, {name_of(key[1])}": line[2] for key, line in cells.items() if line[2] != "\\N"}
+    trials.see("stacked: exact texts", {it["name"].split(": ")[0]: it["exact"] for it in marks}, cents)
+    trials.see("stacked: lengths", is_linear([(0, 0), *((int(it["exact"]), it["width"]) for it in marks)]))
+    ends = {}
+    for it in marks:
+        trials.see(f"stacked: {it['name']} begins where the one before ends", abs(it["x"] - ends.get(it["place"], it["x"])) < 0.1)
+        ends[it["place"]] = it["x"] + it["width"]
+    numbers = page.js("return [...document.querySelectorAll('#chart text.number')].map((it) => it.textContent)")
+    trials.see("stacked: sums", numbers, [shown_answer(line[2]) for line in cities.values()])
+    page.go(f"{TWO}&form=stacked&colour=9&top=1")
+    most = sorted((int(line[2]) for line in cities.values()), reverse=True)
+    numbers = page.js("return [...document.querySelectorAll('#chart text.number')].map((it) => it.textContent)")
+    trials.see("stacked: the greatest bar and the rest", numbers, [f"{most[0]:,}", f"{sum(most[1:]):,}"])
+    page.go("#slice=%3F,%3F,%5CA&colour=12")
+    trials.see("means aren't stacked", page.js("const it = document.getElementById('as-stacked'); return [it.disabled, it.title]"),
+               [True, "Counts and sums alone can be stacked"])
+
+
+def chart_keys(trials, page, cube):
+    """Charts by keys and by the pointer, with names."""
+    from selenium.webdriver.common.action_chains import ActionChains
+    from selenium.webdriver.common.keys import Keys
+
+    page.open(cube, f"{TWO}&form=stacked&colour=9")
+    press = lambda *keys: [page.driver.switch_to.active_element.send_keys(it) for it in keys]
+    focus = lambda: page.js("return document.activeElement.ariaLabel")
+    page.js("document.getElementById('pick').focus()")
+    for _ in range(40):
+        press(Keys.TAB)
+        if page.js("return document.activeElement.closest('#chart svg') !== null"):
+            break
+    trials.see("Tab comes to the chart", focus(), "Leeds, tea: 700")
+    press(Keys.ARROW_RIGHT)
+    trials.see("to the right is the next part", focus(), "Leeds, coffee: 1,350")
+    press(Keys.ARROW_DOWN)
+    trials.see("below is the next bar", focus(), "York, coffee: 450")
+    press(Keys.END)
+    trials.see("End", focus(), "null, coffee: null")
+    press(Keys.HOME)
+    trials.see("Home", focus(), "Leeds, tea: 700")
+    trials.see("it is read below", page.text("#reading"), "Leeds, tea: 700")
+    stroke = page.js("return getComputedStyle(document.activeElement.querySelector('.hit')).strokeWidth")
+    trials.see("the focus is seen", stroke, "3px")
+    press(Keys.ENTER)
+    time.sleep(0.1)
+    page.wait(SETTLED)
+    trials.see("Enter drills down", page.command()[3], "=Leeds,=tea,?")
+    trials.see("and the focus is in what is shown", page.js("return document.activeElement.closest('#chart, #table') !== null"))
+    page.go(f"{TWO}&form=lines&colour=9&along=2")
+    page.js("document.querySelector('.mark').focus()")
+    trials.see("a line's first point", focus(), "coffee, Leeds: 1,350")
+    press(Keys.ARROW_RIGHT)
+    trials.see("to the right along a line", focus(), "tea, Leeds: 700")
+    page.go(f"{TWO}&form=bars&colour=9")
+    mark = page.at(".mark[data-place='1']")
+    ActionChains(page.driver).move_to_element(mark).perform()
+    page.wait("return document.getElementById('reading').textContent === 'Leeds · tea: 700'")
+    mark.click()
+    time.sleep(0.1)
+    page.wait(SETTLED)
+    trials.see("a click drills down", page.command()[3], "=Leeds,=tea,?")
+    names = page.js("return [...document.querySelectorAll('#chart [role=group], #chart [role=button], #chart [role=img]')].filter((it) => !it.ariaLabel).length")
+    trials.see("each part of a chart has a name", names, 0)
+
+
+def chart_colours(trials, page, cube):
+    """Shapes stand out from what is below them by 3 to 1 at least (WCAG 2.2, 1.4.11), in light and in dark colours."""
+    for look in ("light", "dark"):
+        page.colours(look)
+        page.open(cube, f"{TWO}&form=stacked&colour=9")
+        least = page.js(SHAPES)
+        trials.see(f"{look}: colours of charts", (len(least), [it for it in least if it[1] < 3]), (8, []))
+    page.colours("light")
+
+
 def widths(trials, page, cube):
     """Nothing stands over the side of the page, and the numbers are seen."""
     for width in WIDTHS:
@@ -125,4 +293,4 @@ def widths(trials, page, cube):
     page.size(0)
 
 
-SMALL = [numbers, first_rows, widths]
+SMALL = [numbers, first_rows, bars, lines, stacked, chart_keys, chart_colours, widths]
