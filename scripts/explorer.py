@@ -25,6 +25,7 @@ from fractions import Fraction
 
 sys.dont_write_bytecode = True
 import explorer_charts
+import explorer_saving
 from explorer_page import (AWAIT, BEATS, CONTRAST, CONTRASTS, DROP, ROOT, SETTLED, SHOP, SHOP_SCHEMA, STATES, Page, Trials, print_cube, printed,
                            see_view, shop_slice, shown_answer, wanted_rows)
 
@@ -181,7 +182,7 @@ def shop_keys(trials, page, cube):
     page.wait(SETTLED)
     trials.see("Enter drills down", page.command()[3], "\\N,?,\\A")
     trials.see("and the focus is on its first value", focus(), ["0", "coffee"])
-    trials.see("said to screen readers", page.text("[role=status]"),
+    trials.see("said to screen readers", page.text("#summary"),
                "2 rows: each product, where city is null, over ALL of payment.")
     names = page.js("return [...document.querySelectorAll('button, select, input:not([hidden])')].filter((it) => "
                     "it.checkVisibility() && !(it.textContent.trim() || it.ariaLabel || it.labels?.length)).length")
@@ -384,12 +385,17 @@ def large_feed(room, rows):
 
 
 def make_large(room, rows):
-    """Makes the large cube, and what the program prints of two views of it."""
+    """Makes the large cube, what the program prints of two views of it, and the cube of before its last day."""
     large_feed(room, rows)
     schema, feed = f"{room}/large.toml", f"{room}/large.csv"
     print_cube(f"{room}/large cube.csv", schema, feed)
     drilled = printed("drill", schema, "=day 0017,\\A,\\A", "shop", feed)
-    return f"{room}/large cube.csv", drilled, printed("slice", schema, "?,=shop 07,?", feed)
+    with open(feed) as file, open(f"{room}/earlier.csv", "w") as out:
+        lines = file.readlines()
+        last = lines[-1].split(",")[2]
+        out.writelines(it for it in lines if f",{last}," not in it)
+    print_cube(f"{room}/earlier cube.csv", schema, f"{room}/earlier.csv")
+    return f"{room}/large cube.csv", drilled, printed("slice", schema, "?,=shop 07,?", feed), f"{room}/earlier cube.csv"
 
 
 def pause_for(took):
@@ -434,6 +440,57 @@ def large_views(trials, page, drilled, sliced):
     wanted = sorted(body, key=cents)[: len(shown["body"])]
     trials.see("a shop's days and products by cents", shown["body"], wanted)
     trials.see("their total", shown["foot"], foot)
+
+
+def large_numbers(trials, page, path):
+    """The first rows, filters and charts of many rows; the page answers meanwhile."""
+    with open(path, encoding="utf-8", newline="") as file:
+        lines = [it for it in csv.reader(file) if it[3:6] == ["0", "0", "0"]]
+    cents = sorted((int(it[7]) for it in lines), reverse=True)
+    page.go("#slice=%3F,%3F,%3F&sort=-8&answers=7,8&top=10")
+    page.js("window.longest = 0")
+    shown = page.shown()
+    trials.see("the first ten of many", [int(it[4].replace(",", "")) for it in shown["body"]], cents[:10])
+    trials.see("the rest of many", shown["foot"][0], [f"rest ({len(lines) - 10:,})", f"{sum(int(it[6]) for it in lines) - 10:,}", f"{sum(cents[10:]):,}"])
+    page.choose("limit", "1")
+    page.click("#more summary")
+    start = time.monotonic()
+    page.type("#least", str(cents[500]), "least")
+    took = time.monotonic() - start
+    trials.see("a bound over many", page.shown()["foot"][1][0], f"{sum(it >= cents[500] for it in cents)} found")
+    start = time.monotonic()
+    page.go("#slice=%3F,%3F,%3F&sort=-8&form=bars&colour=8")
+    drawn = time.monotonic() - start
+    rest = page.js("return [...document.querySelectorAll('#chart .mark')].at(-1).dataset.exact")
+    trials.see("bars of many, and the rest", rest, str(sum(cents[50:])))
+    longest = page.js("return window.longest") / 1000
+    print(f"{len(lines):,} rows were filtered by a number in {took:.1f} s and drawn as bars in {drawn:.1f} s; the page's longest pause was {longest:.2f} s")
+    trials.see("the page answers while it filters and draws", longest < pause_for(took + drawn))
+    page.go("#slice=%3F,%3F,%5CA&form=lines&colour=8")
+    marks = page.js("return [...document.querySelectorAll('#chart .mark')].map((it) => it.dataset.exact)")
+    total = sum(cents)
+    trials.see("lines of each day, and the rest of the shops", (len(marks), sum(map(int, marks))), (8 * len({it[0] for it in lines}), total))
+    page.go("#slice=%3F,%3F,%5CA&form=lines&colour=8&along=2")
+    trials.see("along the shops, the days are folded", sum(map(int, page.js("return [...document.querySelectorAll('#chart .mark')].map((it) => it.dataset.exact)"))), total)
+
+
+def large_comparison(trials, page, path, earlier):
+    """Two large cubes: one day came."""
+    page.js("location.hash = '#slice=%3F,%5CA,%5CA'; window.longest = 0")
+    page.wait(SETTLED)
+    start = time.monotonic()
+    page.at("#earlier").send_keys(earlier)
+    page.wait("return document.title.includes(' and ')")
+    page.wait(SETTLED)
+    took, longest = time.monotonic() - start, page.js("return window.longest") / 1000
+    print(f"two such cubes were compared in {took:.1f} s; the page's longest pause was {longest:.2f} s")
+    trials.see("the page answers while it compares", longest < pause_for(took))
+    page.click("#changes")
+    with open(path, encoding="utf-8", newline="") as file:
+        days = [it for it in csv.reader(file) if it[3:6] == ["0", "1", "1"]]
+    shown = page.shown()
+    trials.see("the day that came", [[row[0], row[-1]] for row in shown["body"]], [[days[-1][0], f"+{int(days[-1][7]):,}"]])
+    trials.see("the total's change", shown["foot"][-1][-1].split(" ")[-1], f"+{int(days[-1][7]):,}")
 
 
 def large_table(trials, page, path):
@@ -633,7 +690,7 @@ def try_small(trials, page, room, given):
     print_cube(cube, SHOP_SCHEMA, *SHOP)
     for trial in (shop_views, shop_order, shop_heat, shop_contrast, shop_means, shop_keys, *explorer_charts.SMALL):
         trials.run(trial, page, cube)
-    for trial in (strange_texts, decimals, rolled_up):
+    for trial in (strange_texts, decimals, rolled_up, *explorer_saving.TRIALS):
         trials.run(trial, page, room)
     trials.run(wrong_files, page, room, cube)
     trials.run(firefox, room, cube)
@@ -649,12 +706,14 @@ def try_all(trials, page, room, given):
     with ThreadPoolExecutor(1) as pool:
         large = pool.submit(make_large, room, given.rows)
         try_small(trials, page, room, given)
-        path, drilled, sliced = large.result()
+        path, drilled, sliced, earlier = large.result()
     trials.run(large_load, page, path, given.rows)
     trials.run(large_views, page, drilled, sliced)
     trials.run(large_table, page, path)
+    trials.run(large_numbers, page, path)
     if given.screenshots:
         large_pictures(page)
+    trials.run(large_comparison, page, path, earlier)
 
 
 def main():
