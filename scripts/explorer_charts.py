@@ -267,6 +267,60 @@ def chart_keys(trials, page, cube):
     trials.see("each part of a chart has a name", names, 0)
 
 
+def controls_by_keys(trials, page, cube):
+    """All controls of numbers, charts and saving are reached and used by keys alone, and have names."""
+    from selenium.webdriver.common.keys import Keys
+
+    page.open(cube, TWO)
+    press = lambda *keys: [page.driver.switch_to.active_element.send_keys(it) for it in keys]
+    here = lambda: page.js("const it = document.activeElement; return it.id || it.parentElement.id || it.dataset.answer || it.closest('label')?.textContent || ''")
+
+    def tab_to(name):
+        for _ in range(60):
+            press(Keys.TAB)
+            if here() == name:
+                return True
+        return False
+
+    settle = lambda wanted: (page.wait("return location.hash.includes(arguments[0])", wanted), page.wait(SETTLED))
+    page.js("document.getElementById('pick').focus()")
+    trials.see("keys come to Bars", tab_to("as-bars"))
+    press(Keys.ENTER)
+    settle("form=bars")
+    trials.see("keys come to the answer of the chart", tab_to("measure"))
+    press("s", "s")
+    settle("colour=9")
+    trials.see("keys come to what is folded", tab_to("more"))
+    press(Keys.ENTER)
+    trials.see("keys come to Top", tab_to("top"))
+    press("2")
+    settle("top=2")
+    trials.see("keys come to a bound", tab_to("least"))
+    press("4", "0", "0")
+    settle("least=400")
+    trials.see("the field keeps what is typed, and the focus", page.js("return [document.activeElement.id, document.activeElement.value]"), ["least", "400"])
+    trials.see("keys come to shares", tab_to("share"))
+    press(Keys.ARROW_DOWN, Keys.ARROW_DOWN)
+    settle("share=total")
+    trials.see("keys come to the answers", tab_to("0"))
+    press(Keys.SPACE)
+    settle("answers=")
+    for name in ("save-csv", "save-svg", "save-png", "save-link"):
+        trials.see(f"keys come to {name}", tab_to(name))
+    press(Keys.ENTER)
+    page.wait("return document.activeElement.id === 'link'")
+    unnamed = page.js("return [...document.querySelectorAll('button, select, input:not([hidden]), summary')].filter((it) => it.checkVisibility()"
+                      " && !(it.textContent.trim() || it.ariaLabel || it.labels?.length)).map((it) => it.id)")
+    trials.see("each control has a name", unnamed, [])
+    page.go(f"{TWO}&form=bars&colour=9")
+    page.js("document.querySelector('.mark').focus()")
+    press(Keys.ARROW_DOWN, Keys.ARROW_DOWN)
+    before = page.js("return document.activeElement.ariaLabel")
+    page.js("show()")
+    page.wait(SETTLED)
+    trials.see("a chart that is made anew keeps its place", page.js("return document.activeElement.ariaLabel"), before)
+
+
 def chart_colours(trials, page, cube):
     """Shapes stand out from what is below them by 3 to 1 at least (WCAG 2.2, 1.4.11), in light and in dark colours."""
     for look in ("light", "dark"):
@@ -293,4 +347,4 @@ def widths(trials, page, cube):
     page.size(0)
 
 
-SMALL = [numbers, first_rows, bars, lines, stacked, chart_keys, chart_colours, widths]
+SMALL = [numbers, first_rows, bars, lines, stacked, chart_keys, controls_by_keys, chart_colours, widths]

@@ -1,13 +1,16 @@
 """Trials of the explorer's comparison of two cubes, and of what it saves: files are read back."""
+import base64
 import csv
+import hashlib
 import os
+import re
 import struct
 import time
 from fractions import Fraction
 from xml.etree import ElementTree
 
-from explorer_charts import MARKS, OVER, TWO, UNSEEN, percent
-from explorer_page import AWAIT, SETTLED, SHOP, SHOP_SCHEMA, print_cube, printed, shown_answer
+from explorer_charts import MARKS, OVER, TWO, UNSEEN
+from explorer_page import AWAIT, ROOT, SETTLED, SHOP, SHOP_SCHEMA, print_cube, printed
 
 # two cubes of a measure with two decimals and one with three: a line that changed, one that didn't, one that is gone, a new one
 EARLIER = """city,grouping(city),count(*),count(m),sum(m),min(m),avg(m),sum(long)
@@ -70,6 +73,13 @@ def small_comparison(trials, page, room):
     trials.see("the total's changes", (total[3], total[12]), ("+57.14 % +4", str(Fraction(191, 120) - Fraction(31, 4))))
     page.click("[data-sort='16']")
     trials.see("by a change", [it[0] for it in page.shown()["body"]], ["Hull", "Paris", "York", "Leeds"])
+    page.go("#slice=%3F&compare=1&answers=9,10,11&form=lines")
+    first, second = page.js(MARKS)
+    trials.see("one chart has lines of before and after", [(it["name"], it["exact"]) for it in first],
+               [("Hull, before: 5.00", "5.00"), ("Leeds, before: 10.50", "10.50"), ("Leeds, after: 10.50", "10.50"),
+                ("Paris, after: -1.25", "-1.25"), ("York, after: 0.30", "0.30")])
+    trials.see("another one has those of the change", [it["exact"] for it in second], ["-5.00", "0.00", "-1.25", "0.30"])
+    page.go("#slice=%3F&compare=1&sort=-17")
     address = page.js("return location.hash")
     page.open(later, address)
     trials.see("a comparison's address wants the earlier cube", "compares two cubes" in page.text("#problem"))
@@ -116,6 +126,40 @@ def shop_comparison(trials, page, room):
         trials.see(f"{width} pixels, a comparison: nothing stands over", page.js(OVER), [True, []])
         trials.see(f"{width} pixels, a comparison: numbers are seen", page.js(UNSEEN)[1], [])
     page.size(0)
+
+
+STRICT = "default-src 'none'; script-src {}; style-src {}; img-src data:; connect-src 'self'"
+
+
+def strict_page(room):
+    """The page as a server hands it out: with a policy that lets its own scripts and styles run, by their hashes, and no other."""
+    with open(f"{ROOT}/explorer/index.html", encoding="utf-8") as file:
+        text = file.read()
+    hashes = lambda tag: " ".join("'sha256-" + base64.b64encode(hashlib.sha256(it.encode()).digest()).decode() + "'"
+                                  for it in re.findall(f"<{tag}>(.*?)</{tag}>", text, re.DOTALL))
+    with open(f"{room}/strict.html", "w", encoding="utf-8") as file:
+        file.write(re.sub(r"(http-equiv=\"Content-Security-Policy\"\s+content=)\"[^\"]*\"",
+                          lambda it: f'{it[1]}"{STRICT.format(hashes("script"), hashes("style"))}"', text, count=1))
+    return f"file://{room}/strict.html"
+
+
+def strict(trials, page, room):
+    """Nothing that the page does is against the policy of a server."""
+    print_cube(f"{room}/strict.csv", SHOP_SCHEMA, *SHOP)
+    page.driver.get("about:blank")
+    page.driver.get(strict_page(room))
+    page.js("window.against = []; document.addEventListener('securitypolicyviolation', (it) => against.push(it.violatedDirective))")
+    page.open(f"{room}/strict.csv")
+    for form in ("heat", "bars", "lines", "stacked", "table"):
+        page.go(f"{TWO}&form={form}&colour=9")
+    page.go(f"{TWO}&form=lines&colour=9&answers=7,9")
+    page.click("#more summary")
+    for button, name in (("#save-csv", "strict-seen.csv"), ("#save-svg", "strict-chart.svg"), ("#save-png", "strict-chart.png")):
+        trials.see(f"a strict policy: {button}", os.path.exists(saved(page, room, button, name)))
+    trials.see("a strict policy: nothing is against it", page.js("return against"), [])
+    page.js("const it = make('p'); it.setAttribute('style', 'color: red'); document.body.append(it)")
+    page.wait("return against.length > 0")
+    trials.see("a strict policy: what is against it is noticed", page.js("return against"), ["style-src-attr"])
 
 
 def saved(page, room, button, name):
@@ -170,4 +214,4 @@ def saving(trials, page, room):
     trials.see("a table has no picture", page.js("return document.getElementById('save-svg').disabled"))
 
 
-TRIALS = [small_comparison, shop_comparison, saving]
+TRIALS = [small_comparison, shop_comparison, saving, strict]
