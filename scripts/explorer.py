@@ -4,7 +4,8 @@
     scripts/explorer.sh [-v] [--screenshots] [--rows N] [--only WORD]
 
 It opens the shop's cube, cubes with texts and numbers of every kind, files that are no printed cube, and the cube of a
-generated feed, with N lines or more (1,000,000). `--screenshots` takes the pictures of docs/explorer/ anew. Where
+generated feed, with N lines or more (1,000,000). Charts and numbers are tried by explorer_charts.py, comparisons and what is
+saved by explorer_saving.py; explorer_page.py has what drives the page. `--screenshots` takes the pictures of docs/explorer/ anew. Where
 Firefox is installed, it opens a cube there too. Needs Debian's chromium-driver and python3-selenium; where one isn't
 there, or the browser doesn't start, the status is 77. The last line is `N passed, M failed`.
 """
@@ -122,6 +123,7 @@ def shop_contrast(trials, page, cube):
         page.fresh()
         see_contrast(trials, page, f"{look}, the start", 8)
         for name, address in (("table", "#slice=%3F,%3F,%5CA"), ("heat map", "#slice=%3F,%3F,%5CA&form=heat&colour=9"),
+                              ("one dimension", "#slice=%3F,%5CA,%5CA&share=total&top=1&least=x"),
                               ("bars", "#slice=%3F,%3F,%5CA&form=bars&colour=9"), ("lines", "#slice=%3F,%3F,%5CA&form=lines&colour=9")):
             page.open(cube, address)
             see_contrast(trials, page, f"{look}, the {name}", 60)
@@ -476,7 +478,8 @@ def large_numbers(trials, page, path):
 
 def large_comparison(trials, page, path, earlier):
     """Two large cubes: one day came."""
-    page.js("location.hash = '#slice=%3F,%5CA,%5CA'; window.longest = 0")
+    page.js(BEATS)
+    page.js("location.hash = '#slice=%3F,%5CA,%5CA'")
     page.wait(SETTLED)
     start = time.monotonic()
     page.at("#earlier").send_keys(earlier)
@@ -620,13 +623,19 @@ def firefox(trials, room, cube):
 
 # Pictures.
 
-# an address, and whether it is in dark colours
+# of the shop: an address, and whether it is in dark colours
 PICTURES = {"table": ("#slice=%3F,%3F,%5CA&sort=-9", False), "dark": ("#slice=%3DLeeds,%3F,%5CA", True),
             "heat": ("#slice=%3F,%3F,%5CA&form=heat&colour=9", False)}
+# of a year of months, cities and products: an address, whether it is in dark colours, and how wide and high the page is
+CHARTS = {"bars": ("#slice=%5CA,%3F,%3F&form=bars&answers=7,8&sort=-8&top=9", False, (1360, 720)),
+          "lines": ("#slice=%3F,%5CA,%3F&form=lines&colour=8", False, (1360, 720)),
+          "stacked": ("#slice=%3F,%3F,%5CA&form=stacked&colour=8&share=total", True, (1360, 820)),
+          "narrow": ("#slice=%5CA,%5CA,%3F&form=bars&colour=8", False, (420, 800)),
+          "narrow-dark": ("#slice=%5CA,%3F,%5CA&answers=8,9&sort=-8", True, (420, 800))}
 
 
 def screenshot(page, name, dark=False):
-    page.js("document.activeElement.blur()")
+    page.js("document.activeElement.blur(); document.getElementById('more').open = false")
     kind = {"features": [{"name": "prefers-color-scheme", "value": "dark" if dark else "light"}]}
     page.driver.execute_cdp_cmd("Emulation.setEmulatedMedia", kind)
     time.sleep(0.4)
@@ -647,11 +656,47 @@ def shop_pictures(page, cube):
     page.driver.set_window_size(1280, 800)
 
 
+def make_year(room):
+    """The printed cubes of a year of sales, and of its first eleven months."""
+    pick, cities, products = random.Random(7), ["Bath", "Hull", "Leeds", "York"], ["cocoa", "coffee", "juice", "tea"]
+    with open(f"{room}/year.toml", "w") as file:
+        file.write('dimensions = ["month", "city", "product"]\nmeasures = ["price"]\ndecimals = { price = 2 }\n'
+                   'aggregates = ["count(*)", "sum(price)", "avg(price)"]\n')
+    for name, months in (("before", 11), ("after", 12)):
+        pick.seed(7)
+        with open(f"{room}/{name}-feed.csv", "w") as file:
+            file.write("op,id,month,city,product,price\n")
+            for at in range(months * 16):
+                month, cell = divmod(at, 16)
+                city, product = divmod(cell, 4)
+                warm = abs(month - 6) / 6
+                for sale in range(int((6 + 5 * city) * (1 + [1.5 * warm, 0.6, 2 * (1 - warm), warm][product]))):
+                    cents = 150 + 60 * product + pick.randrange(200)
+                    file.write(f"I,{at}-{sale},2025-{month + 1:02d},{cities[city]},{products[product]},{cents // 100}.{cents % 100:02d}\n")
+        print_cube(f"{room}/{name}.csv", f"{room}/year.toml", f"{room}/{name}-feed.csv")
+    return f"{room}/after.csv", f"{room}/before.csv"
+
+
+def chart_pictures(page, room):
+    """Charts, wide and narrow, and what changed."""
+    after, before = make_year(room)
+    for name, (address, dark, size) in CHARTS.items():
+        page.open(after, address)
+        page.size(*size)
+        screenshot(page, name, dark)
+    page.open(after, "#slice=%3F,%5CA,%3F")
+    page.size(1360, 720)
+    explorer_saving.open_earlier(page, before)
+    page.go("#slice=%5CA,%3F,%3F&compare=1&answers=10,11,12&sort=-12")
+    screenshot(page, "changes")
+    page.size(0)
+
+
 def large_pictures(page):
     page.driver.set_window_size(1240, 720)
     page.go("#slice=%3F,%3F,%3F&sort=-8&means=decimal")
     screenshot(page, "million")
-    page.driver.set_window_size(860, 640)
+    page.driver.set_window_size(860, 780)
     page.go("#slice=%3F,%3F,%5CA&form=heat&colour=8")
     screenshot(page, "days")
     page.driver.set_window_size(1280, 800)
@@ -696,6 +741,7 @@ def try_small(trials, page, room, given):
     trials.run(firefox, room, cube)
     if given.screenshots:
         shop_pictures(page, cube)
+        chart_pictures(page, room)
 
 
 def try_all(trials, page, room, given):
@@ -713,6 +759,7 @@ def try_all(trials, page, room, given):
     trials.run(large_numbers, page, path)
     if given.screenshots:
         large_pictures(page)
+    trials.run(explorer_saving.large_saving, page, room, path)
     trials.run(large_comparison, page, path, earlier)
 
 

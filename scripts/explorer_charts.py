@@ -188,6 +188,11 @@ def lines(trials, page, cube):
     trials.see("lines: from the left", is_linear([(it["place"], it["cx"]) for it in marks]))
     paths = page.js("return [...document.querySelectorAll('#chart path.line')].map((it) => it.getAttribute('d').split(/[ML]/).length - 1)")
     trials.see("lines: a point for each number", sum(paths), len(cents))
+    page.go(f"{TWO}&form=lines&answers=7,9&along=2")
+    keys = page.js("return [...document.querySelectorAll('#chart figure')].map((it) => [...it.querySelectorAll('.key')].map("
+                   "(key) => key.nextSibling.textContent + key.getAttribute('class')))")
+    trials.see("a value has one colour in all charts", [len(it) for it in keys] + [len(set(keys[0] + keys[1]))], [3, 3, 3])
+    page.go(f"{TWO}&form=lines&colour=9&along=2")
     page.choose("along", "0")
     trials.see("along the other one", {it["name"].split(": ")[0] for it in page.js(MARKS)[0]},
                {f"{name_of(key[0])}, {name_of(key[1])}" for key, line in cells.items() if line[2] != "\\N"})
@@ -316,7 +321,8 @@ def controls_by_keys(trials, page, cube):
     page.js("document.querySelector('.mark').focus()")
     press(Keys.ARROW_DOWN, Keys.ARROW_DOWN)
     before = page.js("return document.activeElement.ariaLabel")
-    page.js("show()")
+    # (as a page over a served cube does when there is another state)
+    page.js("view = fromAddress(location.hash, true); show().then(() => rowsSeen.go(rowsSeen.top))")
     page.wait(SETTLED)
     trials.see("a chart that is made anew keeps its place", page.js("return document.activeElement.ariaLabel"), before)
 

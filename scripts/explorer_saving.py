@@ -169,6 +169,7 @@ def saved(page, room, button, name):
     path, end = f"{room}/saved/{name}", time.monotonic() + AWAIT
     while not os.path.exists(path) and time.monotonic() < end:
         time.sleep(0.05)
+    page.wait("return document.getElementById('saved').textContent === arguments[0]", f"Saved as {name}.")
     return path
 
 
@@ -212,6 +213,37 @@ def saving(trials, page, room):
     trials.see("the link has the view", page.js(MARKS)[0], marks)
     page.open(f"{room}/shop.csv", "#slice=%3F,%5CA,%5CA")
     trials.see("a table has no picture", page.js("return document.getElementById('save-svg').disabled"))
+    trials.see("nothing is asked of a network", page.js("return performance.getEntriesByType('resource').filter("
+                                                        "(it) => !/^(data|blob):/.test(it.name)).length"), 0)
 
 
-TRIALS = [small_comparison, shop_comparison, saving, strict]
+# a text that begins with a backslash, null, and texts that CSV quotes, as the Python package hands a cube to the page
+ESCAPED = 'a,grouping(a),count(*)\n"x,""y""",0,1\n\\\\N,0,2\n"two\nlines",0,3\n\\N,0,4\n\\N,1,10\n'
+
+
+def saved_texts(trials, page, room):
+    """Texts of every kind are saved as they came."""
+    page.fresh()
+    page.js("open(new File([arguments[0]], 'texts.csv'), true)", ESCAPED)
+    page.wait("return document.title.startsWith('texts')")
+    page.wait(SETTLED)
+    trials.see("texts are shown", [it[0] for it in page.shown()["body"]], ['x,"y"', "\\N", "two↵lines", "[null]"])
+    page.click("#more summary")
+    with open(saved(page, room, "#save-csv", "texts-seen.csv"), encoding="utf-8", newline="") as file:
+        trials.see("texts are saved as they came", file.read(), ESCAPED)
+
+
+def large_saving(trials, page, room, path):
+    """Many lines are saved."""
+    with open(path, encoding="utf-8") as file:
+        lines = [it for it in file if ",0,0,0," in it]
+    page.open(path, "#slice=%3F,%3F,%3F")
+    page.click("#more summary")
+    start = time.monotonic()
+    with open(saved(page, room, "#save-csv", "large cube-seen.csv"), encoding="utf-8") as file:
+        found = file.readlines()
+    print(f"{len(lines):,} rows were saved in {time.monotonic() - start:.1f} s")
+    trials.see("many lines are saved", (found[1:-1] == lines, ",1,1,1," in found[-1]), (True, True))
+
+
+TRIALS = [small_comparison, shop_comparison, saving, saved_texts, strict]
