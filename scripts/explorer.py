@@ -617,6 +617,17 @@ def firefox(trials, room, cube):
         see_view(trials, page, "Firefox: Leeds drilled down", shop_slice(page), [1])
         page.go("#slice=%3F,%3F,%5CA&form=heat&colour=9")
         trials.see("Firefox: the heat map", page.shown()["foot"], [["[ALL]", "1,800", "2,250", "400", "4,450"]])
+        for form in ("bars", "lines", "stacked"):
+            page.go(f"#slice=%3F,%3F,%5CA&form={form}&colour=9")
+            exact = [it["exact"] for it in page.js(explorer_charts.MARKS)[0] if it["exact"]]
+            trials.see(f"Firefox: {form}", sorted(map(int, exact)), [350, 400, 450, 700, 1200, 1350])
+        page.js("window.seen = null; pngOf(pictureOf()).then((blob) => (window.seen = blob.size))")
+        page.wait("return window.seen !== null")
+        trials.see("Firefox: a picture", page.js("return window.seen") > 5000)
+        print_cube(f"{room}/earlier.csv", SHOP_SCHEMA, *SHOP[1:])
+        explorer_saving.open_earlier(page, f"{room}/earlier.csv")
+        page.go("#slice=%3F,%5CA,%5CA&compare=1&answers=15")
+        trials.see("Firefox: a comparison", [it[-1].split(" ")[-1] for it in page.shown()["body"]], ["+2,450", "0", "0"])
     finally:
         page.driver.quit()
 
