@@ -473,7 +473,8 @@ def large_numbers(trials, page, path):
     total = sum(cents)
     trials.see("lines of each day, and the rest of the shops", (len(marks), sum(map(int, marks))), (8 * len({it[0] for it in lines}), total))
     page.go("#slice=%3F,%3F,%5CA&form=lines&colour=8&along=2")
-    trials.see("along the shops, the days are folded", sum(map(int, page.js("return [...document.querySelectorAll('#chart .mark')].map((it) => it.dataset.exact)"))), total)
+    marks = page.js("return [...document.querySelectorAll('#chart .mark')].map((it) => it.dataset.exact)")
+    trials.see("along the shops, the days are folded", sum(map(int, marks)), total)
 
 
 def large_comparison(trials, page, path, earlier):

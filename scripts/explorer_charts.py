@@ -225,32 +225,36 @@ def stacked(trials, page, cube):
                [True, "Counts and sums alone can be stacked"])
 
 
+def press(page, *keys):
+    """Presses keys, one after the other, where the focus is."""
+    for it in keys:
+        page.driver.switch_to.active_element.send_keys(it)
+
+
 def chart_keys(trials, page, cube):
-    """Charts by keys and by the pointer, with names."""
-    from selenium.webdriver.common.action_chains import ActionChains
+    """Charts by keys."""
     from selenium.webdriver.common.keys import Keys
 
     page.open(cube, f"{TWO}&form=stacked&colour=9")
-    press = lambda *keys: [page.driver.switch_to.active_element.send_keys(it) for it in keys]
     focus = lambda: page.js("return document.activeElement.ariaLabel")
     page.js("document.getElementById('pick').focus()")
     for _ in range(40):
-        press(Keys.TAB)
+        press(page, Keys.TAB)
         if page.js("return document.activeElement.closest('#chart svg') !== null"):
             break
     trials.see("Tab comes to the chart", focus(), "Leeds, tea: 700")
-    press(Keys.ARROW_RIGHT)
+    press(page, Keys.ARROW_RIGHT)
     trials.see("to the right is the next part", focus(), "Leeds, coffee: 1,350")
-    press(Keys.ARROW_DOWN)
+    press(page, Keys.ARROW_DOWN)
     trials.see("below is the next bar", focus(), "York, coffee: 450")
-    press(Keys.END)
+    press(page, Keys.END)
     trials.see("End", focus(), "null, coffee: null")
-    press(Keys.HOME)
+    press(page, Keys.HOME)
     trials.see("Home", focus(), "Leeds, tea: 700")
     trials.see("it is read below", page.text("#reading"), "Leeds, tea: 700")
     stroke = page.js("return getComputedStyle(document.activeElement.querySelector('.hit')).strokeWidth")
     trials.see("the focus is seen", stroke, "3px")
-    press(Keys.ENTER)
+    press(page, Keys.ENTER)
     time.sleep(0.1)
     page.wait(SETTLED)
     trials.see("Enter drills down", page.command()[3], "=Leeds,=tea,?")
@@ -258,9 +262,17 @@ def chart_keys(trials, page, cube):
     page.go(f"{TWO}&form=lines&colour=9&along=2")
     page.js("document.querySelector('.mark').focus()")
     trials.see("a line's first point", focus(), "coffee, Leeds: 1,350")
-    press(Keys.ARROW_RIGHT)
+    press(page, Keys.ARROW_RIGHT)
     trials.see("to the right along a line", focus(), "tea, Leeds: 700")
-    page.go(f"{TWO}&form=bars&colour=9")
+
+
+def chart_pointer(trials, page, cube):
+    """Charts by the pointer, and their names."""
+    from selenium.webdriver.common.action_chains import ActionChains
+
+    page.open(cube, f"{TWO}&form=bars&colour=9")
+    names = page.js("return [...document.querySelectorAll('#chart [role=group], #chart [role=button], #chart [role=img]')].map((it) => it.ariaLabel)")
+    trials.see("each part of a chart has a name", (len(names), all(names)), (8, True))
     mark = page.at(".mark[data-place='1']")
     ActionChains(page.driver).move_to_element(mark).perform()
     page.wait("return document.getElementById('reading').textContent === 'Leeds · tea: 700'")
@@ -268,58 +280,50 @@ def chart_keys(trials, page, cube):
     time.sleep(0.1)
     page.wait(SETTLED)
     trials.see("a click drills down", page.command()[3], "=Leeds,=tea,?")
-    names = page.js("return [...document.querySelectorAll('#chart [role=group], #chart [role=button], #chart [role=img]')].filter((it) => !it.ariaLabel).length")
-    trials.see("each part of a chart has a name", names, 0)
+
+
+def tab_to(page, name):
+    """Presses Tab until the focus is on a control, or in what has a name; whether it came there."""
+    from selenium.webdriver.common.keys import Keys
+
+    for _ in range(60):
+        press(page, Keys.TAB)
+        if page.js("const it = document.activeElement; return [it.id, it.parentElement.id, it.dataset.answer].includes(arguments[0])", name):
+            return True
+    return False
 
 
 def controls_by_keys(trials, page, cube):
     """All controls of numbers, charts and saving are reached and used by keys alone, and have names."""
     from selenium.webdriver.common.keys import Keys
 
+    # each control, the keys that are pressed there, and what the address has then
+    steps = [("as-bars", [Keys.ENTER], "form=bars"), ("measure", ["s", "s"], "colour=9"), ("more", [Keys.ENTER], ""), ("top", ["2"], "top=2"),
+             ("least", ["4", "0", "0"], "least=400"), ("share", [Keys.ARROW_DOWN, Keys.ARROW_DOWN], "share=total"), ("thousands", [Keys.ARROW_DOWN], "thousands=space"),
+             ("means", [Keys.ARROW_DOWN], "means=fraction"), ("0", [Keys.SPACE], "answers="), ("save-csv", [], ""), ("save-svg", [], ""), ("save-png", [], ""),
+             ("save-link", [Keys.ENTER], "")]
     page.open(cube, TWO)
-    press = lambda *keys: [page.driver.switch_to.active_element.send_keys(it) for it in keys]
-    here = lambda: page.js("const it = document.activeElement; return it.id || it.parentElement.id || it.dataset.answer || it.closest('label')?.textContent || ''")
-
-    def tab_to(name):
-        for _ in range(60):
-            press(Keys.TAB)
-            if here() == name:
-                return True
-        return False
-
-    settle = lambda wanted: (page.wait("return location.hash.includes(arguments[0])", wanted), page.wait(SETTLED))
     page.js("document.getElementById('pick').focus()")
-    trials.see("keys come to Bars", tab_to("as-bars"))
-    press(Keys.ENTER)
-    settle("form=bars")
-    trials.see("keys come to the answer of the chart", tab_to("measure"))
-    press("s", "s")
-    settle("colour=9")
-    trials.see("keys come to what is folded", tab_to("more"))
-    press(Keys.ENTER)
-    trials.see("keys come to Top", tab_to("top"))
-    press("2")
-    settle("top=2")
-    trials.see("keys come to a bound", tab_to("least"))
-    press("4", "0", "0")
-    settle("least=400")
-    trials.see("the field keeps what is typed, and the focus", page.js("return [document.activeElement.id, document.activeElement.value]"), ["least", "400"])
-    trials.see("keys come to shares", tab_to("share"))
-    press(Keys.ARROW_DOWN, Keys.ARROW_DOWN)
-    settle("share=total")
-    trials.see("keys come to the answers", tab_to("0"))
-    press(Keys.SPACE)
-    settle("answers=")
-    for name in ("save-csv", "save-svg", "save-png", "save-link"):
-        trials.see(f"keys come to {name}", tab_to(name))
-    press(Keys.ENTER)
+    for name, keys, wanted in steps:
+        trials.see(f"keys come to {name}", tab_to(page, name))
+        press(page, *keys)
+        page.wait("return location.hash.includes(arguments[0])", wanted)
+        page.wait(SETTLED)
+        if name == "least":
+            trials.see("the field keeps what is typed, and the focus", page.js("return [document.activeElement.id, document.activeElement.value]"), [name, "400"])
     page.wait("return document.activeElement.id === 'link'")
     unnamed = page.js("return [...document.querySelectorAll('button, select, input:not([hidden]), summary')].filter((it) => it.checkVisibility()"
                       " && !(it.textContent.trim() || it.ariaLabel || it.labels?.length)).map((it) => it.id)")
     trials.see("each control has a name", unnamed, [])
-    page.go(f"{TWO}&form=bars&colour=9")
+
+
+def place_kept(trials, page, cube):
+    """A chart that is made anew keeps the place of the focus."""
+    from selenium.webdriver.common.keys import Keys
+
+    page.open(cube, f"{TWO}&form=bars&colour=9")
     page.js("document.querySelector('.mark').focus()")
-    press(Keys.ARROW_DOWN, Keys.ARROW_DOWN)
+    press(page, Keys.ARROW_DOWN, Keys.ARROW_DOWN)
     before = page.js("return document.activeElement.ariaLabel")
     # (as a page over a served cube does when there is another state)
     page.js("view = fromAddress(location.hash, true); show().then(() => rowsSeen.go(rowsSeen.top))")
@@ -353,4 +357,4 @@ def widths(trials, page, cube):
     page.size(0)
 
 
-SMALL = [numbers, first_rows, bars, lines, stacked, chart_keys, controls_by_keys, chart_colours, widths]
+SMALL = [numbers, first_rows, bars, lines, stacked, chart_keys, chart_pointer, controls_by_keys, place_kept, chart_colours, widths]

@@ -73,6 +73,13 @@ def small_comparison(trials, page, room):
     trials.see("the total's changes", (total[3], total[12]), ("+57.14 % +4", str(Fraction(191, 120) - Fraction(31, 4))))
     page.click("[data-sort='16']")
     trials.see("by a change", [it[0] for it in page.shown()["body"]], ["Hull", "Paris", "York", "Leeds"])
+
+
+def addresses(trials, page, room):
+    """Charts, addresses and files of a comparison."""
+    earlier, later = written(f"{room}/before.csv", EARLIER), written(f"{room}/after.csv", LATER)
+    page.open(later, "")
+    open_earlier(page, earlier)
     page.go("#slice=%3F&compare=1&answers=9,10,11&form=lines")
     first, second = page.js(MARKS)
     trials.see("one chart has lines of before and after", [(it["name"], it["exact"]) for it in first],
@@ -91,6 +98,25 @@ def small_comparison(trials, page, room):
         page.at("#earlier").send_keys(written(f"{room}/{name}.csv", text))
         page.wait("return document.getElementById('problem').textContent.startsWith(arguments[0])", f"{name}.csv can't be shown. {wanted}")
         trials.see(f"refused: {name}", page.text("#summary"), "The cube of before is still shown.")
+
+
+# cubes with other decimals, and one that keeps other grouping sets
+ONE_DECIMAL = "a,b,grouping(a),grouping(b),sum(m)\nx,y,0,0,1.5\nx,\\N,0,1,1.5\n\\N,\\N,1,1,1.5\n"
+TWO_DECIMALS = "a,b,grouping(a),grouping(b),sum(m)\nx,\\N,0,1,1.75\n\\N,y,1,0,1.75\n\\N,\\N,1,1,1.75\n"
+
+
+def unlike(trials, page, room):
+    """Cubes that differ in their decimals and grouping sets."""
+    page.open(written(f"{room}/two.csv", TWO_DECIMALS), "")
+    open_earlier(page, written(f"{room}/one.csv", ONE_DECIMAL))
+    trials.see("other decimals", page.shown(), {"body": [["x", "1.5", "1.75", "+16.67 % +0.25"]], "foot": [["[ALL]", "1.5", "1.75", "+16.67 % +0.25"]],
+                                                "count": 3, "first": 0})
+    trials.see("the grouping sets that both keep", page.js("return [...cube.sets.keys()].sort()"), [0, 1])
+    page.at("#earlier").send_keys(written(f"{room}/no.csv", "a,b,grouping(a),grouping(b),sum(m)\nx,y,0,0,1.5\n"))
+    page.wait("return document.getElementById('problem').textContent !== ''")
+    trials.see("no grouping set that both keep", page.text("#problem"), "no.csv can't be shown. It has no grouping set of the cube that is shown.")
+    open_earlier(page, written(f"{room}/empty.csv", "a,b,grouping(a),grouping(b),sum(m)\n\\N,\\N,1,1,\\N\n"))
+    trials.see("beside a cube without facts", page.shown()["body"], [["x", "—", "1.75", "+1.75"]])
 
 
 def shop_lines(path):
@@ -190,6 +216,12 @@ def saving(trials, page, room):
     seen = page.shown()
     page.open(path, f"{TWO}&sort=-8")
     trials.see("CSV: the page opens it", page.shown()["body"], seen["body"])
+
+
+def pictures(trials, page, room):
+    """Pictures have the numbers of the chart, and a link has the view."""
+    cube = f"{room}/shop.csv"
+    print_cube(cube, SHOP_SCHEMA, *SHOP)
     page.open(cube, f"{TWO}&form=stacked&colour=9")
     marks = page.js(MARKS)[0]
     page.click("#more summary")
@@ -246,4 +278,4 @@ def large_saving(trials, page, room, path):
     trials.see("many lines are saved", (found[1:-1] == lines, ",1,1,1," in found[-1]), (True, True))
 
 
-TRIALS = [small_comparison, shop_comparison, saving, saved_texts, strict]
+TRIALS = [small_comparison, unlike, addresses, shop_comparison, saving, pictures, saved_texts, strict]
