@@ -264,6 +264,10 @@ def chart_keys(trials, page, cube):
     trials.see("a line's first point", focus(), "coffee, Leeds: 1,350")
     press(page, Keys.ARROW_RIGHT)
     trials.see("to the right along a line", focus(), "tea, Leeds: 700")
+    page.go(f"{TWO}&form=bars&answers=7,9")
+    page.js("document.querySelector('.mark').focus()")
+    press(page, Keys.TAB, Keys.ARROW_DOWN)
+    trials.see("Tab goes to the next chart", focus(), "Leeds · tea: 700")
 
 
 def chart_pointer(trials, page, cube):
