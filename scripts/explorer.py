@@ -4,19 +4,17 @@
     scripts/explorer.sh [-v] [--screenshots] [--rows N] [--only WORD]
 
 It opens the shop's cube, cubes with texts and numbers of every kind, files that are no printed cube, and the cube of a
-generated feed, with N lines or more (1,000,000). `--screenshots` takes the pictures of docs/explorer/ anew. Where
+generated feed, with N lines or more (1,000,000). Charts and numbers are tried by explorer_charts.py, comparisons and what is
+saved by explorer_saving.py; explorer_page.py has what drives the page. `--screenshots` takes the pictures of docs/explorer/ anew. Where
 Firefox is installed, it opens a cube there too. Needs Debian's chromium-driver and python3-selenium; where one isn't
 there, or the browser doesn't start, the status is 77. The last line is `N passed, M failed`.
 """
 import argparse
 import csv
-import functools
-import io
 import json
 import os
 import random
 import re
-import shlex
 import shutil
 import socket
 import subprocess
@@ -27,299 +25,12 @@ from concurrent.futures import ThreadPoolExecutor
 from fractions import Fraction
 
 sys.dont_write_bytecode = True
-import programs
-
-ROOT = programs.ROOT
-PAGE = f"file://{ROOT}/explorer/index.html"
-SHOP = [f"{ROOT}/examples/shop/{it}.csv" for it in ("market", "street", "online")]
-SHOP_SCHEMA = f"{ROOT}/examples/shop/schema.toml"
-CONTROLS = {"\n": "↵", "\r": "␍", "\t": "␉"}
-AWAIT = 60
-# what a person sees of the table, as texts; pills are in brackets
-SHOWN = """
-const cell = (it) => {
-  const [pill, number, part] = [".pill", ".main-number", ".fraction"].map((name) => it.querySelector(name));
-  if (pill) return `[${pill.textContent}]`;
-  return number ? (part ? part.textContent + " " : "") + number.textContent : it.textContent;
-};
-const rows = (part) => [...document.querySelectorAll(`#table ${part} tr:not(.space)`)]
-  .map((it) => [...it.children].map(cell));
-return { body: rows("tbody"), foot: rows("tfoot"),
-  count: Number(document.getElementById("table").getAttribute("aria-rowcount")),
-  first: Number(document.querySelector("#table tbody tr[data-row]")?.dataset.row) };
-"""
-SETTLED = """
-return document.getElementById("loading").hidden && !document.getElementById("scroller").hasAttribute("aria-busy");
-"""
-# the longest time for which the page did nothing else, in milliseconds
-BEATS = """
-window.longest = 0;
-let last = performance.now();
-setInterval(() => {
-  const now = performance.now();
-  window.longest = Math.max(window.longest, now - last);
-  last = now;
-}, 10);
-"""
-# the least contrast of a text (WCAG 2.2, 1.4.3), and what is done with a button
-CONTRAST = 4.5
-STATES = [[], ["hover"], ["focus", "focus-visible"], ["hover", "active"]]
-# of each button its text, and the least contrast of what is written on it with what is painted below
-CONTRASTS = """
-const dot = new OffscreenCanvas(1, 1).getContext("2d", { willReadFrequently: true });
-const seen = new Map();
-const rgba = (text) => {
-  if (!seen.has(text)) {
-    dot.clearRect(0, 0, 1, 1);
-    dot.fillStyle = text;
-    dot.fillRect(0, 0, 1, 1);
-    const [red, green, blue, alpha] = dot.getImageData(0, 0, 1, 1).data;
-    seen.set(text, [[red, green, blue], alpha / 255]);
-  }
-  return seen.get(text);
-};
-const mix = (part, one, other) => one.map((it, at) => part * it + (1 - part) * other[at]);
-const over = (text, below) => mix(rgba(text)[1], rgba(text)[0], below);
-const paint = (chain, at, isText, below) => {
-  const style = getComputedStyle(chain[at]), ground = over(style.backgroundColor, below);
-  const inside = at + 1 < chain.length ? paint(chain, at + 1, isText, ground) : isText ? over(style.color, ground) : ground;
-  return mix(Number(style.opacity), inside, below);
-};
-const luminance = (colour) => {
-  const [red, green, blue] = colour.map((it) => it / 255 <= 0.04045 ? it / 255 / 12.92 : ((it / 255 + 0.055) / 1.055) ** 2.4);
-  return 0.2126 * red + 0.7152 * green + 0.0722 * blue;
-};
-const contrast = (it) => {
-  const chain = [];
-  for (; it; it = it.parentElement) chain.unshift(it);
-  const [high, low] = [true, false].map((isText) => luminance(paint(chain, 0, isText, [255, 255, 255]))).sort((a, b) => b - a);
-  return (high + 0.05) / (low + 0.05);
-};
-const texts = (it) => [it, ...it.querySelectorAll("*")].filter(
-  (part) => [...part.childNodes].some((node) => node.nodeType === 3 && node.data.trim()));
-return [...document.querySelectorAll("button")].map((it) => [it.textContent, Math.min(...texts(it).map(contrast))])
-  .filter((it) => Number.isFinite(it[1]));
-"""
-DROP = """
-const [name, text] = arguments, data = new DataTransfer();
-data.items.add(new File([text], name));
-for (const kind of ["dragover", "drop"]) {
-  document.body.dispatchEvent(new DragEvent(kind, { dataTransfer: data, bubbles: true, cancelable: true }));
-}
-"""
-
-
-class Trials:
-    """Counts what passed and failed, and says it."""
-
-    def __init__(self, loud, only):
-        self.loud, self.only, self.passed, self.failed = loud, only, 0, 0
-
-    def see(self, name, got, wanted=True):
-        """Takes a comparison."""
-        if got == wanted:
-            self.passed += 1
-            if self.loud:
-                print(f"passed: {name}")
-        else:
-            self.failed += 1
-            print(f"FAILED: {name}: {short(got)}, and not {short(wanted)}", flush=True)
-
-    def run(self, trial, *given):
-        """Runs a trial, where it is asked for; one that stops is a failure."""
-        if self.only and self.only not in trial.__name__:
-            return
-        start = time.monotonic()
-        try:
-            trial(self, *given)
-        except Exception as fault:
-            self.see(trial.__name__, f"{type(fault).__name__}: {str(fault).splitlines()[0]}", "its end")
-        if self.loud:
-            print(f"{trial.__name__}: {time.monotonic() - start:.1f} s", flush=True)
-
-
-def short(value):
-    text = repr(value)
-    return text if len(text) < 600 else f"{text[:300]} … {text[-300:]}"
-
-
-class Page:
-    """The page in a browser."""
-
-    def __init__(self, driver):
-        self.driver = driver
-
-    def js(self, text, *given):
-        return self.driver.execute_script(text, *given)
-
-    def at(self, name):
-        return self.driver.find_element("css selector", name)
-
-    def text(self, name):
-        return self.at(name).get_property("textContent")
-
-    def wait(self, text, *given):
-        """Waits until an expression is so in the page."""
-        end = time.monotonic() + AWAIT
-        while not self.js(text, *given):
-            if time.monotonic() > end:
-                raise TimeoutError(f"not so in {AWAIT} seconds: {' '.join(text.split())}")
-            time.sleep(0.02)
-
-    def fresh(self, address=""):
-        """Opens the page anew."""
-        self.driver.get("about:blank")
-        self.driver.get(PAGE + address)
-
-    def open(self, path, address=None):
-        """Opens a file by the page's chooser."""
-        if address is not None:
-            self.fresh(address)
-        self.at("#chosen").send_keys(path)
-        self.wait("return !document.getElementById('explorer').hidden && document.title.startsWith(arguments[0])",
-                  os.path.basename(path))
-        self.wait(SETTLED)
-
-    def go(self, address):
-        """Goes to a view by its address."""
-        self.js("location.hash = arguments[0]", address)
-        self.wait("return location.hash === arguments[0]", address)
-        time.sleep(0.05)
-        self.wait(SETTLED)
-
-    def click(self, name):
-        self.at(name).click()
-        time.sleep(0.05)
-        self.wait(SETTLED)
-
-    def value(self, text):
-        """Clicks a value of the table."""
-        found = [it for it in self.driver.find_elements("css selector", "#table tbody button.value") if it.text == text]
-        found[0].click()
-        time.sleep(0.05)
-        self.wait(SETTLED)
-
-    def choose(self, name, value):
-        """Chooses of a list."""
-        self.js("const it = document.getElementById(arguments[0]); it.value = arguments[1];"
-                "it.dispatchEvent(new Event('change'))", name, value)
-        self.wait(SETTLED)
-
-    def find(self, text):
-        """Types into the filter."""
-        from selenium.webdriver.common.keys import Keys
-
-        self.at("#find").send_keys(Keys.CONTROL + "a" + Keys.NULL + Keys.BACKSPACE + text)
-        self.wait("return new URLSearchParams(location.hash.slice(1)).get('find') === arguments[0]", text or None)
-        self.wait(SETTLED)
-
-    def shown(self):
-        return self.js(SHOWN)
-
-    def colours(self, look):
-        """Asks for light or dark colours, and for no motion."""
-        asked = {"prefers-color-scheme": look, "prefers-reduced-motion": "reduce"}
-        features = [{"name": name, "value": value} for name, value in asked.items()]
-        self.driver.execute_cdp_cmd("Emulation.setEmulatedMedia", {"features": features})
-
-    def force(self, state):
-        """Has each button, and each row of the table, look as in a state: with the pointer on it, or the focus."""
-        ask = self.driver.execute_cdp_cmd
-        for name in ("DOM.enable", "CSS.enable"):
-            ask(name, {})
-        root = ask("DOM.getDocument", {"depth": 0})["root"]["nodeId"]
-        for node in ask("DOM.querySelectorAll", {"nodeId": root, "selector": "button, tr"})["nodeIds"]:
-            ask("CSS.forcePseudoState", {"nodeId": node, "forcedPseudoClasses": state})
-
-    def command(self):
-        """The words of the command that the page shows for its view."""
-        return shlex.split(self.text("#command"))
-
-
-# What is wanted, made of what the program prints.
-
-
-@functools.cache
-def datacube():
-    """The program."""
-    return programs.datacube()
-
-
-def print_cube(path, *words):
-    """Writes the printed cube of a schema and feeds to a file."""
-    with open(path, "wb") as file:
-        ran = subprocess.run([datacube(), "print", *words], stdout=file, check=False)
-    if ran.returncode not in (0, 4):
-        raise ValueError(f"datacube ended with status {ran.returncode}")
-
-
-def printed(*words):
-    """The records that the program prints."""
-    ran = subprocess.run([datacube(), *words], stdout=subprocess.PIPE, check=False)
-    if ran.returncode not in (0, 4):
-        raise ValueError(f"datacube ended with status {ran.returncode}")
-    return list(csv.reader(io.StringIO(ran.stdout.decode(), newline="")))
-
-
-def shown_text(text):
-    return "".join(CONTROLS.get(it, it) for it in text) or "[empty text]"
-
-
-def decimal(text):
-    """A fraction to four places, as the page shows it."""
-    value, places = Fraction(text), 4
-    while value and abs(value) < Fraction(1000, 10**places):
-        places += 1
-    scaled = abs(value) * 10**places
-    whole = (2 * scaled.numerator + scaled.denominator) // (2 * scaled.denominator)
-    front, back = divmod(whole, 10**places)
-    back = str(back).rjust(places, "0").rstrip("0")
-    sign = ("" if scaled.denominator == 1 else "≈ ") + ("-" if value < 0 else "")
-    return f"{sign}{front:,}" + (f".{back}" if back else "")
-
-
-def shown_answer(text):
-    if text == "\\N":
-        return "[null]"
-    if "/" in text:
-        return f"{text} {decimal(text)}"
-    sign, whole, point, decimals = re.fullmatch(r"(-?)(\d+)(\.?)(\d*)", text).groups()
-    return f"{sign}{int(whole):,}{point}{decimals}"
-
-
-def wanted_rows(records, open_dimensions):
-    """The rows of a slice, as they are to be shown: those of the table, and the total."""
-    header, *lines = records
-    count = next(at for at, name in enumerate(header) if name == f"grouping({header[0]})")
-    body, foot = [], []
-    for line in lines:
-        flags = [line[count + at] for at in open_dimensions]
-        shown = ["[ALL]" if line[count + at] == "1" else "[null]" if line[at] == "\\N" else shown_text(line[at])
-                 for at in open_dimensions] + [shown_answer(it) for it in line[2 * count:]]
-        if "1" not in flags:
-            body.append(shown)
-        elif "0" not in flags:
-            foot.append(shown)
-    return body, foot
-
-
-def see_view(trials, page, name, records, open_dimensions):
-    """Compares the table, small enough to be there whole, with what the program printed."""
-    body, foot = wanted_rows(records, open_dimensions)
-    shown = page.shown()
-    trials.see(f"{name}: rows", shown["body"], body)
-    trials.see(f"{name}: total", shown["foot"], foot)
-    trials.see(f"{name}: count of rows", shown["count"], len(body) + len(foot) + 1)
-
+import explorer_charts
+import explorer_saving
+from explorer_page import (AWAIT, BEATS, CONTRAST, CONTRASTS, DROP, ROOT, SETTLED, SHOP, SHOP_SCHEMA, STATES, Page, Trials, print_cube, printed,
+                           see_view, shop_slice, shown_answer, wanted_rows)
 
 # The shop.
-
-
-def shop_slice(page):
-    """What the program prints for the command that the page shows."""
-    program, command, schema, pattern, *_ = page.command()
-    assert (program, command, schema) == ("datacube", "slice", "SCHEMA"), page.command()
-    return printed("slice", SHOP_SCHEMA, pattern, *SHOP)
 
 
 def shop_views(trials, page, cube):
@@ -406,31 +117,37 @@ def shop_heat(trials, page, cube):
 
 
 def shop_contrast(trials, page, cube):
-    """Each button can be read, in light and in dark colours, whatever is done with it."""
+    """Each text can be read, in light and in dark colours, whatever is done with its control."""
     for look in ("light", "dark"):
         page.colours(look)
         page.fresh()
-        see_contrast(trials, page, f"{look}, the start", 4)
-        for name, address in (("table", "#slice=%3F,%3F,%5CA"), ("heat map", "#slice=%3F,%3F,%5CA&form=heat&colour=9")):
+        see_contrast(trials, page, f"{look}, the start", 8)
+        for name, address in (("table", "#slice=%3F,%3F,%5CA"), ("heat map", "#slice=%3F,%3F,%5CA&form=heat&colour=9"),
+                              ("one dimension", "#slice=%3F,%5CA,%5CA&share=total&top=1&least=x"),
+                              ("bars", "#slice=%3F,%3F,%5CA&form=bars&colour=9"), ("lines", "#slice=%3F,%3F,%5CA&form=lines&colour=9")):
             page.open(cube, address)
-            see_contrast(trials, page, f"{look}, the {name}", 20)
+            see_contrast(trials, page, f"{look}, the {name}", 60)
     page.colours("light")
 
 
 def see_contrast(trials, page, name, least):
-    """Sees that each button of the page, also of what is hidden now, has enough contrast; there are so many at least."""
+    """Sees that each text of the page, also of what is hidden now, has enough contrast; there are so many at least."""
     for state in STATES:
         page.force(state)
         found = page.js(CONTRASTS)
         where = f"{name}, {' and '.join(state) or 'at rest'}"
-        trials.see(f"{where}: each button can be read", [it for it in found if it[1] < CONTRAST], [])
-        trials.see(f"{where}: buttons were looked at", len(found) >= least)
+        trials.see(f"{where}: each text can be read", [it for it in found if it[1] < CONTRAST], [])
+        trials.see(f"{where}: texts were looked at", len(found) >= least)
     page.force([])
 
 
 def shop_means(trials, page, cube):
-    page.open(cube, "#slice=%3F,%5CA,%5CA&sort=-12&find=e&means=decimal")
+    page.open(cube, "#slice=%3F,%5CA,%5CA&sort=-12&find=e")
     trials.see("means as decimals", [it[-1] for it in page.shown()["body"]], ["≈ 816.6667"])
+    exact = page.js("return document.querySelector('#table tr[data-row] td:last-child').title")
+    trials.see("the fraction under the pointer", exact, "2450/3")
+    page.choose("means", "both")
+    trials.see("both", [it[-1] for it in page.shown()["body"]], ["2450/3 ≈ 816.6667"])
     page.choose("means", "fraction")
     trials.see("means as fractions", [it[-1] for it in page.shown()["body"]], ["2450/3"])
     trials.see("the order from the address", page.at("[aria-sort=descending]").text.startswith("avg(cents)"))
@@ -467,7 +184,7 @@ def shop_keys(trials, page, cube):
     page.wait(SETTLED)
     trials.see("Enter drills down", page.command()[3], "\\N,?,\\A")
     trials.see("and the focus is on its first value", focus(), ["0", "coffee"])
-    trials.see("said to screen readers", page.text("[role=status]"),
+    trials.see("said to screen readers", page.text("#summary"),
                "2 rows: each product, where city is null, over ALL of payment.")
     names = page.js("return [...document.querySelectorAll('button, select, input:not([hidden])')].filter((it) => "
                     "it.checkVisibility() && !(it.textContent.trim() || it.ariaLabel || it.labels?.length)).length")
@@ -512,17 +229,19 @@ def strange_texts(trials, page, room):
     body, _ = wanted_rows(slices(), [0])
     number = lambda row: int(row[3].replace(",", ""))
     trials.see("sums beyond 2^53 in their order", page.shown()["body"], sorted(body, key=lambda it: -number(it)))
-    mean = lambda row: Fraction(row[6].split()[0])
+    means = [Fraction(it[-1]) for it in slices()[1:] if it[3] == "0"]
     page.click("[data-sort='9']")
-    trials.see("means in their order", [mean(it) for it in page.shown()["body"]], sorted(map(mean, body), reverse=True))
+    page.choose("means", "fraction")
+    trials.see("means in their order", [Fraction(it[6]) for it in page.shown()["body"]], sorted(means, reverse=True))
     page.find("l")
     found = [it for it in body if "l" in it[0].lower() and it[0] not in ("[null]", "[empty text]")]
     shown = page.shown()["foot"][0]
     total = sum(map(number, found))
     mean_found = Fraction(total, sum(int(it[2]) for it in found))
     trials.see("the sum of the rows found", shown[3], f"{total:,}")
-    trials.see("their mean", shown[6], shown_answer(f"{mean_found.numerator}/{mean_found.denominator}"))
+    trials.see("their mean", shown[6], f"{mean_found.numerator}/{mean_found.denominator}")
     page.find("")
+    page.choose("means", "decimal")
     for text in ("two↵lines", 'say "x"', "empty text", "null"):
         page.go("#slice=%3F,%5CA,%5CA")
         page.value(text)
@@ -668,12 +387,17 @@ def large_feed(room, rows):
 
 
 def make_large(room, rows):
-    """Makes the large cube, and what the program prints of two views of it."""
+    """Makes the large cube, what the program prints of two views of it, and the cube of before its last day."""
     large_feed(room, rows)
     schema, feed = f"{room}/large.toml", f"{room}/large.csv"
     print_cube(f"{room}/large cube.csv", schema, feed)
     drilled = printed("drill", schema, "=day 0017,\\A,\\A", "shop", feed)
-    return f"{room}/large cube.csv", drilled, printed("slice", schema, "?,=shop 07,?", feed)
+    with open(feed) as file, open(f"{room}/earlier.csv", "w") as out:
+        lines = file.readlines()
+        last = lines[-1].split(",")[2]
+        out.writelines(it for it in lines if f",{last}," not in it)
+    print_cube(f"{room}/earlier cube.csv", schema, f"{room}/earlier.csv")
+    return f"{room}/large cube.csv", drilled, printed("slice", schema, "?,=shop 07,?", feed), f"{room}/earlier cube.csv"
 
 
 def pause_for(took):
@@ -718,6 +442,59 @@ def large_views(trials, page, drilled, sliced):
     wanted = sorted(body, key=cents)[: len(shown["body"])]
     trials.see("a shop's days and products by cents", shown["body"], wanted)
     trials.see("their total", shown["foot"], foot)
+
+
+def large_numbers(trials, page, path):
+    """The first rows, filters and charts of many rows; the page answers meanwhile."""
+    with open(path, encoding="utf-8", newline="") as file:
+        lines = [it for it in csv.reader(file) if it[3:6] == ["0", "0", "0"]]
+    cents = sorted((int(it[7]) for it in lines), reverse=True)
+    page.go("#slice=%3F,%3F,%3F&sort=-8&answers=7,8&top=10")
+    page.js("window.longest = 0")
+    shown = page.shown()
+    trials.see("the first ten of many", [int(it[4].replace(",", "")) for it in shown["body"]], cents[:10])
+    trials.see("the rest of many", shown["foot"][0], [f"rest ({len(lines) - 10:,})", f"{sum(int(it[6]) for it in lines) - 10:,}", f"{sum(cents[10:]):,}"])
+    page.choose("limit", "1")
+    page.click("#more summary")
+    start = time.monotonic()
+    page.type("#least", str(cents[500]), "least")
+    took = time.monotonic() - start
+    trials.see("a bound over many", page.shown()["foot"][1][0], f"{sum(it >= cents[500] for it in cents)} found")
+    start = time.monotonic()
+    page.go("#slice=%3F,%3F,%3F&sort=-8&form=bars&colour=8")
+    drawn = time.monotonic() - start
+    rest = page.js("return [...document.querySelectorAll('#chart .mark')].at(-1).dataset.exact")
+    trials.see("bars of many, and the rest", rest, str(sum(cents[50:])))
+    longest = page.js("return window.longest") / 1000
+    print(f"{len(lines):,} rows were filtered by a number in {took:.1f} s and drawn as bars in {drawn:.1f} s; the page's longest pause was {longest:.2f} s")
+    trials.see("the page answers while it filters and draws", longest < pause_for(took + drawn))
+    page.go("#slice=%3F,%3F,%5CA&form=lines&colour=8")
+    marks = page.js("return [...document.querySelectorAll('#chart .mark')].map((it) => it.dataset.exact)")
+    total = sum(cents)
+    trials.see("lines of each day, and the rest of the shops", (len(marks), sum(map(int, marks))), (8 * len({it[0] for it in lines}), total))
+    page.go("#slice=%3F,%3F,%5CA&form=lines&colour=8&along=2")
+    marks = page.js("return [...document.querySelectorAll('#chart .mark')].map((it) => it.dataset.exact)")
+    trials.see("along the shops, the days are folded", sum(map(int, marks)), total)
+
+
+def large_comparison(trials, page, path, earlier):
+    """Two large cubes: one day came."""
+    page.js(BEATS)
+    page.js("location.hash = '#slice=%3F,%5CA,%5CA'")
+    page.wait(SETTLED)
+    start = time.monotonic()
+    page.at("#earlier").send_keys(earlier)
+    page.wait("return document.title.includes(' and ')")
+    page.wait(SETTLED)
+    took, longest = time.monotonic() - start, page.js("return window.longest") / 1000
+    print(f"two such cubes were compared in {took:.1f} s; the page's longest pause was {longest:.2f} s")
+    trials.see("the page answers while it compares", longest < pause_for(took))
+    page.click("#changes")
+    with open(path, encoding="utf-8", newline="") as file:
+        days = [it for it in csv.reader(file) if it[3:6] == ["0", "1", "1"]]
+    shown = page.shown()
+    trials.see("the day that came", [[row[0], row[-1]] for row in shown["body"]], [[days[-1][0], f"+{int(days[-1][7]):,}"]])
+    trials.see("the total's change", shown["foot"][-1][-1].split(" ")[-1], f"+{int(days[-1][7]):,}")
 
 
 def large_table(trials, page, path):
@@ -841,19 +618,36 @@ def firefox(trials, room, cube):
         see_view(trials, page, "Firefox: Leeds drilled down", shop_slice(page), [1])
         page.go("#slice=%3F,%3F,%5CA&form=heat&colour=9")
         trials.see("Firefox: the heat map", page.shown()["foot"], [["[ALL]", "1,800", "2,250", "400", "4,450"]])
+        for form in ("bars", "lines", "stacked"):
+            page.go(f"#slice=%3F,%3F,%5CA&form={form}&colour=9")
+            exact = [it["exact"] for it in page.js(explorer_charts.MARKS)[0] if it["exact"]]
+            trials.see(f"Firefox: {form}", sorted(map(int, exact)), [350, 400, 450, 700, 1200, 1350])
+        page.js("window.seen = null; pngOf(pictureOf()).then((blob) => (window.seen = blob.size))")
+        page.wait("return window.seen !== null")
+        trials.see("Firefox: a picture", page.js("return window.seen") > 5000)
+        print_cube(f"{room}/earlier.csv", SHOP_SCHEMA, *SHOP[1:])
+        explorer_saving.open_earlier(page, f"{room}/earlier.csv")
+        page.go("#slice=%3F,%5CA,%5CA&compare=1&answers=15")
+        trials.see("Firefox: a comparison", [it[-1].split(" ")[-1] for it in page.shown()["body"]], ["+2,450", "0", "0"])
     finally:
         page.driver.quit()
 
 
 # Pictures.
 
-# an address, and whether it is in dark colours
+# of the shop: an address, and whether it is in dark colours
 PICTURES = {"table": ("#slice=%3F,%3F,%5CA&sort=-9", False), "dark": ("#slice=%3DLeeds,%3F,%5CA", True),
             "heat": ("#slice=%3F,%3F,%5CA&form=heat&colour=9", False)}
+# of a year of months, cities and products: an address, whether it is in dark colours, and how wide and high the page is
+CHARTS = {"bars": ("#slice=%5CA,%3F,%3F&form=bars&answers=7,8&sort=-8&top=9", False, (1360, 720)),
+          "lines": ("#slice=%3F,%5CA,%3F&form=lines&colour=8", False, (1360, 720)),
+          "stacked": ("#slice=%3F,%3F,%5CA&form=stacked&colour=8&share=total", True, (1360, 820)),
+          "narrow": ("#slice=%5CA,%5CA,%3F&form=bars&colour=8", False, (420, 800)),
+          "narrow-dark": ("#slice=%5CA,%3F,%5CA&answers=8,9&sort=-8", True, (420, 800))}
 
 
 def screenshot(page, name, dark=False):
-    page.js("document.activeElement.blur()")
+    page.js("document.activeElement.blur(); document.getElementById('more').open = false")
     kind = {"features": [{"name": "prefers-color-scheme", "value": "dark" if dark else "light"}]}
     page.driver.execute_cdp_cmd("Emulation.setEmulatedMedia", kind)
     time.sleep(0.4)
@@ -874,11 +668,47 @@ def shop_pictures(page, cube):
     page.driver.set_window_size(1280, 800)
 
 
+def make_year(room):
+    """The printed cubes of a year of sales, and of its first eleven months."""
+    pick, cities, products = random.Random(7), ["Bath", "Hull", "Leeds", "York"], ["cocoa", "coffee", "juice", "tea"]
+    with open(f"{room}/year.toml", "w") as file:
+        file.write('dimensions = ["month", "city", "product"]\nmeasures = ["price"]\ndecimals = { price = 2 }\n'
+                   'aggregates = ["count(*)", "sum(price)", "avg(price)"]\n')
+    for name, months in (("before", 11), ("after", 12)):
+        pick.seed(7)
+        with open(f"{room}/{name}-feed.csv", "w") as file:
+            file.write("op,id,month,city,product,price\n")
+            for at in range(months * 16):
+                month, cell = divmod(at, 16)
+                city, product = divmod(cell, 4)
+                warm = abs(month - 6) / 6
+                for sale in range(int((6 + 5 * city) * (1 + [1.5 * warm, 0.6, 2 * (1 - warm), warm][product]))):
+                    cents = 150 + 60 * product + pick.randrange(200)
+                    file.write(f"I,{at}-{sale},2025-{month + 1:02d},{cities[city]},{products[product]},{cents // 100}.{cents % 100:02d}\n")
+        print_cube(f"{room}/{name}.csv", f"{room}/year.toml", f"{room}/{name}-feed.csv")
+    return f"{room}/after.csv", f"{room}/before.csv"
+
+
+def chart_pictures(page, room):
+    """Charts, wide and narrow, and what changed."""
+    after, before = make_year(room)
+    for name, (address, dark, size) in CHARTS.items():
+        page.open(after, address)
+        page.size(*size)
+        screenshot(page, name, dark)
+    page.open(after, "#slice=%3F,%5CA,%3F")
+    page.size(1360, 720)
+    explorer_saving.open_earlier(page, before)
+    page.go("#slice=%5CA,%3F,%3F&compare=1&answers=10,11,12&sort=-12")
+    screenshot(page, "changes")
+    page.size(0)
+
+
 def large_pictures(page):
     page.driver.set_window_size(1240, 720)
     page.go("#slice=%3F,%3F,%3F&sort=-8&means=decimal")
     screenshot(page, "million")
-    page.driver.set_window_size(860, 640)
+    page.driver.set_window_size(860, 780)
     page.go("#slice=%3F,%3F,%5CA&form=heat&colour=8")
     screenshot(page, "days")
     page.driver.set_window_size(1280, 800)
@@ -915,14 +745,15 @@ def try_small(trials, page, room, given):
     """Runs the trials of small cubes."""
     cube = f"{room}/shop.csv"
     print_cube(cube, SHOP_SCHEMA, *SHOP)
-    for trial in (shop_views, shop_order, shop_heat, shop_contrast, shop_means, shop_keys):
+    for trial in (shop_views, shop_order, shop_heat, shop_contrast, shop_means, shop_keys, *explorer_charts.SMALL):
         trials.run(trial, page, cube)
-    for trial in (strange_texts, decimals, rolled_up):
+    for trial in (strange_texts, decimals, rolled_up, *explorer_saving.TRIALS):
         trials.run(trial, page, room)
     trials.run(wrong_files, page, room, cube)
     trials.run(firefox, room, cube)
     if given.screenshots:
         shop_pictures(page, cube)
+        chart_pictures(page, room)
 
 
 def try_all(trials, page, room, given):
@@ -933,12 +764,15 @@ def try_all(trials, page, room, given):
     with ThreadPoolExecutor(1) as pool:
         large = pool.submit(make_large, room, given.rows)
         try_small(trials, page, room, given)
-        path, drilled, sliced = large.result()
+        path, drilled, sliced, earlier = large.result()
     trials.run(large_load, page, path, given.rows)
     trials.run(large_views, page, drilled, sliced)
     trials.run(large_table, page, path)
+    trials.run(large_numbers, page, path)
     if given.screenshots:
         large_pictures(page)
+    trials.run(explorer_saving.large_saving, page, room, path)
+    trials.run(large_comparison, page, path, earlier)
 
 
 def main():
