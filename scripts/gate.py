@@ -174,15 +174,15 @@ def quick_parts(program):
         ("what documents show, run", ["scripts/pages.py", "--program", program]),
         ("a wrong program", ["scripts/spoil.py", "--program", program]),
         ("starting, installing and packing it", ["scripts/installing.py", "--program", program]),
-        ("the progress line in a terminal", ["scripts/progress.py", "--program", program]),
         ("the Python package", ["scripts/python_tests.py", "--program", program]),
         ("a session over a store, the short form", ["scripts/store_trials.py", "--short", "--program", program]),
     ]
-    generated = programs.pytest(program, "tests", "--ignore=tests/test_cases.py", "--ignore=tests/test_sql.py")
-    if generated:
-        parts.append(("generated cases beside a slow program", generated))
+    apart = ("cases", "progress", "sql")
+    if programs.pytest(program):
+        parts.append(("the progress line in a terminal", programs.pytest(program, "tests/test_progress.py", shares=8)))
+        parts.append(("generated cases beside a slow program", programs.pytest(program, "tests", *(f"--ignore=tests/test_{it}.py" for it in apart))))
     else:
-        print("left out, since python3-pytest isn't installed: generated cases")
+        print("left out, since python3-pytest isn't installed: generated cases, and the progress line in a terminal")
     if shutil.which("cc"):
         parts.append(("hostile use, the short form", ["scripts/hostile.sh", "--short", "--program", program]))
     else:

@@ -26,8 +26,10 @@ def python_with(package):
     return next((it for it in (DEBIANS, sys.executable) if has(it)), None)
 
 
-def pytest(program, *words):
-    """The command by which pytest runs tests of the folder tests/ on a program, and tells what passed, or None where it isn't there."""
+def pytest(program, *words, shares=1):
+    """The command by which pytest runs tests of the folder tests/ on a program, and tells what passed, or None where it isn't there.
+    The tests are shared among so many processes, where Python can do that."""
     python = python_with("pytest")
     quiet = ["-q", "--tb=short", "--no-header", "-p", "no:cacheprovider", "--tally"]
+    quiet += ["-n", str(shares)] if shares > 1 and python_with("xdist") == python else []
     return python and [python, "-B", "-m", "pytest", *quiet, "--program", program, *words]
