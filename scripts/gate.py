@@ -168,8 +168,9 @@ class Sampler(threading.Thread):
 
 def quick_parts(program):
     """The parts that take seconds, and need no kit."""
+    shares = len(os.sched_getaffinity(0))
     parts = [
-        ("cases", programs.pytest(program, "tests/test_cases.py") or ["scripts/cases.py", "--program", program]),
+        ("cases", programs.pytest(program, "tests/test_cases.py", shares=shares) or ["scripts/cases.py", "--program", program]),
         ("documents", ["scripts/documents.py", "--check", "--program", program]),
         ("what documents show, run", ["scripts/pages.py", "--program", program]),
         ("a wrong program", ["scripts/spoil.py", "--program", program]),
@@ -177,10 +178,10 @@ def quick_parts(program):
         ("the Python package", ["scripts/python_tests.py", "--program", program]),
         ("a session over a store, the short form", ["scripts/store_trials.py", "--short", "--program", program]),
     ]
-    apart = ("cases", "progress", "sql")
+    rest = ["tests", *(f"--ignore=tests/test_{it}.py" for it in ("cases", "progress", "sql", "library"))]
     if programs.pytest(program):
         parts.append(("the progress line in a terminal", programs.pytest(program, "tests/test_progress.py", shares=8)))
-        parts.append(("generated cases beside a slow program", programs.pytest(program, "tests", *(f"--ignore=tests/test_{it}.py" for it in apart))))
+        parts.append(("generated cases beside a slow program", programs.pytest(program, *rest, shares=shares)))
     else:
         print("left out, since python3-pytest isn't installed: generated cases, and the progress line in a terminal")
     if shutil.which("cc"):
