@@ -18,11 +18,11 @@ from workloads import WORKLOADS, make
 
 COUNTS = (1, 2, 4, 8, 16)
 STEPS = {
-    "reading": ("Records::advance", "line::change"),
-    "books": ("Ledger::enter_taken",),
-    "filling": ("Builder::of",),
-    "sorting": ("Cube::ordered_where",),
-    "printing": ("print::print_cells",),
+    "reading": ("RecordReader::advance", "plain::change_of_row"),
+    "books": ("Ledger::apply_fed",),
+    "filling": ("fill::fill_cube_with",),
+    "sorting": ("SeveralOrdersSummary::ordered",),
+    "printing": ("lines::put_field",),
 }
 # how many feeds a workload is split into, where it isn't one
 SOURCES = {"many": 64}
