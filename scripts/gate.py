@@ -178,7 +178,7 @@ def quick_parts(program):
         ("the Python package", ["scripts/python_tests.py", "--program", program]),
         ("a session over a store, the short form", ["scripts/store_trials.py", "--short", "--program", program]),
     ]
-    rest = ["tests", *(f"--ignore=tests/test_{it}.py" for it in ("cases", "progress", "sql", "library"))]
+    rest = ["tests", *(f"--ignore=tests/test_{it}.py" for it in ("cases", "progress", "sql", "library", "store_trials"))]
     if programs.pytest(program):
         parts.append(("the progress line in a terminal", programs.pytest(program, "tests/test_progress.py", shares=8)))
         parts.append(("generated cases beside a slow program", programs.pytest(program, *rest, shares=shares)))

@@ -1,10 +1,11 @@
-"""Where the program stands that the scripts run, and by what Python its tests are."""
+"""Where the program stands that the scripts run, by what Python its tests are, and a folder in which it is run."""
 import os
 import shutil
 import subprocess
 import sys
 
 ROOT = os.path.dirname(os.path.dirname(os.path.realpath(__file__)))
+SECONDS = 120
 # (Debian's packages are of its own Python)
 DEBIANS = "/usr/bin/python3"
 
@@ -33,3 +34,22 @@ def pytest(program, *words, shares=1):
     quiet = ["-q", "--tb=short", "--no-header", "-p", "no:cacheprovider", "--tally"]
     quiet += ["-n", str(shares)] if shares > 1 and python_with("xdist") == python else []
     return python and [python, "-B", "-m", "pytest", *quiet, "--program", program, *words]
+
+
+class Room:
+    """A folder in which a program is run on files."""
+
+    def __init__(self, program, folder):
+        self.program, self.folder = program, folder
+
+    def write(self, name, data):
+        """Writes a file, and gives its name."""
+        with open(f"{self.folder}/{name}", "wb") as file:
+            file.write(data)
+        return name
+
+    def run(self, words, given=b""):
+        """The status of the program, its output and its standard error."""
+        how = {"cwd": self.folder, "stdout": subprocess.PIPE, "stderr": subprocess.PIPE, "timeout": SECONDS}
+        ran = subprocess.run([self.program, *words], input=given, **how)
+        return ran.returncode, ran.stdout, ran.stderr

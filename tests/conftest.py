@@ -26,6 +26,7 @@ def pytest_addoption(parser):
     parser.addoption("--program", help="the program that is tried")
     parser.addoption("--times", type=float, default=1, help="how many times as many generated cases as in the gate")
     parser.addoption("--tally", action="store_true", help="end with the line `N passed, M failed`")
+    parser.addoption("--long", action="store_true", help="make the long form of the trials of a store")
     parser.addoption("--records", type=int, metavar="N", help="try a session of so many records")
     parser.addoption("--found", metavar="FOLDER", help="where the smallest cases that fail are written")
 

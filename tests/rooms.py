@@ -4,9 +4,9 @@ import collections
 import os
 import re
 import shutil
-import subprocess
 
-SECONDS = 120
+import programs
+
 # (how many times as many generated cases are tried as in the gate; conftest.py sets it)
 TIMES = 1
 # (how many cases of each generated test were tried)
@@ -26,12 +26,12 @@ class Differs(AssertionError):
         self.block = block
 
 
-class Room:
-    """A folder in which a program is run on files."""
+class Room(programs.Room):
+    """A folder in which cases are tried, one after the other; what one of them wrote there is known."""
 
     def __init__(self, program, folder):
-        self.program, self.folder, self.name = program, folder, ""
-        self.files, self.earlier = {}, []
+        super().__init__(program, folder)
+        self.name, self.files, self.earlier = "", {}, []
 
     def begin(self, name):
         """Begins a case of a name, in an empty folder."""
@@ -43,15 +43,7 @@ class Room:
     def write(self, name, data):
         """Writes a file, and gives its name."""
         self.files[name] = data
-        with open(f"{self.folder}/{name}", "wb") as file:
-            file.write(data)
-        return name
-
-    def run(self, words, given=b""):
-        """The status of the program, its output and its standard error."""
-        how = {"cwd": self.folder, "stdout": subprocess.PIPE, "stderr": subprocess.PIPE, "timeout": SECONDS}
-        ran = subprocess.run([self.program, *words], input=given, **how)
-        return ran.returncode, ran.stdout, ran.stderr
+        return super().write(name, data)
 
     def expect(self, words, wanted, given=b"", leaves=False):
         """Runs the program, whose status, output and standard error have to be those that are wanted. A run that leaves files is a

@@ -5,7 +5,8 @@ import subprocess
 import generated as make
 import oracle
 import programs
-from rooms import SECONDS, said
+from programs import SECONDS
+from rooms import said
 from strategies import generated
 
 # (its sub-command `run` is run_plain over a schema and feeds, where rt ci or rt run built it)

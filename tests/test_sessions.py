@@ -10,7 +10,8 @@ import threading
 import generated as make
 import oracle
 import pytest
-from rooms import SECONDS, said
+from programs import SECONDS
+from rooms import said
 from strategies import generated
 
 COORDINATES = [b"\\A", b"?", b"\\A", b"\\N", b"=", b"=a", b"=b", b"=west", b"=a,b", b'="', b"=\\N", b"a", b"", b"=\xff"]
