@@ -25,6 +25,14 @@ import programs  # noqa: E402
 COUNTS = re.compile(r"^(\d+) passed, (\d+) failed$", re.MULTILINE)
 
 
+def with_generated_tests():
+    """The files that have generated tests."""
+    for path in sorted(glob.glob(f"{HERE}/test_*.py")):
+        with open(path, encoding="utf-8") as file:
+            if "@tries(" in file.read():
+                yield path
+
+
 def run(words, seed, room, failed):
     """Runs the generated tests of a file, but for those that failed, with a seed; gives how many cases passed, and what it said
     where one failed."""
@@ -59,7 +67,7 @@ def main():
     end, seed, passed, failed = time.monotonic() + 60 * words.minutes, words.seed, 0, []
     print(f"the first seed is {seed}", flush=True)
     while time.monotonic() < end:
-        for words.file in sorted(glob.glob(f"{HERE}/test_*.py")):
+        for words.file in with_generated_tests():
             if time.monotonic() > end:
                 break
             with tempfile.TemporaryDirectory(prefix="fuzz-") as room:

@@ -9,7 +9,7 @@ import pytest
 import rooms
 
 hypothesis = pytest.importorskip("hypothesis", reason="python3-hypothesis isn't installed")
-from hypothesis import given, strategies as st  # noqa: E402
+from hypothesis import event, given, strategies as st  # noqa: E402, F401 (the tests note events)
 
 # (of so many things hypothesis makes each by choices of its own, which a case has room for)
 MOST_DRAWN = 120
@@ -70,7 +70,7 @@ def made(draw, make):
 choices = functools.partial(made, lambda it: it)
 
 
-def generated(count):
+def tries(count):
     """Makes a test of a function that tries one case in a room: of so many cases in the gate."""
 
     def of(test):

@@ -7,7 +7,7 @@ import oracle
 import programs
 from programs import SECONDS
 from rooms import said
-from strategies import generated
+from strategies import tries
 
 # (its sub-command `run` is run_plain over a schema and feeds, where rt ci or rt run built it)
 BENCH = f"{programs.ROOT}/crates/bench/out/bench"
@@ -42,7 +42,7 @@ def answer(code, status, text):
     return (STATUS[code[0]], b"", said(code)) if code else (status, text(), b"")
 
 
-@generated(50)
+@tries(50)
 def test_commands(room, rng):
     schema, feeds, files, fault = feeds_of(room, rng)
     options, (asked, conditions) = options_of(rng), make.random_conditions(rng, schema)
@@ -99,7 +99,7 @@ def message(rng, schema, sources):
     return rng.choice([[b"print"], [b"refusals"], [b"sync"], [b"slice", *pattern]])
 
 
-@generated(50)
+@tries(50)
 def test_sessions_over_a_store(room, rng):
     """A session over a store that gets changes and questions, and then what is asked of the store."""
     schema, feeds, files, fault = feeds_of(room, rng)

@@ -5,10 +5,9 @@ that is guessed throughout no line is refused that has as many fields as the hea
 """
 import generated as make
 import guess
-import hypothesis
 import oracle
 from rooms import said
-from strategies import generated
+from strategies import event, tries
 
 NAMES = [b"city", b"when", b"price", b"qty", b"zip", b"order no", b"id", b"op", b"*", b"", b"a:7", b"when:7", b"op_", b"no-2",
          b"Phone", b'a"b', b"a,b", b"it's", b"-x", b"l\nm", b"\xff", b"sum of it", b"caf\xc3\xa9", b"t\x01", b"x_year", b"myyear"]
@@ -67,7 +66,7 @@ def columns_asked(rng, names, most):
     return oracle.encode([fields]).strip(b"\r\n")
 
 
-@generated(60)
+@tries(60)
 def test_files(room, rng):
     names, count, data = file_of(rng)
     by, of = columns_asked(rng, names, 8), columns_asked(rng, names, 4)
@@ -78,7 +77,7 @@ def test_files(room, rng):
         text, line = guess.schema_text(data, by, of), None
     except guess.Wrong as it:
         text, line = b"", f"no columns: {it}"
-    hypothesis.event("no schema" if line else "a schema")
+    event("no schema" if line else "a schema")
     wanted = 2 if line else 0, text, said(line)
     room.expect(["schema", *options, "f.csv"], wanted)
     if line:
@@ -88,7 +87,7 @@ def test_files(room, rng):
         return None
     records, _ = oracle.data_records(schema, data)
     run = oracle.Run(schema, [records], (1, 1))
-    hypothesis.event(f"a table, status {run.status}")
+    event(f"a table, status {run.status}")
     assert options or all(code == 2 for _, _, code in run.refused), "a whole line is refused under a schema that was guessed"
     status, out, err = room.run(["table", *options, "f.csv"])
     left = untold(run, len(records), lambda number: line_of(data, schema.delimiter(), number), err)

@@ -6,10 +6,9 @@ without merging.
 import re
 
 import generated as make
-import hypothesis
 import oracle
 from rooms import said
-from strategies import generated
+from strategies import event, tries
 
 SPELLINGS = [
     lambda it: b"+" + it, lambda it: b"0" + it, lambda it: b"-" + it, lambda it: b'"' + it + b'"', lambda it: it + b" ",
@@ -58,7 +57,7 @@ def merged(room, schema, texts, rng, wanted, tail=()):
     names = [room.write(f"part{at}.csv", it) for at, it in enumerate(texts)]
     options = rng.sample([it for it in ("--partial", "--check") if it in tail], len(set(tail)))
     words, (text, fault) = ["merge", *options, "schema.toml", *names], wanted
-    hypothesis.event(fault.code if fault else "merged")
+    event(fault.code if fault else "merged")
     if fault and "--check" in tail:
         text = b""
     got = room.run(words)
@@ -67,7 +66,7 @@ def merged(room, schema, texts, rng, wanted, tail=()):
     room.compare(got, words, (1 if fault else 0, text, said(fault and fault.line())))
 
 
-@generated(18)
+@tries(18)
 def test_partial_cubes(room, rng):
     """The partial cubes of parts of facts, in a tree too."""
     schema, partial, facts = facts_of(rng)
@@ -82,7 +81,7 @@ def test_partial_cubes(room, rng):
         merged(room, schema, some, rng, (text, None), tail)
 
 
-@generated(8)
+@tries(8)
 def test_shards(room, rng):
     """The shards of feeds: their partial cubes, now and then of facts of interest, which are merged, and their refusals."""
     schema, feeds = case_of(rng)
@@ -104,7 +103,7 @@ def test_shards(room, rng):
     merged(room, schema, texts, rng, (whole.print(), None))
 
 
-@generated(16)
+@tries(16)
 def test_counts_and_sums_near_their_bounds(room, rng):
     """Cubes whose counts and sums are those of facts that stand many times each, near the bounds and past them."""
     schema, partial, facts = facts_of(rng)
@@ -169,7 +168,7 @@ def spoiled(text, rng):
     return b"".join(lines[:at] + [b",".join(fields) + b"\n"] + lines[at + 1 :])
 
 
-@generated(144)
+@tries(144)
 def test_spoiled_cubes(room, rng):
     """Cubes of which one, now and then two, are spoiled."""
     schema, partial, facts = facts_of(rng)
@@ -181,7 +180,7 @@ def test_spoiled_cubes(room, rng):
     merged(room, schema, texts, rng, oracle.merge(schema, texts, "--partial" in tail), tail)
 
 
-@generated(6)
+@tries(6)
 def test_paths(room, rng):
     """What is told of paths, before any cube is read."""
     room.write("schema.toml", oracle.SAMPLE.toml())

@@ -2,7 +2,7 @@
 import cases
 import generated as make
 from rooms import Room
-from strategies import generated
+from strategies import tries
 
 PIECES = [b"a", b"\n", b"\r\n", b"\\", b"x41", b"\\x41", b"#", b"##", b"| ", b"|. ", b'"', b"'", b"$1", b"{1..3}", b" ", b",", b"\xff",
           "grüße".encode(), b"\x00", b"\x85", "\u2028".encode(), b"\\N", b"`", b"-"]
@@ -12,7 +12,7 @@ def text(rng):
     return b"".join(make.series(rng, 20, lambda rng: rng.choice(PIECES)))
 
 
-@generated(50)
+@tries(50)
 def test_a_case_that_is_written_is_read_back(room, rng):
     words = [b"print", *(text(rng).replace(b"\x00", b"") for _ in range(rng.randint(0, 3)))]
     other, files = Room(room.program, room.folder), {"one": text(rng), "two": text(rng)}

@@ -12,7 +12,7 @@ import oracle
 import pytest
 from programs import SECONDS
 from rooms import said
-from strategies import generated
+from strategies import tries
 
 COORDINATES = [b"\\A", b"?", b"\\A", b"\\N", b"=", b"=a", b"=b", b"=west", b"=a,b", b'="', b"=\\N", b"a", b"", b"=\xff"]
 WRONG = [[b"Print"], [b"0", b"I"], [b"65", b"I"], [b"01", b"I"], [b"+1", b"I"], [b""], [b"\xff", b"a"], [b"print", b""], [b"slice"],
@@ -145,7 +145,7 @@ def asked_twice(room, rng, schema, feeds, records):
     room.compare(by_pipe(room, words, pieces), words, wanted, b"".join(it for it, _ in pieces))
 
 
-@generated(40)
+@tries(40)
 def test_sessions(room, rng):
     asked_twice(room, rng, *session(rng))
 

@@ -5,7 +5,7 @@ import generated as make
 import oracle
 import pytest
 import sql
-from strategies import generated
+from strategies import tries
 
 
 @pytest.fixture(scope="session")
@@ -17,7 +17,7 @@ def server():
         yield begun
 
 
-@generated(50)
+@tries(50)
 def test_sql(room, rng, server):
     schema, feeds = make.random_case(rng)
     schema.max_records = make.MOST

@@ -5,7 +5,7 @@ import json
 import generated as make
 import oracle
 import views
-from strategies import generated
+from strategies import tries
 
 # Texts that are hard to quote, to escape, to align or to cut.
 TEXTS = ["a", "", "west", "a,b", 'say "no"', "\\", "\\n", "null", "(all)", "(null)", "0", "-1.5", "a\nb", "a\r\nb", "a\tb", "\x00",
@@ -28,7 +28,7 @@ def case_of(rng):
     return schema, [[b"I", b"i%d" % at, *it] for at, it in enumerate(facts)]
 
 
-@generated(60)
+@tries(60)
 def test_forms(room, rng):
     schema, records = case_of(rng)
     most, dimensions = rng.choice([20, 21, 40, 79, 10000]), len(schema.dimensions)
