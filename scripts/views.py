@@ -9,7 +9,6 @@ They write the form of the printed cube on standard input. tests/test_views.py h
 """
 import csv
 import io
-import json
 import re
 import sys
 import unicodedata
