@@ -178,14 +178,15 @@ def quick_parts(program):
         ("the Python package", ["scripts/python_tests.py", "--program", program]),
         ("a session over a store, the short form", ["scripts/store_trials.py", "--short", "--program", program]),
     ]
-    rest = ["tests", *(f"--ignore=tests/test_{it}.py" for it in ("cases", "progress", "sql", "library", "store_trials"))]
+    rest = ["tests", *(f"--ignore=tests/test_{it}.py" for it in ("cases", "progress", "hostile", "store_trials", "sql", "library"))]
     if programs.pytest(program):
         parts.append(("the progress line in a terminal", programs.pytest(program, "tests/test_progress.py", shares=8)))
         parts.append(("generated cases beside a slow program", programs.pytest(program, *rest, shares=shares)))
     else:
         print("left out, since python3-pytest isn't installed: generated cases, and the progress line in a terminal")
     if shutil.which("cc"):
-        parts.append(("hostile use, the short form", ["scripts/hostile.sh", "--short", "--program", program]))
+        hostile = programs.pytest(program, "tests/test_hostile.py", shares=shares) or ["scripts/hostile.sh", "--short", "--program", program]
+        parts.append(("hostile use, the short form", hostile))
     else:
         print("left out, since there is no C compiler: hostile use")
     return parts

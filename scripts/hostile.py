@@ -150,24 +150,36 @@ def why_wrong(answer, whole, codes, ends_of=no_ends):
 
 
 class Trials:
-    def __init__(self, program, only, is_short):
-        self.program, self.only, self.is_short, self.passed, self.failed = program, only, is_short, 0, 0
+    """Trials of a program, by their names: each a call with its arguments, which gives why it fails, a number that it tells, or None."""
 
-    def trial(self, name, call):
+    def __init__(self, program, is_short):
+        self.program, self.is_short, self.calls = program, is_short, {}
+
+    def trial(self, name, call, *arguments):
+        """Adds a trial; the short form has some of those that are made of each command."""
         kind, _, what = name.partition(": ")
-        if self.only not in name or self.is_short and what and kind != "threads refused in turn" and what not in SHORT:
-            return
-        try:
-            why = call()
-        except Exception as error:
-            why = f"the trial itself failed: {error!r}"
-        counted = isinstance(why, int)
-        if why is None or counted:
-            self.passed += 1
-            print(f"ok      {name}{f' ({why})' if counted else ''}", flush=True)
-        else:
-            self.failed += 1
-            print(f"FAILED  {name}: {why}", flush=True)
+        if not self.is_short or not what or kind == "threads refused in turn" or what in SHORT:
+            self.calls[name] = call, arguments
+
+    def tried(self, name):
+        """Makes a trial."""
+        call, arguments = self.calls[name]
+        return call(*arguments)
+
+    def run(self, only):
+        """Makes those whose name has a word, and says of each what came of it; the status of the script."""
+        passed = failed = 0
+        for name in (it for it in self.calls if only in it):
+            try:
+                why = self.tried(name)
+            except Exception as error:
+                why = f"the trial itself failed: {error!r}"
+            is_right = why is None or isinstance(why, int)
+            passed, failed = passed + is_right, failed + (not is_right)
+            told = f": {why}" if not is_right else f" ({why})" if why is not None else ""
+            print(f"{'ok     ' if is_right else 'FAILED '} {name}{told}", flush=True)
+        print(f"{passed} passed, {failed} failed")
+        return 1 if failed else 0
 
     def in_turn(self, kind, words, codes, given=b"", ends_of=no_ends, short=None, limit=20000):
         """Refuses each call of a kind in turn until a run meets no refusal; how many there were, or why it fails."""
@@ -244,28 +256,24 @@ def refusals_in_turn(trials):
     made, files = commands(program)
     for name, (words, given) in made.items():
         ends_of = ends_of_command(name)
-        trials.trial(f"memory refused in turn: {name}", lambda: trials.in_turn("alloc", words, MEMORY, given, ends_of))
-        trials.trial(f"reads failing in turn: {name}", lambda: trials.in_turn("read", words, READS, given, ends_of))
-        trials.trial(f"reads of a byte failing in turn: {name}",
-                     lambda: trials.in_turn("read", words, READS, given, ends_of, "read 1"))
-        trials.trial(f"writes failing in turn: {name}", lambda: trials.in_turn("write", words, [r"G6 \d+"], given))
-        trials.trial(f"writes that take nothing: {name}", lambda: trials.in_turn("none", words, [r"G6 \d+"], given))
-        trials.trial(f"threads refused in turn: {name}", lambda: trials.in_turn("thread", words, [r"G2"], given))
-        trials.trial(f"random bytes refused: {name}", lambda: trials.in_turn("chance", words, [r"no random key"], given))
-        trials.trial(f"one byte a read: {name}", lambda: short(program, words, given, "read 1"))
-        trials.trial(f"one byte a write: {name}", lambda: short(program, words, given, "write 1"))
+        trials.trial(f"memory refused in turn: {name}", trials.in_turn, "alloc", words, MEMORY, given, ends_of)
+        trials.trial(f"reads failing in turn: {name}", trials.in_turn, "read", words, READS, given, ends_of)
+        trials.trial(f"reads of a byte failing in turn: {name}", trials.in_turn, "read", words, READS, given, ends_of, "read 1")
+        trials.trial(f"writes failing in turn: {name}", trials.in_turn, "write", words, [r"G6 \d+"], given)
+        trials.trial(f"writes that take nothing: {name}", trials.in_turn, "none", words, [r"G6 \d+"], given)
+        trials.trial(f"threads refused in turn: {name}", trials.in_turn, "thread", words, [r"G2"], given)
+        trials.trial(f"random bytes refused: {name}", trials.in_turn, "chance", words, [r"no random key"], given)
+        trials.trial(f"one byte a read: {name}", short, program, words, given, "read 1")
+        trials.trial(f"one byte a write: {name}", short, program, words, given, "write 1")
     one = ["print", "schema.toml", program.write("one.csv", oracle.encode([SAMPLE.header(), ONE]))]
-    trials.trial("writes of a byte failing in turn: print, one fact",
-                 lambda: trials.in_turn("write", one, [r"G6 \d+"], short="write 1"))
-    trials.trial("writes of a byte that take nothing: print, one fact",
-                 lambda: trials.in_turn("none", one, [r"G6 \d+"], short="write 1"))
+    for kind, name in (("write", "writes of a byte failing in turn"), ("none", "writes of a byte that take nothing")):
+        trials.trial(f"{name}: print, one fact", trials.in_turn, kind, one, [r"G6 \d+"], b"", no_ends, "write 1")
     many = ["print", "--ring", "1", "--builders", "8", "schema.toml", *files]
-    trials.trial("threads refused in turn: print, 64 feeds, 8 builders", lambda: trials.in_turn("thread", many, [r"G2"]))
+    trials.trial("threads refused in turn: print, 64 feeds, 8 builders", trials.in_turn, "thread", many, [r"G2"])
     few = [one[-1]] * 64
     for builders in ("1", "2", "8"):
         words = ["print", "--ring", "1", "--builders", builders, "schema.toml", *few]
-        trials.trial(f"memory refused in turn: print, 64 feeds, {builders} builders",
-                     lambda: trials.in_turn("alloc", words, MEMORY))
+        trials.trial(f"memory refused in turn: print, 64 feeds, {builders} builders", trials.in_turn, "alloc", words, MEMORY)
 
 
 FOUR_MEASURES = oracle.Schema(["a"], ["m", "n", "o", "p"], [("count", None)])
@@ -308,13 +316,12 @@ def growths_in_turn(trials):
         return
     driver = Program(os.path.abspath(DRIVER), trials.program.shim, trials.program.folder)
     for name, (schema, *calls) in growths().items():
-        driver.write("calls.toml", schema.toml())
-        trials.trial(f"memory refused in turn: calls of {name}", lambda: calls_in_turn(driver, "\n".join(calls).encode()))
+        trials.trial(f"memory refused in turn: calls of {name}", calls_in_turn, driver, schema, "\n".join(calls).encode())
 
 
-def calls_in_turn(driver, given, limit=20000):
+def calls_in_turn(driver, schema, given, limit=20000):
     """The answers are those with memory, or the first of them with a line that says where it was wanting."""
-    words, whole = ["calls.toml", "calls.toml"], 0
+    words, whole = [driver.write("calls.toml", schema.toml())] * 2, 0
     wanted = driver.run(words, given)
     if wanted.status:
         return f"without a refusal: status {wanted.status}, {wanted.err[:200]!r}"
@@ -342,9 +349,8 @@ def ends_of_output(trials):
     for name, (words, given) in made.items():
         if name.startswith("print") and not name.endswith("2 builders"):
             continue
-        trials.trial(f"standard output full: {name}", lambda: full(program, words, given))
-        trials.trial(f"standard output closed: {name}", lambda: closed(program, words, given))
-        trials.trial(f"a reader that goes away: {name}", lambda: gone(program, words, given))
+        for kind, call in (("standard output full", full), ("standard output closed", closed), ("a reader that goes away", gone)):
+            trials.trial(f"{kind}: {name}", call, program, words, given)
 
 
 def full(program, words, given):
@@ -371,8 +377,8 @@ def cut_feeds(trials):
     program = trials.program
     program.write("schema.toml", SAMPLE.toml())
     data = oracle.encode([SAMPLE.header(), *MIXED])
-    trials.trial("a feed cut at each byte, 1 and 3 builders", lambda: cut_in_turn(program, data))
-    trials.trial("a feed by names cut at each byte, beside a slow program of its own", lambda: cut_names_in_turn(program, named_feed()))
+    trials.trial("a feed cut at each byte, 1 and 3 builders", cut_in_turn, program, data)
+    trials.trial("a feed by names cut at each byte, beside a slow program of its own", cut_names_in_turn, program, named_feed())
 
 
 def cut_names_in_turn(program, data):
@@ -408,7 +414,7 @@ def cut_cubes(trials):
     program.write("feed.csv", oracle.encode([SAMPLE.header(), *MIXED]))
     cube = program.run(["print", "--partial", "schema.toml", "feed.csv"]).out
     program.write("whole.csv", cube)
-    trials.trial("a cube cut at each byte, beside the whole one", lambda: cut_cube_in_turn(program, cube))
+    trials.trial("a cube cut at each byte, beside the whole one", cut_cube_in_turn, program, cube)
 
 
 def cut_cube_in_turn(program, cube):
@@ -430,7 +436,7 @@ def piped_cubes(trials):
     program.write("schema.toml", SAMPLE.toml())
     program.write("feed.csv", oracle.encode([SAMPLE.header(), *MIXED]))
     cube = program.run(["print", "--partial", "schema.toml", "feed.csv"]).out
-    trials.trial("a cube through two pipes", lambda: through_pipes(program, cube))
+    trials.trial("a cube through two pipes", through_pipes, program, cube)
 
 
 def through_pipes(program, cube):
@@ -498,7 +504,7 @@ def big_inputs(trials):
     program = trials.program
     program.write("schema.toml", SAMPLE.toml())
     head = oracle.encode([SAMPLE.header()])
-    trials.trial("a feed that never ends", lambda: endless(program))
+    trials.trial("a feed that never ends", endless, program)
     refused = lambda code: oracle.text_of(SAMPLE, oracle.rows_of(SAMPLE, []))
 
     def prints(data, status):
@@ -506,9 +512,9 @@ def big_inputs(trials):
         answer = program.run(["print", "--builders", "2", "schema.toml", "big.csv"])
         return None if (answer.status, answer.out) == (status, refused(2)) else f"{answer.status}, {answer.err[:200]!r}"
 
-    trials.trial("32 MB of one quoted field never closed", lambda: prints(head + b'I,1,"' + b"w" * 2**25, 4))
-    trials.trial("a million fields in one record", lambda: prints(head + b"I" + b",x" * 10**6 + b"\n", 4))
-    trials.trial("four million blank lines", lambda: prints(head + b"\n" * 2**22, 0))
+    trials.trial("32 MB of one quoted field never closed", prints, head + b'I,1,"' + b"w" * 2**25, 4)
+    trials.trial("a million fields in one record", prints, head + b"I" + b",x" * 10**6 + b"\n", 4)
+    trials.trial("four million blank lines", prints, head + b"\n" * 2**22, 0)
     limit = 1048576
     text = SAMPLE.toml()
 
@@ -610,7 +616,7 @@ def under_valgrind(trials):
     made, _ = commands(program)
     for name in ("no words", "print, 3 feeds, 2 builders", "slice", "refusals"):
         words, given = made[name]
-        trials.trial(f"under valgrind: {name}", lambda: checked(program, checker, words, given))
+        trials.trial(f"under valgrind: {name}", checked, program, checker, words, given)
 
 
 def checked(program, checker, words, given):
@@ -650,26 +656,54 @@ def in_session(program, feed_of):
     return lambda lines: (program.write("colliding.csv", feed_of(lines)), b"slice,\\A,\\A\n")[1]
 
 
+def of_fx(feed_of, letters=None):
+    """What makes a feed of texts that collide in Fx, or of texts by chance."""
+    return lambda lines: feed_of(fx_texts(lines, letters))
+
+
 def hurtful(trials):
     program = trials.program
     for name, feed_of in HURTFUL.items():
-        trials.trial(f"near linear: {name}", lambda: near_linear(program, feed_of))
+        trials.trial(f"near linear: {name}", near_linear, program, feed_of)
     tool = os.path.join(program.folder, "colliding")
     subprocess.run(["cc", "-O2", "-o", tool, os.path.join(HERE, "colliding.c")], check=True)
     made = lambda kind: lambda lines: subprocess.run([tool, kind, str(lines)], stdout=subprocess.PIPE, check=True).stdout
     program.write("schema.toml", SAMPLE.toml())
     session = ["live", "schema.toml"]
     for kind, how in COLLIDING.items():
-        name = f"cells that collide {how}"
-        trials.trial(f"near linear: {name}", lambda: near_linear(program, made(kind)))
-        trials.trial(f"as fast as by chance: {name}", lambda: as_by_chance(program, made(kind), made("none")))
-        trials.trial(f"near linear: {name}, in a session", lambda: near_linear(
-            program, in_session(program, made(kind)), 25000, 4, [*session, "colliding.csv"]))
+        name, feed_of = f"cells that collide {how}", made(kind)
+        trials.trial(f"near linear: {name}", near_linear, program, feed_of)
+        trials.trial(f"as fast as by chance: {name}", as_by_chance, program, feed_of, made("none"))
+        in_a_session = in_session(program, feed_of), 25000, 4, [*session, "colliding.csv"]
+        trials.trial(f"near linear: {name}, in a session", near_linear, program, *in_a_session)
     for name, feed_of in FX_FEEDS.items():
-        trials.trial(f"as fast as by chance: {name} that collide in Fx, whatever its seed", lambda: as_by_chance(
-            program, lambda lines: feed_of(fx_texts(lines)), lambda lines: feed_of(fx_texts(lines, LETTERS)), 2**17))
-    trials.trial("near linear: numbers that collide in a session",
-                 lambda: near_linear(program, made("numbers"), 12500, 4, session))
+        name = f"as fast as by chance: {name} that collide in Fx, whatever its seed"
+        trials.trial(name, as_by_chance, program, of_fx(feed_of), of_fx(feed_of, LETTERS), 2**17)
+    trials.trial("near linear: numbers that collide in a session", near_linear, program, made("numbers"), 12500, 4, session)
+
+
+def all_of(trials):
+    """Adds all trials, or those of the short form."""
+    refusals_in_turn(trials)
+    ends_of_output(trials)
+    cut_feeds(trials)
+    cut_cubes(trials)
+    trials.trial("links planted where the driver for Dask writes", planted_links, trials.program)
+    piped_cubes(trials)
+    if not trials.is_short:
+        growths_in_turn(trials)
+        big_inputs(trials)
+        hurtful(trials)
+        under_valgrind(trials)
+    return trials
+
+
+def trials_in(folder, path, is_short):
+    """The trials of the program at a path, which has its files in a folder; none yet."""
+    resource.setrlimit(resource.RLIMIT_CORE, (0, 0))
+    shim = os.path.join(folder, "refuse.so")
+    subprocess.run(["cc", "-O2", "-shared", "-fPIC", "-o", shim, os.path.join(HERE, "refuse.c"), "-ldl"], check=True)
+    return Trials(Program(os.path.abspath(path), shim, folder), is_short)
 
 
 def main():
@@ -679,31 +713,10 @@ def main():
     asks.add_argument("--library", action="store_true", help="calls of the library alone")
     asks.add_argument("--only", default="", help="only the trials whose name has this word")
     given = asks.parse_args()
-    resource.setrlimit(resource.RLIMIT_CORE, (0, 0))
     with tempfile.TemporaryDirectory(prefix="hostile-") as folder:
-        shim = os.path.join(folder, "refuse.so")
-        subprocess.run(["cc", "-O2", "-shared", "-fPIC", "-o", shim, os.path.join(HERE, "refuse.c"), "-ldl"], check=True)
-        trials = Trials(Program(os.path.abspath(given.program or programs.datacube()), shim, folder), given.only, given.short)
-        if given.library:
-            growths_in_turn(trials)
-            return told(trials)
-        refusals_in_turn(trials)
-        ends_of_output(trials)
-        cut_feeds(trials)
-        cut_cubes(trials)
-        trials.trial("links planted where the driver for Dask writes", lambda: planted_links(trials.program))
-        piped_cubes(trials)
-        if not given.short:
-            growths_in_turn(trials)
-            big_inputs(trials)
-            hurtful(trials)
-            under_valgrind(trials)
-    return told(trials)
-
-
-def told(trials):
-    print(f"{trials.passed} passed, {trials.failed} failed")
-    return 1 if trials.failed else 0
+        trials = trials_in(folder, given.program or programs.datacube(), given.short)
+        growths_in_turn(trials) if given.library else all_of(trials)
+        return trials.run(given.only)
 
 
 if __name__ == "__main__":

@@ -26,12 +26,18 @@ def pytest_addoption(parser):
     parser.addoption("--program", help="the program that is tried")
     parser.addoption("--times", type=float, default=1, help="how many times as many generated cases as in the gate")
     parser.addoption("--tally", action="store_true", help="end with the line `N passed, M failed`")
-    parser.addoption("--long", action="store_true", help="make the long form of the trials of a store")
+    parser.addoption("--long", action="store_true", help="make the long form of hostile use and of the trials of a store")
     parser.addoption("--records", type=int, metavar="N", help="try a session of so many records")
     parser.addoption("--found", metavar="FOLDER", help="where the smallest cases that fail are written")
 
 
+@pytest.hookimpl(tryfirst=True)
 def pytest_configure(config):
+    if not config.option.basetemp and not hasattr(config, "workerinput"):
+        # (the folder in which processes that share tests have theirs, which pytest would leave)
+        folder = tempfile.TemporaryDirectory(prefix="pytest-")
+        config.option.basetemp = f"{folder.name}/shared"
+        config.add_cleanup(folder.cleanup)
     config.addinivalue_line("markers", "generated: tries generated cases beside a slow program of its own")
     rooms.TIMES = config.getoption("--times")
     if config.getoption("--tally") and not hasattr(config, "workerinput"):
