@@ -4,7 +4,8 @@
     scripts/cases.py [-v] [--folder FOLDER] [--program PATH] [--first] [NAME...]
 
 All cases of the folder are run, or those whose name has one of the words, on the program that stands at PATH, else on
-the one that `./datacube` would run; `--first` ends at the first case that fails.
+the one that `./datacube` would run; `--first` ends at the first case that fails. `tests/test_cases.py` has each as a
+test of pytest.
 
 Each case runs in a folder of its own, which has copies of the files in cases/files, beside one of examples/, which
 is ../examples. A case is a block of lines:
