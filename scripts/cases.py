@@ -4,7 +4,8 @@
     scripts/cases.py [-v] [--folder FOLDER] [--program PATH] [--first] [NAME...]
 
 All cases of the folder are run, or those whose name has one of the words, on the program that stands at PATH, else on
-the one that `./datacube` would run; `--first` ends at the first case that fails.
+the one that `./datacube` would run; `--first` ends at the first case that fails. `tests/test_cases.py` has each as a
+test of pytest.
 
 Each case runs in a folder of its own, which has copies of the files in cases/files, beside one of examples/, which
 is ../examples. A case is a block of lines:
@@ -17,8 +18,8 @@ is ../examples. A case is a block of lines:
                          when it is divided by 7; a NAME with {1..3} in it is three files, in which ## is the file's
                          number
     coded NAME           a file as `file`, in which \\xFF is a byte
-    before WORDS         a run of its own before the one that is tried, on the lines below it as standard input; it has to end
-                         with status 0 or 4
+    before WORDS         a run of its own before the one that is tried, on the lines below it, in which \\xFF is a byte, as
+                         standard input; it has to end with status 0 or 4
     folder NAME          a folder
     locked NAME          takes all rights from a file
     link NAME FILE       a symbolic link to a file
@@ -28,7 +29,8 @@ is ../examples. A case is a block of lines:
                          `stdin closed` closes it
     stdout WAY           where the output goes: `closed`, `full` (a full disk), `gone` (a pipe that nobody reads), or a number:
                          a file that has room for so many bytes
-    out                  the output, as the lines below it; `out FILE` as that file, `out has TEXT` with this text in it
+    out                  the output, as the lines below it; `out coded` as lines in which \\xFF is a byte, `out FILE` as that
+                         file, `out has TEXT` with this text in it
     err TEXT             the line on standard error, and `err` alone the lines below it; `err has TEXT` with this text in it
     variable NAME=VALUE  a variable of the environment
     status N             the status
@@ -38,6 +40,7 @@ is ../examples. A case is a block of lines:
 No line `out` or `err` means that nothing is written there, and no `status` means 0.
 """
 import argparse
+import contextlib
 import os
 import re
 import resource
@@ -62,8 +65,8 @@ RANGE = re.compile(r"\{(\d+)\.\.(\d+)\}")
 class Case:
     """A case: what there is before the run, and what is wanted of it."""
 
-    def __init__(self, name):
-        self.name = name
+    def __init__(self, name, place=""):
+        self.name, self.place = name, place
         self.words = []
         self.before = []
         self.made = []
@@ -110,7 +113,7 @@ def with_values(block, values):
 
 def read_case(block, path):
     """Reads the lines of a case."""
-    case, lines = Case(block[0][1][5:]), None
+    case, lines = Case(block[0][1][5:], f"{os.path.relpath(path, ROOT)}:{block[0][0]}"), None
     for number, line in block[1:]:
         place = f"{path}:{number}"
         if line.startswith("|"):
@@ -162,8 +165,8 @@ def read_line(case, word, rest, place):
         case.out = []
     elif word == "status":
         case.status = int(rest)
-    elif word == "out" and not rest:
-        case.out = [("lines", lines)]
+    elif word == "out" and rest in ("", "coded"):
+        case.out = [(rest or "lines", lines)]
     elif word == "out" and not rest.startswith("has "):
         case.out = [("file", rest)]
     elif word in ("out", "err") and rest.startswith("has "):
@@ -228,6 +231,8 @@ def wanted_of(what):
     kind, value = what
     if kind == "lines":
         return "is", "".join(value).encode()
+    if kind == "coded":
+        return "is", bytes_of("".join(value))
     if kind == "file":
         return "is", read_whole(f"{ROOT}/{value}")
     return kind, value
@@ -252,7 +257,7 @@ def run(case, room):
         give_away(room)
         program = NOBODY + program
     for earlier, lines in case.before:
-        ran = subprocess.run(program + earlier, cwd=room, input="".join(lines).encode(), capture_output=True, timeout=SECONDS)
+        ran = subprocess.run(program + earlier, cwd=room, input=bytes_of("".join(lines)), capture_output=True, timeout=SECONDS)
         if ran.returncode not in (0, 4):
             return f"a run before it ends with status {ran.returncode}: {ran.stderr!r}"
     words = program + case.words
@@ -314,8 +319,9 @@ def all_cases(folder):
     return [it for name in files for it in read_cases(f"{ROOT}/{folder}/{name}")]
 
 
-def tried(cases, program, first):
-    """Runs the cases on a program, and gives each with what is wrong of it; no more once one failed, where first is so."""
+@contextlib.contextmanager
+def room_of(program):
+    """A folder in which cases are tried on a copy of a program, each in a folder of its own."""
     with tempfile.TemporaryDirectory(prefix="datacube-cases-") as room:
         os.chmod(room, 0o755)
         shutil.copy(program, f"{room}/datacube")
@@ -324,13 +330,18 @@ def tried(cases, program, first):
             for name in ("views.py", "guess.py", "oracle.py"):
                 shutil.copy(f"{ROOT}/scripts/{name}", room)
         shutil.copytree(f"{ROOT}/examples", f"{room}/examples")
-        with ThreadPoolExecutor(os.cpu_count()) as pool:
-            for start in range(0, len(cases), 16):
-                some = cases[start : start + 16]
-                faults = list(pool.map(lambda at: try_case(some[at], room, start + at), range(len(some))))
-                yield from zip(some, faults)
-                if first and any(faults):
-                    return
+        yield room
+
+
+def tried(cases, program, first):
+    """Runs the cases on a program, and gives each with what is wrong of it; no more once one failed, where first is so."""
+    with room_of(program) as room, ThreadPoolExecutor(os.cpu_count()) as pool:
+        for start in range(0, len(cases), 16):
+            some = cases[start : start + 16]
+            faults = list(pool.map(lambda at: try_case(some[at], room, start + at), range(len(some))))
+            yield from zip(some, faults)
+            if first and any(faults):
+                return
 
 
 def main(cases_of, program):

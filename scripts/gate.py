@@ -168,22 +168,25 @@ class Sampler(threading.Thread):
 
 def quick_parts(program):
     """The parts that take seconds, and need no kit."""
+    shares = len(os.sched_getaffinity(0))
     parts = [
-        ("cases", ["scripts/cases.py", "--program", program]),
+        ("cases", programs.pytest(program, "tests/test_cases.py", shares=shares) or ["scripts/cases.py", "--program", program]),
         ("documents", ["scripts/documents.py", "--check", "--program", program]),
         ("what documents show, run", ["scripts/pages.py", "--program", program]),
         ("a wrong program", ["scripts/spoil.py", "--program", program]),
-        ("merges beside a slow program", ["scripts/merges.py", "--cases", "40", "--program", program]),
-        ("schemas of files beside a slow program", ["scripts/guesses.py", "--cases", "60", "--program", program]),
-        ("forms of a cube beside a slow program", ["scripts/views.py", "--count", "60", "--program", program]),
-        ("sessions beside a slow program", ["scripts/sessions.py", "--cases", "10", "--program", program]),
         ("starting, installing and packing it", ["scripts/installing.py", "--program", program]),
-        ("the progress line in a terminal", ["scripts/progress.py", "--program", program]),
         ("the Python package", ["scripts/python_tests.py", "--program", program]),
         ("a session over a store, the short form", ["scripts/store_trials.py", "--short", "--program", program]),
     ]
+    rest = ["tests", *(f"--ignore=tests/test_{it}.py" for it in ("cases", "progress", "hostile", "store_trials", "sql", "library"))]
+    if programs.pytest(program):
+        parts.append(("the progress line in a terminal", programs.pytest(program, "tests/test_progress.py", shares=8)))
+        parts.append(("generated cases beside a slow program", programs.pytest(program, *rest, shares=shares)))
+    else:
+        print("left out, since python3-pytest isn't installed: generated cases, and the progress line in a terminal")
     if shutil.which("cc"):
-        parts.append(("hostile use, the short form", ["scripts/hostile.sh", "--short", "--program", program]))
+        hostile = programs.pytest(program, "tests/test_hostile.py", shares=shares) or ["scripts/hostile.sh", "--short", "--program", program]
+        parts.append(("hostile use, the short form", hostile))
     else:
         print("left out, since there is no C compiler: hostile use")
     return parts
@@ -191,8 +194,10 @@ def quick_parts(program):
 
 def long_parts(program):
     """The parts that need no kit, but a database and a browser."""
+    generated = programs.pytest(program, "tests/test_sql.py")
     return [
         ("the same question in SQL", ["scripts/sql.py", "--program", program]),
+        *([("the same question in SQL, generated cases", generated)] if generated else []),
         ("the page in a browser", ["scripts/explorer.sh"]),
     ]
 

@@ -1,6 +1,6 @@
 """Hostile use of the built program: memory, reads, writes and threads refused in turn, and feeds that lie.
 
-    scripts/hostile.sh [--program FILE] [--short | --library] [--only WORD] [--cases N] [--seed N]
+    scripts/hostile.sh [--program FILE] [--short | --library] [--only WORD]
 
 The program is the one given, else the one that `./datacube` would run. The short form takes 45 seconds or so. With
 --library only calls of the library are tried, by the driver in crates/cube_calls, which rt ci or rt run builds.
@@ -23,17 +23,15 @@ sys.dont_write_bytecode = True
 import generated_calls
 import oracle
 import programs
+# (for the tests of the Python package)
+from generated import TEXTS, by_names, random_case, random_condition, random_schema, written
 
 HERE = os.path.dirname(os.path.abspath(__file__))
-# (its sub-command `run` is run_plain over a schema and feeds, where rt ci or rt run built it)
-BENCH = os.path.join(HERE, "..", "crates", "bench", "out", "bench")
 # (it makes a call that adds something once more where memory ran out)
 DRIVER = os.path.join(HERE, "..", "crates", "cube_calls", "out", "cube_calls")
 # (the folder of the driver for Dask)
 DASK = os.path.join(HERE, "..", "cluster")
-SAMPLE = oracle.Schema(
-    ["region", "kind"], ["amount"], [("count", None), ("sum", 0), ("min", 0), ("max", 0), ("avg", 0)]
-)
+SAMPLE = oracle.SAMPLE
 NAMED = oracle.Schema(SAMPLE.dimensions, SAMPLE.measures, SAMPLE.aggregates, decimals={"amount": 2}, feed=oracle.Feed(
     "no", "what", ["", "NA"], ";", ",", columns={"region": ("place", 20), "amount": "Amount"}))
 ONE = [b"I", b"1", b"west", b"a", b"5"]
@@ -152,24 +150,36 @@ def why_wrong(answer, whole, codes, ends_of=no_ends):
 
 
 class Trials:
-    def __init__(self, program, only, is_short):
-        self.program, self.only, self.is_short, self.passed, self.failed = program, only, is_short, 0, 0
+    """Trials of a program, by their names: each a call with its arguments, which gives why it fails, a number that it tells, or None."""
 
-    def trial(self, name, call):
+    def __init__(self, program, is_short):
+        self.program, self.is_short, self.calls = program, is_short, {}
+
+    def trial(self, name, call, *arguments):
+        """Adds a trial; the short form has some of those that are made of each command."""
         kind, _, what = name.partition(": ")
-        if self.only not in name or self.is_short and what and kind != "threads refused in turn" and what not in SHORT:
-            return
-        try:
-            why = call()
-        except Exception as error:
-            why = f"the trial itself failed: {error!r}"
-        counted = isinstance(why, int)
-        if why is None or counted:
-            self.passed += 1
-            print(f"ok      {name}{f' ({why})' if counted else ''}", flush=True)
-        else:
-            self.failed += 1
-            print(f"FAILED  {name}: {why}", flush=True)
+        if not self.is_short or not what or kind == "threads refused in turn" or what in SHORT:
+            self.calls[name] = call, arguments
+
+    def tried(self, name):
+        """Makes a trial."""
+        call, arguments = self.calls[name]
+        return call(*arguments)
+
+    def run(self, only):
+        """Makes those whose name has a word, and says of each what came of it; the status of the script."""
+        passed = failed = 0
+        for name in (it for it in self.calls if only in it):
+            try:
+                why = self.tried(name)
+            except Exception as error:
+                why = f"the trial itself failed: {error!r}"
+            is_right = why is None or isinstance(why, int)
+            passed, failed = passed + is_right, failed + (not is_right)
+            told = f": {why}" if not is_right else f" ({why})" if why is not None else ""
+            print(f"{'ok     ' if is_right else 'FAILED '} {name}{told}", flush=True)
+        print(f"{passed} passed, {failed} failed")
+        return 1 if failed else 0
 
     def in_turn(self, kind, words, codes, given=b"", ends_of=no_ends, short=None, limit=20000):
         """Refuses each call of a kind in turn until a run meets no refusal; how many there were, or why it fails."""
@@ -246,28 +256,24 @@ def refusals_in_turn(trials):
     made, files = commands(program)
     for name, (words, given) in made.items():
         ends_of = ends_of_command(name)
-        trials.trial(f"memory refused in turn: {name}", lambda: trials.in_turn("alloc", words, MEMORY, given, ends_of))
-        trials.trial(f"reads failing in turn: {name}", lambda: trials.in_turn("read", words, READS, given, ends_of))
-        trials.trial(f"reads of a byte failing in turn: {name}",
-                     lambda: trials.in_turn("read", words, READS, given, ends_of, "read 1"))
-        trials.trial(f"writes failing in turn: {name}", lambda: trials.in_turn("write", words, [r"G6 \d+"], given))
-        trials.trial(f"writes that take nothing: {name}", lambda: trials.in_turn("none", words, [r"G6 \d+"], given))
-        trials.trial(f"threads refused in turn: {name}", lambda: trials.in_turn("thread", words, [r"G2"], given))
-        trials.trial(f"random bytes refused: {name}", lambda: trials.in_turn("chance", words, [r"no random key"], given))
-        trials.trial(f"one byte a read: {name}", lambda: short(program, words, given, "read 1"))
-        trials.trial(f"one byte a write: {name}", lambda: short(program, words, given, "write 1"))
+        trials.trial(f"memory refused in turn: {name}", trials.in_turn, "alloc", words, MEMORY, given, ends_of)
+        trials.trial(f"reads failing in turn: {name}", trials.in_turn, "read", words, READS, given, ends_of)
+        trials.trial(f"reads of a byte failing in turn: {name}", trials.in_turn, "read", words, READS, given, ends_of, "read 1")
+        trials.trial(f"writes failing in turn: {name}", trials.in_turn, "write", words, [r"G6 \d+"], given)
+        trials.trial(f"writes that take nothing: {name}", trials.in_turn, "none", words, [r"G6 \d+"], given)
+        trials.trial(f"threads refused in turn: {name}", trials.in_turn, "thread", words, [r"G2"], given)
+        trials.trial(f"random bytes refused: {name}", trials.in_turn, "chance", words, [r"no random key"], given)
+        trials.trial(f"one byte a read: {name}", short, program, words, given, "read 1")
+        trials.trial(f"one byte a write: {name}", short, program, words, given, "write 1")
     one = ["print", "schema.toml", program.write("one.csv", oracle.encode([SAMPLE.header(), ONE]))]
-    trials.trial("writes of a byte failing in turn: print, one fact",
-                 lambda: trials.in_turn("write", one, [r"G6 \d+"], short="write 1"))
-    trials.trial("writes of a byte that take nothing: print, one fact",
-                 lambda: trials.in_turn("none", one, [r"G6 \d+"], short="write 1"))
+    for kind, name in (("write", "writes of a byte failing in turn"), ("none", "writes of a byte that take nothing")):
+        trials.trial(f"{name}: print, one fact", trials.in_turn, kind, one, [r"G6 \d+"], b"", no_ends, "write 1")
     many = ["print", "--ring", "1", "--builders", "8", "schema.toml", *files]
-    trials.trial("threads refused in turn: print, 64 feeds, 8 builders", lambda: trials.in_turn("thread", many, [r"G2"]))
+    trials.trial("threads refused in turn: print, 64 feeds, 8 builders", trials.in_turn, "thread", many, [r"G2"])
     few = [one[-1]] * 64
     for builders in ("1", "2", "8"):
         words = ["print", "--ring", "1", "--builders", builders, "schema.toml", *few]
-        trials.trial(f"memory refused in turn: print, 64 feeds, {builders} builders",
-                     lambda: trials.in_turn("alloc", words, MEMORY))
+        trials.trial(f"memory refused in turn: print, 64 feeds, {builders} builders", trials.in_turn, "alloc", words, MEMORY)
 
 
 FOUR_MEASURES = oracle.Schema(["a"], ["m", "n", "o", "p"], [("count", None)])
@@ -310,13 +316,12 @@ def growths_in_turn(trials):
         return
     driver = Program(os.path.abspath(DRIVER), trials.program.shim, trials.program.folder)
     for name, (schema, *calls) in growths().items():
-        driver.write("calls.toml", schema.toml())
-        trials.trial(f"memory refused in turn: calls of {name}", lambda: calls_in_turn(driver, "\n".join(calls).encode()))
+        trials.trial(f"memory refused in turn: calls of {name}", calls_in_turn, driver, schema, "\n".join(calls).encode())
 
 
-def calls_in_turn(driver, given, limit=20000):
+def calls_in_turn(driver, schema, given, limit=20000):
     """The answers are those with memory, or the first of them with a line that says where it was wanting."""
-    words, whole = ["calls.toml", "calls.toml"], 0
+    words, whole = [driver.write("calls.toml", schema.toml())] * 2, 0
     wanted = driver.run(words, given)
     if wanted.status:
         return f"without a refusal: status {wanted.status}, {wanted.err[:200]!r}"
@@ -344,9 +349,8 @@ def ends_of_output(trials):
     for name, (words, given) in made.items():
         if name.startswith("print") and not name.endswith("2 builders"):
             continue
-        trials.trial(f"standard output full: {name}", lambda: full(program, words, given))
-        trials.trial(f"standard output closed: {name}", lambda: closed(program, words, given))
-        trials.trial(f"a reader that goes away: {name}", lambda: gone(program, words, given))
+        for kind, call in (("standard output full", full), ("standard output closed", closed), ("a reader that goes away", gone)):
+            trials.trial(f"{kind}: {name}", call, program, words, given)
 
 
 def full(program, words, given):
@@ -373,8 +377,8 @@ def cut_feeds(trials):
     program = trials.program
     program.write("schema.toml", SAMPLE.toml())
     data = oracle.encode([SAMPLE.header(), *MIXED])
-    trials.trial("a feed cut at each byte, 1 and 3 builders", lambda: cut_in_turn(program, data))
-    trials.trial("a feed by names cut at each byte, beside a slow program of its own", lambda: cut_names_in_turn(program, named_feed()))
+    trials.trial("a feed cut at each byte, 1 and 3 builders", cut_in_turn, program, data)
+    trials.trial("a feed by names cut at each byte, beside a slow program of its own", cut_names_in_turn, program, named_feed())
 
 
 def cut_names_in_turn(program, data):
@@ -410,7 +414,7 @@ def cut_cubes(trials):
     program.write("feed.csv", oracle.encode([SAMPLE.header(), *MIXED]))
     cube = program.run(["print", "--partial", "schema.toml", "feed.csv"]).out
     program.write("whole.csv", cube)
-    trials.trial("a cube cut at each byte, beside the whole one", lambda: cut_cube_in_turn(program, cube))
+    trials.trial("a cube cut at each byte, beside the whole one", cut_cube_in_turn, program, cube)
 
 
 def cut_cube_in_turn(program, cube):
@@ -432,7 +436,7 @@ def piped_cubes(trials):
     program.write("schema.toml", SAMPLE.toml())
     program.write("feed.csv", oracle.encode([SAMPLE.header(), *MIXED]))
     cube = program.run(["print", "--partial", "schema.toml", "feed.csv"]).out
-    trials.trial("a cube through two pipes", lambda: through_pipes(program, cube))
+    trials.trial("a cube through two pipes", through_pipes, program, cube)
 
 
 def through_pipes(program, cube):
@@ -500,7 +504,7 @@ def big_inputs(trials):
     program = trials.program
     program.write("schema.toml", SAMPLE.toml())
     head = oracle.encode([SAMPLE.header()])
-    trials.trial("a feed that never ends", lambda: endless(program))
+    trials.trial("a feed that never ends", endless, program)
     refused = lambda code: oracle.text_of(SAMPLE, oracle.rows_of(SAMPLE, []))
 
     def prints(data, status):
@@ -508,9 +512,9 @@ def big_inputs(trials):
         answer = program.run(["print", "--builders", "2", "schema.toml", "big.csv"])
         return None if (answer.status, answer.out) == (status, refused(2)) else f"{answer.status}, {answer.err[:200]!r}"
 
-    trials.trial("32 MB of one quoted field never closed", lambda: prints(head + b'I,1,"' + b"w" * 2**25, 4))
-    trials.trial("a million fields in one record", lambda: prints(head + b"I" + b",x" * 10**6 + b"\n", 4))
-    trials.trial("four million blank lines", lambda: prints(head + b"\n" * 2**22, 0))
+    trials.trial("32 MB of one quoted field never closed", prints, head + b'I,1,"' + b"w" * 2**25, 4)
+    trials.trial("a million fields in one record", prints, head + b"I" + b",x" * 10**6 + b"\n", 4)
+    trials.trial("four million blank lines", prints, head + b"\n" * 2**22, 0)
     limit = 1048576
     text = SAMPLE.toml()
 
@@ -612,7 +616,7 @@ def under_valgrind(trials):
     made, _ = commands(program)
     for name in ("no words", "print, 3 feeds, 2 builders", "slice", "refusals"):
         words, given = made[name]
-        trials.trial(f"under valgrind: {name}", lambda: checked(program, checker, words, given))
+        trials.trial(f"under valgrind: {name}", checked, program, checker, words, given)
 
 
 def checked(program, checker, words, given):
@@ -652,305 +656,54 @@ def in_session(program, feed_of):
     return lambda lines: (program.write("colliding.csv", feed_of(lines)), b"slice,\\A,\\A\n")[1]
 
 
+def of_fx(feed_of, letters=None):
+    """What makes a feed of texts that collide in Fx, or of texts by chance."""
+    return lambda lines: feed_of(fx_texts(lines, letters))
+
+
 def hurtful(trials):
     program = trials.program
     for name, feed_of in HURTFUL.items():
-        trials.trial(f"near linear: {name}", lambda: near_linear(program, feed_of))
+        trials.trial(f"near linear: {name}", near_linear, program, feed_of)
     tool = os.path.join(program.folder, "colliding")
     subprocess.run(["cc", "-O2", "-o", tool, os.path.join(HERE, "colliding.c")], check=True)
     made = lambda kind: lambda lines: subprocess.run([tool, kind, str(lines)], stdout=subprocess.PIPE, check=True).stdout
     program.write("schema.toml", SAMPLE.toml())
     session = ["live", "schema.toml"]
     for kind, how in COLLIDING.items():
-        name = f"cells that collide {how}"
-        trials.trial(f"near linear: {name}", lambda: near_linear(program, made(kind)))
-        trials.trial(f"as fast as by chance: {name}", lambda: as_by_chance(program, made(kind), made("none")))
-        trials.trial(f"near linear: {name}, in a session", lambda: near_linear(
-            program, in_session(program, made(kind)), 25000, 4, [*session, "colliding.csv"]))
+        name, feed_of = f"cells that collide {how}", made(kind)
+        trials.trial(f"near linear: {name}", near_linear, program, feed_of)
+        trials.trial(f"as fast as by chance: {name}", as_by_chance, program, feed_of, made("none"))
+        in_a_session = in_session(program, feed_of), 25000, 4, [*session, "colliding.csv"]
+        trials.trial(f"near linear: {name}, in a session", near_linear, program, *in_a_session)
     for name, feed_of in FX_FEEDS.items():
-        trials.trial(f"as fast as by chance: {name} that collide in Fx, whatever its seed", lambda: as_by_chance(
-            program, lambda lines: feed_of(fx_texts(lines)), lambda lines: feed_of(fx_texts(lines, LETTERS)), 2**17))
-    trials.trial("near linear: numbers that collide in a session",
-                 lambda: near_linear(program, made("numbers"), 12500, 4, session))
+        name = f"as fast as by chance: {name} that collide in Fx, whatever its seed"
+        trials.trial(name, as_by_chance, program, of_fx(feed_of), of_fx(feed_of, LETTERS), 2**17)
+    trials.trial("near linear: numbers that collide in a session", near_linear, program, made("numbers"), 12500, 4, session)
 
 
-NAMES = ["region", "kind", "a,b", 'say "so"', "two\nlines", "café", "count(*)", "m)", "\\N", "x" * 40, "Op", "?", "kind=", "kind<", "m)!", "=", ">="]
-TEXTS = [b"", b"a", b"b", b"west", b"\\N", b"\\A", b"?", b"a,b", b'"', b"two\r\nlines", "grüße".encode(), b"x" * 30,
-         b"y" * 3000, b"\\=", b"=a", b" a "]
-NUMBERS = [b"0", b"1", b"-1", b"+5", b"007", b"-0", b"9223372036854775807", b"-9223372036854775808", b"\\N", b"12", b"-12"]
-WRONG_NUMBERS = [b"", b"9223372036854775808", b"1.5", b"x", b"+", b"--1", b" 1", b"\\=", b".5", b"5.", b"1e3", b"1,000", b"-.1",
-                 b"1..5", b"1.5.0", b"+.", b".", b"1.5x", b"1. 5", b"1.-5", b"1.000000000000000000001", b"-9223372036854775809"]
-PLACES = [0, 0, 1, 2, 2, 2, 3, 6, 17, 18]
-COLUMNS = ["", "op", "id", "no", "when", "a;b", 'x "y"', "two\nlines", "Größe", "\\N"]
-NULLS = [["\\N"], ["\\N"], [], [""], ["", "NA"], ["a", "12"], ["\\N", "b", "grüße"], ["\\=", "0"]]
-DELIMITERS = [",", ",", ";", "\t", "|", " ", "=", "\\", "a", "0", "."]
+def all_of(trials):
+    """Adds all trials, or those of the short form."""
+    refusals_in_turn(trials)
+    ends_of_output(trials)
+    cut_feeds(trials)
+    cut_cubes(trials)
+    trials.trial("links planted where the driver for Dask writes", planted_links, trials.program)
+    piped_cubes(trials)
+    if not trials.is_short:
+        growths_in_turn(trials)
+        big_inputs(trials)
+        hurtful(trials)
+        under_valgrind(trials)
+    return trials
 
 
-def random_feed(rng, dimensions, measures):
-    """A table `feed` for a schema with these names."""
-    columns = {}
-    for name in dimensions + measures:
-        if rng.random() < 0.4:
-            columns[name] = rng.choice(COLUMNS + dimensions + measures)
-        if name in dimensions and rng.random() < 0.3:
-            columns[name] = columns.get(name, name), rng.choice([1, 1, 2, 3, 7, 255])
-    id = rng.choice([None, None, *COLUMNS, dimensions[0]])
-    op = rng.choice([None, *COLUMNS]) if id is not None else None
-    delimiter = rng.choice(DELIMITERS)
-    return oracle.Feed(id, op, rng.choice(NULLS), delimiter, rng.choice([it for it in ".," if it != delimiter]), columns)
-
-
-def random_schema(rng, by_names=False):
-    """A schema; where feeds may be read by the names of their columns, one in three says so."""
-    schema = positional_schema(rng)
-    if rng.random() < 0.4:
-        schema.decimals = {name: rng.choice(PLACES) for name in schema.measures if rng.random() < 0.8}
-    if by_names and rng.random() < 0.33:
-        schema.feed = random_feed(rng, schema.dimensions, schema.measures)
-        if rng.random() < 0.1:
-            schema.measures, schema.aggregates, schema.feed.columns, schema.decimals = [], [("count", None)], {}, {}
-    return schema
-
-
-def positional_schema(rng):
-    names = rng.sample(NAMES, rng.choice([1, 2, 2, 3, 3, 4, 5, 8]) + rng.choice([1, 1, 2, 3, 4]))
-    measures = [names.pop() for _ in range(min(len(names) - 1, rng.choice([1, 1, 2, 4])))]
-    aggregates = [("count", None)] + [
-        (rng.choice(["count", "sum", "min", "max", "avg"]), rng.randrange(len(measures))) for _ in range(rng.choice([0, 1, 4, 15]))]
-    rng.shuffle(aggregates)
-    dimensions = names[:8]
-    grouping = rng.choice(["cube", "cube", "rollup", "sets"])
-    if grouping == "sets":
-        masks = rng.sample(range(2 ** len(dimensions)), rng.randint(1, min(5, 2 ** len(dimensions))))
-        grouping = [rng.sample(it, len(it)) for it in ([d for at, d in enumerate(dimensions) if mask >> at & 1] for mask in masks)]
-    return oracle.Schema(dimensions, measures, aggregates, grouping, rng.choice([1, 2]), rng.choice([2**32 - 1] * 8 + [5]))
-
-
-def number_of(rng, places):
-    """A number of a measure with so many decimals, of one that has none said where that is None."""
-    if places is None or rng.random() < 0.2:
-        return rng.choice(NUMBERS)
-    units = rng.choice([oracle.GREATEST, oracle.LEAST, *range(-3, 4), rng.randint(-(10**4), 10**4), rng.randint(-(10**19), 10**19)])
-    units += rng.choice([0] * 20 + [1, -1])
-    sign, text = rng.choice(["", "", "+"]) if units >= 0 else "-", oracle.decimal(abs(units), places)
-    if units == 0:
-        sign = rng.choice(["", "-", "+"])
-    if rng.random() < 0.3 and places:
-        text = text.rstrip("0").rstrip(".")
-    text += ("." if "." not in text else "") + "0" * rng.choice([1, 2, 20]) if rng.random() < 0.3 else ""
-    text += rng.choice(["1", "5", "."]) if rng.random() < 0.02 else ""
-    return (sign + rng.choice(["", "", "", "0", "000"]) + text).encode()
-
-
-def random_record(rng, schema, texts, ids):
-    keeps = [b"\\="] if rng.random() < 0.3 else []
-    dims = [rng.choice(texts + keeps * 3) for _ in schema.dimensions]
-    measures = [rng.choice(keeps * 3 + [number_of(rng, schema.decimals.get(it))] * 11) for it in schema.measures]
-    kind = rng.random()
-    operations, by_id = [b"I", b"I", b"I", b"U", b"U"], [b"D"]
-    if schema.feed:
-        operations, by_id = operations + [b"P", b"P", b"P"], [b"D", b"R"]
-    record = [rng.choice(operations), b"%d" % rng.randrange(ids), *dims, *measures]
-    if kind < 0.15:
-        return [rng.choice(by_id), record[1]]
-    if kind < 0.18:
-        return [rng.choice(by_id), *record[1:]]
-    if kind < 0.22:
-        record[rng.randrange(len(record))] = rng.choice([b"", b"\xff", b"X", b"P", b"R", *WRONG_NUMBERS])
-    elif kind < 0.24:
-        record.append(b"more")
-    elif kind < 0.25:
-        return [b""]
-    return record
-
-
-def by_names(rng, schema, records, is_right):
-    """The records of a feed by names that says about what records in the order of the schema do: its columns in any order, with
-    others between them; a header that isn't right lacks one that is needed, or has it twice."""
-    names = schema.feed.names(schema)
-    needed = [it.encode() for it in dict.fromkeys(names) if it is not None]
-    extra = [it for it in [b"x", b"x", b"", b"\xff", b"more, of it", b"Region"] if it not in needed]
-    header = needed + rng.sample(extra, rng.choice([0, 0, 1, 2, len(extra)]))
-    rng.shuffle(header)
-    nulls, rows, first, point = schema.nulls(), [], 2 + len(schema.dimensions), schema.feed.point.encode()
-    for record in records:
-        null = lambda it: rng.choice(nulls) if it == b"\\N" and nulls and rng.random() < 0.7 else it
-        if rng.random() < 0.95:
-            record = record[:first] + [it.replace(b".", point) for it in record[first:]]
-        fields = {name.encode(): null(it) for name, it in [*zip(names, record)][::-1] if name is not None}
-        row = [fields.get(it, rng.choice([b"", b"x", b"\xff", b"I"])) for it in header]
-        row += [b"more"] if rng.random() < 0.02 else []
-        rows.append(row[:-1] if len(row) > 1 and rng.random() < 0.02 else row)
-    if not is_right:
-        at = header.index(rng.choice(needed))
-        header[at : at + 1] = rng.choice([[b"not it"], [header[at], header[at]]])
-    return [header, *rows]
-
-
-def written(rng, schema, records, is_right=True):
-    """The bytes of a feed with these records in the order of the schema, with a right header or none, and its data records."""
-    if not schema.feed:
-        head = schema.header() if is_right else schema.header()[::-1]
-        return oracle.encode([head]) + oracle.encode(records, rng), records
-    data = oracle.encode(by_names(rng, schema, records, is_right), rng, schema.delimiter())
-    return data, oracle.data_records(schema, data)[0]
-
-
-def random_case(rng, by_names=False):
-    """A schema, and the records of its feeds in its order."""
-    schema = random_schema(rng, by_names)
-    texts = rng.sample(TEXTS, rng.randint(2, len(TEXTS)))
-    sources = rng.choice([1, 1, 2, 3, 5, 64])
-    most = rng.choice([3, 20, 20, 60, 400] * 12 + [3000]) if sources < 10 else 5
-    feeds = [[random_record(rng, schema, texts, rng.choice([2, 10, 100])) for _ in range(rng.randint(0, most))] for _ in range(sources)]
-    return schema, feeds
-
-
-SIGNS = [b"=", b"=", b"!=", b"!=", b"<", b"<=", b">", b">="]
-
-
-def random_condition(rng, schema):
-    """A word that says a condition, now and then none."""
-    name = rng.choice(schema.dimensions + schema.measures)
-    sign, values = rng.choice(SIGNS), []
-    for _ in range(rng.choice([1, 1, 2, 3]) if sign in (b"=", b"!=") else 1):
-        text = rng.choice(TEXTS + [b"N", b"1"]) if name in schema.dimensions else number_of(rng, schema.decimals.get(name))
-        values.append(b"\\N" if rng.random() < (0.2 if sign in (b"=", b"!=") else 0.02) else text)
-    kind = rng.random()
-    if kind < 0.03:
-        values = rng.choice([[b"a", b"b"], [rng.choice(WRONG_NUMBERS)]])
-    value = oracle.encode([values], rng if rng.random() < 0.1 else None).removesuffix(b"\n")
-    if kind > 0.98:
-        return rng.choice([name.encode(), name.encode() + sign, sign + value, b"", name.encode() + b"!" + value, name.encode() + sign + b"a\nb"])
-    return name.encode() + sign + value
-
-
-def random_conditions(rng, schema):
-    """The options of a command for some conditions, and what they say, or the code P8."""
-    words = [random_condition(rng, schema) for _ in range(rng.choice([0, 0, 0, 1, 1, 2, 3]))]
-    options = [part for word in words for part in rng.choice([[b"--where", word], [b"--where=" + word]])]
-    conditions = [oracle.condition_of(schema, it) for it in words]
-    return options, "P8" if "P8" in conditions else conditions
-
-
-def expected(schema, feeds, headers):
-    """The code of the fault of the lowest source, where one is at fault."""
-    for source, (records, is_right) in enumerate(zip(feeds, headers), 1):
-        if not is_right:
-            return f"G3 {source} F3"
-        if len(records) > schema.max_records:
-            return f"G3 {source} F4"
-    return None
-
-
-def compare(program, rng):
-    schema, feeds = random_case(rng, True)
-    program.write("case.toml", schema.toml())
-    headers = [rng.random() > 0.01 for _ in feeds]
-    fault = expected(schema, feeds, headers)
-    files = []
-    for at, (records, is_right) in enumerate(zip(feeds, headers)):
-        mark = b"\xef\xbb\xbf" if is_right and rng.random() < 0.05 else b""
-        data, feeds[at] = written(rng, schema, records, is_right)
-        files.append(program.write(f"case{at}.csv", mark + data))
-    options = ["--ring", str(rng.choice([1, 2, 64, 65536])), "--builders", str(rng.choice([1, 1, 2, 3, 8])),
-               *rng.choice([[], ["--threads", str(rng.choice([1, 2, 3, 4, 16]))]])]
-    whole = oracle.Run(schema, feeds) if not fault else None
-    asked, conditions = random_conditions(rng, schema)
-    strict = rng.choice([[], [], [], ["--strict"]])
-    code = "P8" if conditions == "P8" else fault
-    if strict and whole and whole.refused:
-        code = code or "G7 %d %d %d" % whole.refused[0]
-    run = oracle.Run(schema, feeds, conditions=conditions) if not code else None
-    pattern = [rng.choice(["any", "any", None, oracle.ALL, rng.choice(TEXTS[:4])]) for _ in schema.dimensions]
-    key = [rng.choice([oracle.ALL, oracle.ALL, None, rng.choice(TEXTS[:4])]) for _ in schema.dimensions]
-    place = rng.randrange(len(schema.dimensions))
-    name = schema.dimensions[place].encode()
-    some = [*options, *strict, *asked]
-    wanted = [
-        (["print", *some, "case.toml", *files], code or run.print()),
-        (["refusals", *options, "case.toml", *files], fault or whole.refusals()),
-        (["slice", *some, "case.toml", oracle.word_of(pattern), *files], code or run.slice(pattern)),
-        (["drill", *some, "case.toml", oracle.word_of(key), name, *files], code or run.drill(key, place)),
-    ]
-    for words, text in wanted:
-        words = words[:1] + [it if isinstance(it, bytes) else it.encode() for it in words[1:]]
-        answer = program.run(words, limit=120)
-        if isinstance(text, str):
-            if answer.code() != text or answer.out:
-                return f"{words}: {text} was to come, and {answer.err[:100]!r} came"
-        elif (answer.status, answer.out, answer.err) != (whole.status, text, b""):
-            return f"{words}: status {answer.status}, {answer.err[:200]!r}, or other text"
-    if os.path.exists(BENCH):
-        call = [BENCH, "run", "case.toml", *files]
-        plain = subprocess.run(call, cwd=program.folder, stdout=subprocess.PIPE, stderr=subprocess.DEVNULL, timeout=120)
-        if (plain.returncode == 0, plain.stdout) != (not fault, b"" if fault else whole.print()):
-            return f"on one thread: status {plain.returncode}, or other text"
-    return compare_session(program, rng, schema, feeds, files, fault)
-
-
-def compare_session(program, rng, schema, feeds, files, fault):
-    """A session over a store that gets changes and questions, and then what is asked of the store: why either is wrong."""
-    sources, most = rng.choice([[1], [1, 2, 64]]), rng.choice([1, 1, 2, 3, 64, 10000, 1000000])
-    records = [random_message(rng, schema, sources) for _ in range(rng.choice([0, 5, 5, 100]))]
-    session = oracle.Session(schema, [] if fault else feeds)
-    answers, code, taken, certain = ([], fault, 0, 0) if fault else served(session, records, most)
-    for it in ("case.db", "case.db-wal"):
-        if os.path.exists(os.path.join(program.folder, it)):
-            os.unlink(os.path.join(program.folder, it))
-    options = ["--ring", str(rng.choice([1, 64])), *rng.choice([[], [], ["--wary"]]), "--commit-every", str(most)]
-    kept = ["--store", "case.db", "case.toml", *files]
-    live = program.run(["live", *options, *kept], oracle.encode(records, rng), limit=120)
-    wanted = (1 if code else session.status(), b"".join(answers), f"datacube: {code}\n".encode() if code else b"")
-    if (live.status, live.out, live.err) != wanted:
-        return f"a session, {options}: status {live.status}, {live.err[:200]!r}, or other answers"
-    asked = program.run(["print", *kept], limit=120)
-    is_right = asked.code() == fault if fault else is_first_part(asked, oracle.Session(schema, feeds), records[:taken], certain)
-    return None if is_right else f"the store of a session, {options}: status {asked.status}, {asked.err[:200]!r}, or other text"
-
-
-def served(session, records, most):
-    """The answers to records until one ends the session, the code of that or None, how many records came before it, and how
-    many of them are certain, where so many changes may wait."""
-    answers, waiting, certain = [], 0, 0
-    for at, record in enumerate(records):
-        try:
-            answers.append(session.reply(record))
-        except oracle.Failure as failure:
-            return answers, failure.line, at, certain
-        waiting += 1
-        if answers[-1] or waiting == most:
-            waiting, certain = 0, at + 1
-    return answers, None, len(records), len(records)
-
-
-def is_first_part(asked, session, records, certain):
-    """Whether what was asked of a store is what a session says after a first part of these records, so many at least."""
-    for at in range(len(records) + 1):
-        if at >= certain and (asked.status, asked.out) == (session.status(), session.run().print()):
-            return True
-        if at < len(records):
-            session.reply(records[at])
-    return False
-
-
-def random_message(rng, schema, sources):
-    """A change of one of the sources, or now and then a question."""
-    if rng.random() < 0.9:
-        return [b"%d" % rng.choice(sources), *random_record(rng, schema, TEXTS, 10)]
-    pattern = [rng.choice([b"?", b"\\A", b"\\N", b"=a"]) for _ in schema.dimensions]
-    return rng.choice([[b"print"], [b"refusals"], [b"sync"], [b"slice", *pattern]])
-
-
-def generated(trials, cases, seed):
-    def all_cases():
-        for at in range(cases):
-            why = compare(trials.program, random.Random(f"{seed} {at}"))
-            if why:
-                return f"case {at} of seed {seed}: {why}"
-        return cases
-
-    trials.trial("generated schemas and feeds, against a slow program of its own", all_cases)
+def trials_in(folder, path, is_short):
+    """The trials of the program at a path, which has its files in a folder; none yet."""
+    resource.setrlimit(resource.RLIMIT_CORE, (0, 0))
+    shim = os.path.join(folder, "refuse.so")
+    subprocess.run(["cc", "-O2", "-shared", "-fPIC", "-o", shim, os.path.join(HERE, "refuse.c"), "-ldl"], check=True)
+    return Trials(Program(os.path.abspath(path), shim, folder), is_short)
 
 
 def main():
@@ -959,35 +712,11 @@ def main():
     asks.add_argument("--short", action="store_true", help="the short form")
     asks.add_argument("--library", action="store_true", help="calls of the library alone")
     asks.add_argument("--only", default="", help="only the trials whose name has this word")
-    asks.add_argument("--cases", type=int, help="how many generated cases: 1000, and 50 in the short form, where left out")
-    asks.add_argument("--seed", type=int, default=1)
     given = asks.parse_args()
-    resource.setrlimit(resource.RLIMIT_CORE, (0, 0))
     with tempfile.TemporaryDirectory(prefix="hostile-") as folder:
-        shim = os.path.join(folder, "refuse.so")
-        subprocess.run(["cc", "-O2", "-shared", "-fPIC", "-o", shim, os.path.join(HERE, "refuse.c"), "-ldl"], check=True)
-        trials = Trials(Program(os.path.abspath(given.program or programs.datacube()), shim, folder), given.only, given.short)
-        if given.library:
-            growths_in_turn(trials)
-            return told(trials)
-        refusals_in_turn(trials)
-        ends_of_output(trials)
-        cut_feeds(trials)
-        cut_cubes(trials)
-        trials.trial("links planted where the driver for Dask writes", lambda: planted_links(trials.program))
-        piped_cubes(trials)
-        if not given.short:
-            growths_in_turn(trials)
-            big_inputs(trials)
-            hurtful(trials)
-            under_valgrind(trials)
-        generated(trials, given.cases or (50 if given.short else 1000), given.seed)
-    return told(trials)
-
-
-def told(trials):
-    print(f"{trials.passed} passed, {trials.failed} failed")
-    return 1 if trials.failed else 0
+        trials = trials_in(folder, given.program or programs.datacube(), given.short)
+        growths_in_turn(trials) if given.library else all_of(trials)
+        return trials.run(given.only)
 
 
 if __name__ == "__main__":

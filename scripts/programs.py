@@ -1,14 +1,13 @@
-"""Where the program stands that the scripts run, and how generated cases are tried on it."""
-import argparse
-import collections
+"""Where the program stands that the scripts run, by what Python its tests are, and a folder in which it is run."""
 import os
-import random
+import shutil
 import subprocess
 import sys
-import tempfile
 
 ROOT = os.path.dirname(os.path.dirname(os.path.realpath(__file__)))
 SECONDS = 120
+# (Debian's packages are of its own Python)
+DEBIANS = "/usr/bin/python3"
 
 
 def found():
@@ -22,11 +21,26 @@ def datacube():
     return found() or sys.exit("no program is there to run: scripts/build.sh builds it")
 
 
+def python_with(package):
+    """Debian's Python, or the one that runs this, whichever has a package, or None."""
+    has = lambda it: shutil.which(it) and not subprocess.run([it, "-c", f"import {package}"], stderr=subprocess.DEVNULL).returncode
+    return next((it for it in (DEBIANS, sys.executable) if has(it)), None)
+
+
+def pytest(program, *words, shares=1):
+    """The command by which pytest runs tests of the folder tests/ on a program, and tells what passed, or None where it isn't there.
+    The tests are shared among so many processes, where Python can do that."""
+    python = python_with("pytest")
+    quiet = ["-q", "--tb=short", "--no-header", "-p", "no:cacheprovider", "--tally"]
+    quiet += ["-n", str(shares)] if shares > 1 and python_with("xdist") == python else []
+    return python and [python, "-B", "-m", "pytest", *quiet, "--program", program, *words]
+
+
 class Room:
-    """A folder in which a program is run on files; `seen` counts what the cases met."""
+    """A folder in which a program is run on files."""
 
     def __init__(self, program, folder):
-        self.program, self.folder, self.seen = program, folder, collections.Counter()
+        self.program, self.folder = program, folder
 
     def write(self, name, data):
         """Writes a file, and gives its name."""
@@ -39,43 +53,3 @@ class Room:
         how = {"cwd": self.folder, "stdout": subprocess.PIPE, "stderr": subprocess.PIPE, "timeout": SECONDS}
         ran = subprocess.run([self.program, *words], input=given, **how)
         return ran.returncode, ran.stdout, ran.stderr
-
-
-def said(line):
-    """What stands on standard error for the line that a failure tells, or for none."""
-    return f"datacube: {line}\n".encode() if line else b""
-
-
-def differs(name, got, wanted):
-    """Says how a status, an output and a standard error differ from those that are wanted, or gives None."""
-    if (got[0], got[2]) != (wanted[0], wanted[2]):
-        return f"{name}: status {wanted[0]} and {wanted[2]!r} were to come, and {got[0]} and {got[2][:300]!r} came"
-    if got[1] == wanted[1]:
-        return None
-    place = len(os.path.commonprefix([got[1], wanted[1]]))
-    ours, theirs = (it[max(place - 40, 0) : place + 80] for it in (got[1], wanted[1]))
-    return f"{name}: at byte {place} {theirs!r} was to come, and {ours!r} came"
-
-
-def beside_oracle(about, compare, cases):
-    """Tries generated cases, and says `N passed, M failed`: compare says what is wrong with a case, or None."""
-    asks = argparse.ArgumentParser(description=about, formatter_class=argparse.RawDescriptionHelpFormatter)
-    asks.add_argument("--program")
-    asks.add_argument("--cases", type=int, default=cases)
-    asks.add_argument("--seed", type=int, default=1)
-    given = asks.parse_args()
-    program = os.path.abspath(given.program or datacube())
-    failed = 0
-    with tempfile.TemporaryDirectory(prefix="datacube-generated-") as folder:
-        room = Room(program, folder)
-        for at in range(given.cases):
-            try:
-                why = compare(room, random.Random(f"{given.seed} {at}"))
-            except subprocess.TimeoutExpired:
-                why = f"it doesn't end in {SECONDS} seconds"
-            failed += why is not None
-            if why:
-                print(f"FAILED case {at} of seed {given.seed}: {why}", flush=True)
-    print("        " + ", ".join(f"{count} {name}" for name, count in sorted(room.seen.items())))
-    print(f"{given.cases - failed} passed, {failed} failed")
-    return 1 if failed or not given.cases else 0

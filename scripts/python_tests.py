@@ -21,15 +21,9 @@ sys.dont_write_bytecode = True
 import programs
 
 ROOT = programs.ROOT
-DEBIANS = "/usr/bin/python3"
 COUNTED = re.compile(r"(\d+) (passed|failed|errors?|skipped)")
 # (the reason that unittest gives for what it leaves out, as Python writes a text)
 LEFT_OUT = re.compile(r"\.\.\. skipped ('.*'|\".*\")$", re.MULTILINE)
-
-
-def has_pytest(python):
-    """Whether a Python is there, and has pytest."""
-    return bool(shutil.which(python)) and not subprocess.run([python, "-c", "import pytest"], stderr=subprocess.DEVNULL).returncode
 
 
 def pytest(python, env):
@@ -79,7 +73,7 @@ def has_right_types(mypy):
 def run(env):
     """Runs the tests with a folder of their own for temporary files; gives the numbers that passed and failed. That they left
     nothing in it counts as one of them."""
-    python = next((it for it in (DEBIANS, sys.executable) if has_pytest(it)), None)
+    python = programs.python_with("pytest")
     with tempfile.TemporaryDirectory(prefix="py-") as folder:
         # (a private server may be nobody's, who has to find the way to its own folder)
         os.chmod(folder, 0o711)

@@ -49,16 +49,17 @@ WAYS = {
 }
 
 
-def wrapper_of(spoiling, program):
-    """The text of a program that spoils what another says."""
+def wrapper_of(spoiling, program, room):
+    """The text of a program that spoils what another says, and has its files in a folder while it runs."""
     return f"""#!/bin/sh
-out=$(mktemp) err=$(mktemp) new=$(mktemp)
+at={shlex.quote(room)}/$$
+out=$at.out err=$at.err new=$at.new
 {shlex.quote(program)} "$@" >$out 2>$err
 status=$?
 {spoiling}
-cat $err >&2
+[ ! -s $err ] || cat $err >&2
 cat $out
-rm $out $err $new
+rm -f $out $err $new
 exit $status
 """
 
@@ -67,7 +68,7 @@ def fault_of(spoiling, program, room, tried):
     """The first case that fails on the spoiled program, or None."""
     wrapper = f"{room}/spoiled"
     with open(wrapper, "w", encoding="utf-8") as file:
-        file.write(wrapper_of(spoiling, program))
+        file.write(wrapper_of(spoiling, program, f"{room}/files"))
     os.chmod(wrapper, 0o755)
     return next((case.name for case, fault in cases.tried(tried, wrapper, True) if fault), None)
 
@@ -83,6 +84,8 @@ def main():
     read = [it for start in range(STRIDE) for it in read[start::STRIDE]]
     with tempfile.TemporaryDirectory(prefix="datacube-spoiled-") as room:
         os.chmod(room, 0o755)
+        os.mkdir(f"{room}/files")
+        os.chmod(f"{room}/files", 0o1777)
         shutil.copy(given.program or programs.datacube(), f"{room}/program")
         for way, spoiling in WAYS.items():
             if given.way and way not in given.way:

@@ -16,6 +16,8 @@ trials don't wait for one.
 """
 import argparse
 import collections
+import contextlib
+import functools
 import hashlib
 import os
 import random
@@ -730,25 +732,41 @@ def without_feeds(room, rng):
 # ---- all of them
 
 
-class Trials:
-    def __init__(self, room, only, seed):
-        self.room, self.only, self.seed, self.passed, self.failed = room, only, seed, 0, 0
+# (by their names; those with a number of rounds have few in the short form)
+TRIALS = {
+    "records of every kind, kept and taken again": odd_records,
+    "what SQLite reads after a session": sqlite_reads,
+    "a session that is killed at random moments": lambda room, rng: kills(room, rng, 6 if room.is_short else 200),
+    "a session that rests and is ended by a signal": signals,
+    **{f"refused in turn: each {it}": functools.partial(store_calls.refused_in_turn, name=it) for it in store_calls.CAUSES},
+    "what a crash of the machine may leave": store_crashes.crash_images,
+    "what a second crash may leave, of the start after the first": store_crashes.second_crashes,
+    "a second process": second_process,
+    "a full disk": full_disk,
+    "a file cut at each boundary of pages": cut_files,
+    "a byte turned in each page": turned_bytes,
+    "a byte turned in each part of a row": turned_rows,
+    "a store of release 1.11.5": old_store,
+    "tables and rows that SQLite changed": changed_tables,
+    "files that are no stores": no_stores,
+    "a making that was cut short": cut_short,
+    "the rights of a store and its log": rights,
+    "other feeds and another schema": other_feeds,
+    "a store without feeds": without_feeds,
+}
 
-    def trial(self, name, call, *more):
-        if self.only not in name:
-            return
-        begun = time.monotonic()
-        try:
-            told, mark = call(self.room, random.Random(f"{self.seed} {name}"), *more), "ok     "
-        except LeftOut as why:
-            print(f"        left out: {name}, since {why}", flush=True)
-            return
-        except Wrong as why:
-            told, mark = why, "FAILED "
-        except Exception as error:
-            told, mark = f"the trial itself failed: {error!r}", "FAILED "
-        self.passed, self.failed = self.passed + (mark == "ok     "), self.failed + (mark != "ok     ")
-        print(f"{mark} {name}{f': {told}' if told else ''} ({time.monotonic() - begun:.1f} s)", flush=True)
+
+@contextlib.contextmanager
+def room_of(program, is_short, is_each=False):
+    """The room of the trials of a program."""
+    place = os.environ.get("TMPDIR") or ("/dev/shm" if os.access("/dev/shm", os.W_OK) else None)
+    with tempfile.TemporaryDirectory(prefix="store-trials-", dir=place) as folder:
+        yield Room(os.path.abspath(program), folder, is_short, is_each)
+
+
+def tried(room, name, seed=1):
+    """Makes a trial, and gives what it tells."""
+    return TRIALS[name](room, random.Random(f"{seed} {name}"))
 
 
 def main():
@@ -759,32 +777,21 @@ def main():
     asks.add_argument("--only", default="", help="only the trials whose name has this word")
     asks.add_argument("--seed", type=int, default=1)
     given = asks.parse_args()
-    place = os.environ.get("TMPDIR") or ("/dev/shm" if os.access("/dev/shm", os.W_OK) else None)
-    with tempfile.TemporaryDirectory(prefix="store-trials-", dir=place) as folder:
-        room = Room(os.path.abspath(given.program or programs.datacube()), folder, given.short, given.each)
-        trials = Trials(room, given.only, given.seed)
-        trials.trial("records of every kind, kept and taken again", odd_records)
-        trials.trial("what SQLite reads after a session", sqlite_reads)
-        trials.trial("a session that is killed at random moments", kills, 6 if given.short else 200)
-        trials.trial("a session that rests and is ended by a signal", signals)
-        for cause in store_calls.CAUSES:
-            trials.trial(f"refused in turn: each {cause}", store_calls.refused_in_turn, cause)
-        trials.trial("what a crash of the machine may leave", store_crashes.crash_images)
-        trials.trial("what a second crash may leave, of the start after the first", store_crashes.second_crashes)
-        trials.trial("a second process", second_process)
-        trials.trial("a full disk", full_disk)
-        trials.trial("a file cut at each boundary of pages", cut_files)
-        trials.trial("a byte turned in each page", turned_bytes)
-        trials.trial("a byte turned in each part of a row", turned_rows)
-        trials.trial("a store of release 1.11.5", old_store)
-        trials.trial("tables and rows that SQLite changed", changed_tables)
-        trials.trial("files that are no stores", no_stores)
-        trials.trial("a making that was cut short", cut_short)
-        trials.trial("the rights of a store and its log", rights)
-        trials.trial("other feeds and another schema", other_feeds)
-        trials.trial("a store without feeds", without_feeds)
-    print(f"{trials.passed} passed, {trials.failed} failed")
-    return 1 if trials.failed or not trials.passed else 0
+    passed = failed = 0
+    with room_of(given.program or programs.datacube(), given.short, given.each) as room:
+        for name in (it for it in TRIALS if given.only in it):
+            begun = time.monotonic()
+            try:
+                told, is_right = tried(room, name, given.seed), True
+            except LeftOut as why:
+                print(f"        left out: {name}, since {why}", flush=True)
+                continue
+            except Exception as error:
+                told, is_right = error if isinstance(error, Wrong) else f"the trial itself failed: {error!r}", False
+            passed, failed = passed + is_right, failed + (not is_right)
+            print(f"{'ok     ' if is_right else 'FAILED '} {name}{f': {told}' if told else ''} ({time.monotonic() - begun:.1f} s)", flush=True)
+    print(f"{passed} passed, {failed} failed")
+    return 1 if failed or not passed else 0
 
 
 if __name__ == "__main__":

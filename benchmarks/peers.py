@@ -1,4 +1,4 @@
-"""The peers of scripts/compare.py: PostgreSQL, ClickHouse, and R with data.table, at their best settings for the job.
+"""The peers of `print`: PostgreSQL, ClickHouse, and R with data.table, at their best settings for the job.
 
 Each begins with the feeds on the disk, finds the facts that are present, and writes the lines of the cube to a file. In
 place of a mean they write its sum and its count.
@@ -10,7 +10,6 @@ import subprocess
 import sys
 import time
 
-sys.dont_write_bytecode = True
 import sql
 from measure import run_at, run_into
 
@@ -211,3 +210,12 @@ class DataTable:
 
 # the peers by their names, with whether their lines have the columns of GROUPING
 PEERS = {"PostgreSQL": (Postgres, True), "ClickHouse": (ClickHouse, False), "data.table": (DataTable, True)}
+
+
+def installed(names):
+    """Those of the peers with these names, with commas between, that are installed, each with its version; the others are told."""
+    versions = {it: PEERS[it][0].version() for it in names.split(",") if it}
+    left_out = [name for name, version in versions.items() if not version]
+    if left_out:
+        print("left out, since not installed: " + ", ".join(left_out))
+    return {version: PEERS[name] for name, version in versions.items() if version}

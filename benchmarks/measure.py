@@ -8,10 +8,9 @@ import sys
 import threading
 import time
 
-sys.dont_write_bytecode = True
 import programs
 
-ROOT = os.path.dirname(os.path.dirname(os.path.realpath(__file__)))
+ROOT = programs.ROOT
 DATACUBE = programs.datacube()
 
 # processor seconds of all threads, wall seconds, the largest memory in MiB
@@ -127,8 +126,15 @@ def best_of(ways, runs):
     return [Use(*map(min, zip(*uses))) for uses in found]
 
 
-def need(*programs):
-    """Ends where a program isn't built."""
-    for program in programs:
-        if not os.path.exists(program):
-            sys.exit(f"{program} is missing: rt run in its crate builds it")
+def head(*names):
+    """Begins a table."""
+    print("| " + " | ".join(names) + " |\n|" + "---|" * len(names), flush=True)
+
+
+def row(*cells):
+    """A line of a table."""
+    print("| " + " | ".join(map(str, cells)) + " |", flush=True)
+
+
+def cell(use):
+    return f"{use.wall:.2f} s, {use.processor:.2f} s, {use.memory:.0f} MiB"

@@ -1,28 +1,12 @@
-#!/usr/bin/env python3
-"""Makes the cube of one plain CSV file by `datacube table` and by its peers, compares the answers, and prints what each took.
-
-    scripts/own_file_speed.py [--runs N] [--lines N] [--threads N]
-
-The file has N lines, 1,080,000 where left out: ten columns, of which a day, a city, a product and a price with two decimals
-are asked for, and the others aren't. The job: from the file on the disk to the whole cube by city, product and month, with
-count, sum, least, greatest and mean of the price, in a file. R does it by data.table (`fread`, `substr`, `cube`), PostgreSQL
-by COPY and GROUP BY CUBE; each that is installed runs, in rounds, with N threads, all processors where left out. Their cells
-have to be ours: the same keys with the same count, and the same sum, least and greatest price to the cent; else the status
-is 1.
-
-A line of the table has wall seconds, processor seconds and the largest memory in MiB, each the best of N runs, three where
-left out. Needs Debian's packages r-cran-data.table and postgresql for those that are wanted.
-"""
-import argparse
+"""The cube of one plain CSV file, by `datacube table` and by its peers."""
+import contextlib
 import csv
 import os
 import random
-import sys
 import tempfile
 
-sys.dont_write_bytecode = True
 import sql
-from measure import DATACUBE, Use, run_at, run_into
+from measure import DATACUBE, Use, cell, head, row, run_at, run_into
 from peers import DataTable
 
 HEADER = "order,when,city,product,price,note,clerk,till,channel,x"
@@ -120,31 +104,29 @@ def rounds(programs, room, runs):
     return best, same
 
 
-def main():
-    words = argparse.ArgumentParser(description=__doc__.split("\n\n", 1)[0])
-    words.add_argument("--runs", type=int, default=3)
-    words.add_argument("--lines", type=int, default=1_080_000)
-    words.add_argument("--threads", type=int, default=os.cpu_count())
-    asked = words.parse_args()
-    with tempfile.TemporaryDirectory() as room:
+def measure(asked):
+    """Makes the cube of one plain CSV file by `datacube table` and by its peers, compares the answers, and prints what each took.
+
+    The file has N lines of ten columns, of which a day, a city, a product and a price with two decimals are asked for, and the others
+    aren't. The job: from the file on the disk to the whole cube by city, product and month, with count, sum, least, greatest and mean of
+    the price, in a file. R does it by data.table (`fread`, `substr`, `cube`), PostgreSQL by COPY and GROUP BY CUBE; each that is installed
+    runs, in rounds. Their cells have to be ours: the same keys with the same count, and the same sum, least and greatest price to the
+    cent; else the status is 1."""
+    with tempfile.TemporaryDirectory() as room, contextlib.ExitStack() as servers:
         os.chmod(room, 0o777)
         file = f"{room}/sales.csv"
         make(file, asked.lines)
         programs = [Ours(file, asked.threads)]
         if DataTable.version():
             programs.append(Table(file, asked.threads))
-        if not sql.newest_server():
-            best, same = rounds(programs, room, asked.runs)
-        else:
+        if sql.newest_server():
             os.mkdir(f"{room}/server")
-            with sql.Server(sql.newest_server(), f"{room}/server") as server:
-                best, same = rounds([*programs, Postgres(file, asked.threads, server)], room, asked.runs)
+            server = servers.enter_context(sql.Server(sql.newest_server(), f"{room}/server"))
+            programs.append(Postgres(file, asked.threads, server))
+        best, same = rounds(programs, room, asked.runs)
         print(f"{asked.lines} lines, {os.path.getsize(file) / 1e6:.1f} MB, {asked.threads} threads, best of {asked.runs}")
+        head("", "wall, processor, memory")
         for name, use in best.items():
-            print(f"{name:16} {use.wall:7.2f} s {use.processor:7.2f} s {use.memory:7.0f} MiB")
+            row(name, cell(use))
         print("the cells are the same" if same else "the cells differ")
     return 0 if same else 1
-
-
-if __name__ == "__main__":
-    sys.exit(main())

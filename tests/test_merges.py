@@ -1,0 +1,196 @@
+"""`merge` and `--shard` over generated cubes, beside scripts/oracle.py: what is printed, and which fault is met first.
+
+What is wanted of the partial cubes of parts of facts, and of shards, is the printed cube of all facts, which the oracle makes
+without merging.
+"""
+import re
+
+import generated as make
+import oracle
+from rooms import said
+from strategies import event, tries
+
+SPELLINGS = [
+    lambda it: b"+" + it, lambda it: b"0" + it, lambda it: b"-" + it, lambda it: b'"' + it + b'"', lambda it: it + b" ",
+    lambda it: it + b"\r", lambda it: it + b"/2", lambda it: it + b",", lambda it: b"", lambda it: b"\\N", lambda it: b"-0",
+    lambda it: b"0", lambda it: b"1", lambda it: b"2", lambda it: b"\xff", lambda it: b"%d" % 2**64, lambda it: b"%d" % 2**127,
+    lambda it: b"%d" % 2**63, lambda it: b"\\A", lambda it: it + b"0", lambda it: it[:-1], lambda it: it + b".0", lambda it: it + b".",
+    lambda it: b"." + it, lambda it: b"-0.00", lambda it: b"0.0", lambda it: it.replace(b".", b","), lambda it: it.replace(b".", b""),
+]
+# (of a whole number, or of the numbers of a fraction)
+NUMBERS = [
+    lambda it: [2 * part for part in it], lambda it: [it[0] + 1, *it[1:]], lambda it: [it[0] - 1, *it[1:]],
+    lambda it: [-part for part in it], lambda it: it + [1],
+]
+
+
+def case_of(rng):
+    """A schema and the data records of feeds, few where there are many grouping sets."""
+    schema, feeds = make.random_case(rng, True)
+    most = 400 if len(schema.masks) <= 8 else 60 if len(schema.masks) <= 32 else 10
+    schema.max_records = make.MOST
+    return schema, [records[:most] for records in feeds][: max(1, most // 6)]
+
+
+def facts_of(rng):
+    """A schema, its partial form, and the facts of generated feeds."""
+    schema, feeds = case_of(rng)
+    return schema, schema.partial(), oracle.Run(schema, feeds).facts
+
+
+def printed(schema, facts):
+    return oracle.text_of(schema, oracle.rows_of(schema, facts))
+
+
+def parted(things, count, rng):
+    """Things in so many parts; of hypothesis the parts are chosen by a seed."""
+    seed = make.seeded(rng)
+    parts = [[] for _ in range(count)]
+    for it in things:
+        seed.choice(parts).append(it)
+    return parts
+
+
+def merged(room, schema, texts, rng, wanted, tail=()):
+    """Merges cubes by the program, which has to answer with a text and a fault or None, which are wanted."""
+    room.write("schema.toml", schema.toml())
+    names = [room.write(f"part{at}.csv", it) for at, it in enumerate(texts)]
+    options = rng.sample([it for it in ("--partial", "--check") if it in tail], len(set(tail)))
+    words, (text, fault) = ["merge", *options, "schema.toml", *names], wanted
+    event(fault.code if fault else "merged")
+    if fault and "--check" in tail:
+        text = b""
+    got = room.run(words)
+    if fault and text.startswith(got[1]):
+        text = got[1]
+    room.compare(got, words, (1 if fault else 0, text, said(fault and fault.line())))
+
+
+@tries(18)
+def test_partial_cubes(room, rng):
+    """The partial cubes of parts of facts, in a tree too."""
+    schema, partial, facts = facts_of(rng)
+    whole, cube = printed(schema, facts), printed(partial, facts)
+    texts = [printed(partial, it) for it in parted(facts, rng.choice([1, 2, 2, 3, 7, 64]), rng)]
+    groups = [it for it in parted(texts, rng.choice([1, 2, 3]), rng) if it]
+    nested = [oracle.merge(schema, it, True)[0] for it in groups]
+    assert oracle.merge(schema, texts) == (whole, None) and oracle.merge(schema, nested) == (whole, None)
+    check = ["--check"] * rng.randint(0, 1)
+    for some, text, tail in [(texts, whole, check), (texts, cube, ["--partial", *check]), (nested, whole, check),
+                             *((group, text, ["--partial"]) for group, text in zip(groups, nested))]:
+        merged(room, schema, some, rng, (text, None), tail)
+
+
+@tries(8)
+def test_shards(room, rng):
+    """The shards of feeds: their partial cubes, now and then of facts of interest, which are merged, and their refusals."""
+    schema, feeds = case_of(rng)
+    room.write("schema.toml", schema.toml())
+    pairs = [make.written(rng, schema, it) for it in feeds]
+    names, feeds = [room.write(f"feed{at}.csv", data) for at, (data, _) in enumerate(pairs)], [it for _, it in pairs]
+    options, conditions = make.random_conditions(rng, schema)
+    if conditions == "P8":
+        options, conditions = [], []
+    count, whole = rng.choice([1, 2, 3, 5]), oracle.Run(schema, feeds, conditions=conditions)
+    texts, refused, partial = [], [], schema.partial()
+    for shard in range(1, count + 1):
+        run, words = oracle.Run(partial, feeds, (shard, count), conditions), ["--shard", f"{shard}/{count}", "schema.toml", *names]
+        texts.append(run.print())
+        refused += run.refused
+        room.expect(["print", "--partial", *options, *words], (run.status, run.print(), b""))
+        room.expect(["refusals", *words], (run.status, run.refusals(), b""))
+    assert sorted(refused) == whole.refused
+    merged(room, schema, texts, rng, (whole.print(), None))
+
+
+@tries(16)
+def test_counts_and_sums_near_their_bounds(room, rng):
+    """Cubes whose counts and sums are those of facts that stand many times each, near the bounds and past them."""
+    schema, partial, facts = facts_of(rng)
+    groups = [it for it in parted(facts, rng.choice([2, 2, 1]), rng) if it] or [[]]
+    most, largest = 2**64 - 1, max(map(len, groups))
+    times = rng.choice([most // max(largest, 1), most // max(largest, 1), most // max(len(facts), 1), most, 2**63, 1])
+    texts = []
+    for group in groups:
+        rows = [(key, [times_of(it, kind, times) for it, (kind, _) in zip(answers, partial.aggregates)])
+                for key, answers in oracle.rows_of(partial, group)]
+        texts.append(oracle.text_of(partial, rows))
+    merged(room, schema, texts, rng, oracle.merge(schema, texts), ["--check"] * rng.randint(0, 1))
+
+
+def times_of(answer, kind, times):
+    """A count or a sum so many times, with the decimals that it has."""
+    if kind not in ("count", "sum") or answer == "\\N":
+        return answer
+    return oracle.decimal(int(answer.replace(".", "")) * times, len(answer.partition(".")[2]))
+
+
+def lines_of(text):
+    lines, at = [], 0
+    while at < len(text):
+        start, (_, at) = at, oracle.printed_line(text, at)
+        lines.append(text[start:at])
+    return lines
+
+
+def respelled(field, rng):
+    """A field in another spelling, or another number in its place."""
+    found = re.fullmatch(rb"(-?[0-9]+)\.([0-9]+)", field)
+    if found and rng.random() < 0.5:
+        units = rng.choice([1, -1, 10, -10]) + int(found[1] + found[2])
+        return oracle.decimal(units, max(len(found[2]) + rng.choice([0, 0, 0, 1, -1]), 0)).encode()
+    if not re.fullmatch(rb"-?[0-9]+(/[0-9]+)?", field) or rng.random() < 0.5:
+        return rng.choice(SPELLINGS)(field)
+    return b"/".join(b"%d" % it for it in rng.choice(NUMBERS)([int(it) for it in field.split(b"/")]))
+
+
+def spoiled(text, rng):
+    """A printed cube with something wrong in it, mostly."""
+    lines, way = lines_of(text), rng.randrange(12)
+    at = 0 if len(lines) == 1 or rng.random() < 0.1 else rng.randrange(1, len(lines))
+    if way == 0:
+        return b"".join(lines[:at])
+    if way == 1:
+        return b"".join(lines[:at] + lines[at:][::-1])
+    if way == 2:
+        return b"".join(lines[: at + 1] + lines[at:])
+    if way == 3:
+        return b"".join(lines[:at] + lines[at + 1 :])
+    if way == 4:
+        return text[: rng.randrange(len(text))]
+    if way == 5:
+        place = rng.randrange(len(text))
+        return text[:place] + rng.choice([b'"', b"\n", b"0", b"9", b",", b"-", b"\xff", b""]) + text[place + 1 :]
+    fields = [oracle.line_of([it])[:-1] for it in oracle.printed_line(lines[at], 0)[0]]
+    means = [place for place, it in enumerate(fields) if b"/" in it] if rng.random() < 0.3 else []
+    place = rng.choice(means or range(0 if rng.random() < 0.3 else len(fields) // 2, len(fields)))
+    fields[place] = respelled(fields[place], rng)
+    return b"".join(lines[:at] + [b",".join(fields) + b"\n"] + lines[at + 1 :])
+
+
+@tries(144)
+def test_spoiled_cubes(room, rng):
+    """Cubes of which one, now and then two, are spoiled."""
+    schema, partial, facts = facts_of(rng)
+    good = [printed(partial, it) for it in parted(facts, rng.choice([1, 2, 3, 5]), rng)]
+    texts = list(good)
+    for at in rng.choices(range(len(texts)), k=rng.choice([1, 1, 1, 2])):
+        texts[at] = spoiled(good[at], rng)
+    tail = [it for it in ("--check", "--partial") if rng.random() < 0.5]
+    merged(room, schema, texts, rng, oracle.merge(schema, texts, "--partial" in tail), tail)
+
+
+@tries(6)
+def test_paths(room, rng):
+    """What is told of paths, before any cube is read."""
+    room.write("schema.toml", oracle.SAMPLE.toml())
+    names = [room.write(f"part{at}.csv", printed(oracle.SAMPLE.partial(), [])) for at in range(5)]
+    place, way = rng.randrange(1, 5), rng.choice(["twice", "gone", "folder", "many"])
+    if way == "many":
+        line, status, names = "too many cubes", 2, names * 13
+    elif way == "twice":
+        line, status, names[place] = f"M2 {place + 1}", 2, names[rng.randrange(place)]
+    else:
+        names[place] = "gone.csv" if way == "gone" else "."
+        line, status = f"M3 {place + 1}" + (" 1" if way == "folder" else ""), 1
+    room.expect(["merge", "schema.toml", *names], (status, b"", said(line)))
