@@ -484,10 +484,12 @@ WRONG = {
     "wide again.csv": ("a,b\n1,2\n".encode("utf-16-le"), "wide again.csv is no text that this page can read"),
     "some.pdf": (b"%PDF-1.7\n", "some.pdf is a PDF."),
     "some.parquet": (b"PAR1abc", "some.parquet is a Parquet file."),
+    "some.json": (b'[\n {"city": "York"}]', "some.json is JSON."),
+    "page.csv": (b"<!DOCTYPE html><p>no", "page.csv is a page or XML."),
     "none.csv": (b"", "none.csv is empty."),
     "alone.toml": (b"dimensions = []\n", "That is a schema alone."),
     "blank.csv": (b"\n\n", "No schema was made: "),
-    "numbers.csv": (b"price\n1.5\n2.5\n", "No schema was made: no column is a dimension"),
+    "numbers.csv": (b"price\n1.5\n2.5\n", "No column was taken for a dimension: choose one to group by."),
 }
 
 
@@ -648,6 +650,8 @@ def names_and_contrast(trials, page, room):
 
 def asks_nobody(trials, page):
     """What the page would ask of others is forbidden, and in all that was done here nothing was asked of a host."""
+    complaints = [it["message"][:200] for it in page.driver.get_log("browser") if it["level"] == "SEVERE"]
+    trials.see("the browser has no complaint of the page", complaints, [])
     page.fresh()
     directives, is_run = page.driver.execute_async_script(ASKING)
     trials.see("the policy forbids", directives, FORBIDDEN)
@@ -743,7 +747,7 @@ def chromium(room):
         return None
     options = webdriver.ChromeOptions()
     options.binary_location = browser
-    options.set_capability("goog:loggingPrefs", {"performance": "ALL"})
+    options.set_capability("goog:loggingPrefs", {"performance": "ALL", "browser": "ALL"})
     for word in ("--headless=new", "--window-size=1280,800", "--disable-dev-shm-usage", "--hide-scrollbars=false"):
         options.add_argument(word)
     if os.geteuid() == 0:

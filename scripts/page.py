@@ -122,8 +122,8 @@ def retarget(path):
     text = re.sub(r"^target datalayout = .*$", f'target datalayout = "{LAYOUT}"', text, flags=re.M)
     text = re.sub(r'"(target-cpu|target-features|tune-cpu)"="[^"]*"', "", text)
     for name in EXPORTS:
-        text, count = re.subn(rf"^(define [^@\n]*@{name}\(.*\)[^\n{{]*?)( #\d+)( \{{)?",
-                              rf'\1 "wasm-export-name"="{name}"\2\3', text, flags=re.M)
+        text, count = re.subn(rf"^(define [^@\n]*@{name}\([^\n]*\)[^\n{{]*?)((?: #\d+)? \{{)$",
+                              rf'\1 "wasm-export-name"="{name}"\2', text, flags=re.M)
         if count != 1:
             sys.exit(f"the IR has {count} functions {name}, and not one")
     with open(path, "w") as file:

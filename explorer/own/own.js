@@ -22,6 +22,12 @@ const KINDS = [
   [[0xfe, 0xff], "is UTF-16. Save it as UTF-8, and drop that."],
 ];
 
+// and by its first letters
+const SPELLINGS = [
+  [/^\s*(?:\{\s*"|\[\s*[{["])/, "is JSON. Its records have to be saved as CSV by another program."],
+  [/^\s*<(?:!doctype|\?xml|html|table)/i, "is a page or XML. Save its table as CSV, and drop that."],
+];
+
 /** What was dropped last: its files, the schema and how it came about. */
 let own = null;
 let worker = null;
@@ -172,11 +178,13 @@ const optionWord = (name, value) => (value.startsWith("-") ? `${name}=${shellWor
 // Files.
 
 /** What is wrong with a file by its first bytes, or nothing. */
-function wrongWith(bytes, size) {
+function wrongWith(bytes, text, size) {
   if (size === 0) return "is empty.";
   const kind = KINDS.find(([magic]) => magic.every((it, at) => bytes[at] === it));
   if (kind) return kind[1];
   const zeros = bytes.reduce((sum, it) => sum + (it === 0), 0);
+  const spelling = SPELLINGS.find(([start]) => start.test(text));
+  if (spelling) return spelling[1];
   if (zeros > bytes.length / 8) return "is no text that this page can read: is it UTF-16, or of another program? Save it as CSV in UTF-8.";
   return "";
 }
@@ -184,7 +192,7 @@ function wrongWith(bytes, size) {
 /** A file's first bytes and texts, and what it is: a schema, a printed cube, or a file of facts. */
 async function lookAt(file) {
   const bytes = new Uint8Array(await file.slice(0, SHOWN_BYTES).arrayBuffer());
-  const text = new TextDecoder().decode(bytes), wrong = wrongWith(bytes, file.size);
+  const text = new TextDecoder().decode(bytes), wrong = wrongWith(bytes, text, file.size);
   if (wrong) throw new Refused(`${file.name} ${wrong}`);
   const [header] = recordsIn(text, ",", 1);
   const isCube = header?.includes(`grouping(${header[0]})`);
@@ -246,8 +254,10 @@ async function begin(facts, schema) {
     given: null, isCountOnly: false, isEdited: Boolean(schema), isGuess: true, isShown: false, fault: "" };
   const name = nameOfAll();
   by("own-title").textContent = name;
-  by("own-notes").textContent = own.notes.join(" ");
-  by("own-notes").hidden = !own.notes.length;
+  for (const it of document.querySelectorAll(".own-notes")) {
+    it.textContent = own.notes.join(" ");
+    it.hidden = !own.notes.length;
+  }
   showColumns();
   if (schema) {
     own.given = { name: schema.file.name, bytes: new Uint8Array(await schema.file.arrayBuffer()) };
@@ -259,11 +269,15 @@ async function begin(facts, schema) {
 }
 
 function notesOn(facts, schema) {
-  const notes = [], [first] = facts, [header = []] = recordsIn(first.text, ",", 1);
+  const notes = [], [{ file, text }] = facts, [line = "", next = ""] = text.split(/[\r\n]+/, 2);
+  const header = recordsIn(line, delimiterOf(line), 1)[0] ?? [], behind = recordsIn(next, delimiterOf(next), 1)[0] ?? [];
   const odd = facts.filter((it) => !it.isUtf8).map((it) => it.file.name);
-  if (odd.length) notes.push(`${odd.join(" and ")}: not all of it is UTF-8. Lines with other letters are refused; save the file as UTF-8.`);
+  if (odd.length) notes.push(`${odd.join(" and ")}: not all of it is UTF-8, and columns and lines with other letters can't be used. Save the file as UTF-8.`);
   if (!schema && header[0] === "op" && header[1] === "id") {
-    notes.push(`${first.file.name} may be a feed of changes (op, id). Drop its schema (.toml) with it, and its changes are taken as such.`);
+    notes.push(`${file.name} may be a feed of changes (op, id). Drop its schema (.toml) with it, and its changes are taken as such.`);
+  }
+  if ((header.length === 1 && behind.length > 1) || /^sep=/i.test(line)) {
+    notes.push(`The first line of ${file.name} doesn't look like a header: “${line.slice(0, 60)}”. If it is a comment, take it out, and drop the file again.`);
   }
   return notes;
 }
@@ -312,8 +326,10 @@ function readColumns(schema) {
   const nulls = schema?.["feed.null"] ?? [];
   own.columns = header.map((name, at) => {
     const values = [...new Set(records.map((it) => it[at]).filter((it) => it !== undefined && !nulls.includes(it)))];
-    const why = header.indexOf(name) !== header.lastIndexOf(name) ? "its name stands in the header more than once" : leftOut(schema, name);
-    return { name, at, examples: values.slice(0, EXAMPLES), isTime: values.length > 0 && values.every((it) => DATE.test(it)), why };
+    const fault = header.indexOf(name) !== header.lastIndexOf(name) ? "its name stands in the header more than once"
+      : name.includes("\ufffd") ? "its name isn't UTF-8" : "";
+    return { name, at, examples: values.slice(0, EXAMPLES), isTime: values.length > 0 && values.every((it) => DATE.test(it)),
+      canBeUsed: !fault, why: fault || leftOut(schema, name) };
   });
   if (!schema) return;
   const columns = schema["feed.columns"] ?? {}, from = (name) => columns[name]?.column ?? columns[name] ?? name;
@@ -384,10 +400,10 @@ function showChoices() {
 }
 
 function columnRow(column) {
-  const use = useOf(column), isTaken = column.why === "its name stands in the header more than once";
+  const use = useOf(column);
   const name = column.name === "" ? make("span", { class: "pill" }, "no name") : textNode(column.name);
   const options = [["none", "left out"], ["dimension", "a dimension"], ["measure", "a measure"]];
-  const select = make("select", { "data-own": `use ${column.at}`, "aria-label": `What ${column.name || "the column without a name"} is`, disabled: isTaken },
+  const select = make("select", { "data-own": `use ${column.at}`, "aria-label": `What ${column.name || "the column without a name"} is`, disabled: !column.canBeUsed },
     ...options.map(([value, text]) => make("option", { value, selected: value === use }, text)));
   select.addEventListener("change", () => choose(() => setUse(column, select.value)));
   const examples = column.examples.flatMap((it, at) => (at ? [", ", textNode(it.slice(0, 40))] : [textNode(it.slice(0, 40))]));
@@ -557,6 +573,7 @@ const meaning = (code, isSecond) => (explained.get(code) ?? explained.get(`${cod
 
 /** A fault of the module as a sentence: what the program would say, and what that means. */
 function faultText(text) {
+  if (text === "no columns: no column is a dimension; --by takes one") return "No column was taken for a dimension: choose one to group by.";
   if (text.startsWith("no columns: ")) return `No schema was made: ${text.slice("no columns: ".length)}.`;
   if (!text || text === "G4" || text === "S1") return sentenceOf({ kind: "memory" });
   const [word, source, code] = text.split(" "), file = word === "G3" ? own.files[source - 1]?.name : own.given?.name ?? "The schema";
