@@ -1,7 +1,7 @@
 #!/usr/bin/env python3
 """Tries the page explorer/datacube.html, which counts a file of one's own, in headless Chromium beside what the program prints.
 
-    scripts/own_page.py [-v] [--only WORD] [--cases N] [--all-cases] [--large] [--screenshots]
+    scripts/own_page.sh [-v] [--only WORD] [--cases N] [--all-cases] [--large] [--screenshots]
 
 The page has to be what its parts give, its allocator is tried by random steps, and its module is asked for the cubes of the
 examples, of the cases that name files alone (some of them; all of them by `--all-cases`) and of N generated schemas, feeds and
@@ -418,6 +418,19 @@ def counts_alone(trials, page, room):
     trials.see("the guess again", page.shell_words(), ["datacube", "table", "sales.csv"])
 
 
+def nulls(trials, page, room):
+    """What null is spelled as is changed."""
+    drop_sales(page, room)
+    page.change_columns()
+    trials.see("what null is at first", page.js("return document.getElementById('own-nulls').value"), '"",NA,N/A,NaN,nan,NULL,null,\\N')
+    page.js("const it = document.getElementById('own-nulls'); it.value = arguments[0]; it.dispatchEvent(new Event('change'))", '"",York,"a ""b"""')
+    page.wait("return document.querySelector('#own .own-command').textContent.includes('print')")
+    write_file(f"{room}/sales.toml", page.js("return document.getElementById('own-schema').value").encode())
+    trials.see("the schema says it", b'null = ["", "York", "a \\"b\\""]' in read(f"{room}/sales.toml"))
+    page.count("sales")
+    trials.see("the cube with other nulls", page.cube(), by_command(page, room))
+
+
 def schema_text(trials, page, room):
     """The schema is changed as a text; one that is wrong is told."""
     drop_sales(page, room)
@@ -536,6 +549,20 @@ def faults_of_module(trials, page, room):
     trials.see("the page goes on after a trap", page.cube(), by_command(page, room))
 
 
+def too_large(trials, page, room):
+    """A file that doesn't fit a memory of 32 bits."""
+    path = f"{room}/huge.csv"
+    write_file(path, large_feed(20_000).encode())
+    os.truncate(path, 5_000_000_000)  # (it takes no room on the disk)
+    page.fresh()
+    page.driver.execute_async_script("ownData.useModule('32').then(arguments[0])")
+    page.choose_files(path)
+    page.shows_problem("There isn't enough memory in this browser")
+    trials.see("what doesn't fit is told", page.at("#own-count").is_displayed())
+    page.drop({"sales.csv": SALES})
+    page.shows_cube("sales")
+
+
 def large_feed(lines):
     """A file of so many lines: three dimensions, of which one is the month of a time, and a measure with two decimals."""
     shops, products = [f"shop {at:02d}" for at in range(40)], [f"product {at:02d}" for at in range(30)]
@@ -610,7 +637,8 @@ def by_keyboard(trials, page, room):
     trials.see("the title of the columns has the focus", page.js("return document.activeElement.id"), "own-title")
     tab_to(page, "it.dataset.own === 'use 2'")
     press(page, "l")
-    page.wait("return document.querySelector('[data-own=\"use 2\"]').value === 'none' && document.querySelector('#own .own-command').textContent.includes('--by')")
+    page.wait("return document.querySelector('[data-own=\"use 2\"]').value === 'none'"
+              " && document.querySelector('#own .own-command').textContent.includes('--by')")
     trials.see("a choice keeps the focus", page.js("return document.activeElement.dataset.own"), "use 2")
     tab_to(page, "it.id === 'own-count'")
     press(page, Keys.ENTER)
@@ -720,7 +748,7 @@ def large(trials, page, room):
 def pictures(page, room):
     """The pictures of docs/explorer/ whose names begin with `own-`."""
     drop_sales(page, room)
-    write_file(f"{room}/shop sales.csv", large_feed(3000).replace("price,note", "price,note").encode())
+    write_file(f"{room}/shop sales.csv", large_feed(3000).encode())
     page.driver.set_window_size(1240, 720)
     page.fresh()
     screenshot(page, "own-start")
@@ -766,7 +794,7 @@ def try_all(trials, page, room, given):
     trials.run(examples, page, room)
     trials.run(of_cases, page, room, given.all_cases)
     trials.run(generated, page, room, given.cases)
-    for trial in (first_minute, counts_alone, schema_text, refused_lines, several_files, wrong_files, faults_of_module, stopped, saved, by_keyboard,
+    for trial in (first_minute, counts_alone, nulls, schema_text, refused_lines, several_files, wrong_files, faults_of_module, too_large, stopped, saved, by_keyboard,
                   names_and_contrast):
         trials.run(trial, page, room)
     trials.run(asks_nobody, page)

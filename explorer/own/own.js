@@ -1,6 +1,6 @@
 "use strict";
 // A file of one's own becomes a cube in this page: the schema is guessed, shown as choices, and the proved module counts in a
-// worker. What the explorer has is used as it stands: `by`, `make`, `number`, `quoted`, `fieldsOf`, `textNode`, `tell`, `open`.
+// worker. What the explorer has is used as it stands: `by`, `make`, `number`, `quoted`, `textNode`, `tell`, `open`, `cube`.
 
 {
 const LOOKED_AT = 16 << 20; // as many bytes of a file the module's guess may look at
@@ -133,6 +133,9 @@ function withoutMeasures(text, measures) {
   return lines.filter((it) => it !== null).join("\n");
 }
 
+/** A schema that the module wrote, with other texts for null. */
+const withNulls = (text, nulls) => text.replace(/^null = .*$/m, () => `null = [${nulls.map((it) => JSON.stringify(it)).join(", ")}]`);
+
 /** The first records of a text, as the program reads CSV: a quote counts at the beginning of a field alone. */
 function recordsIn(text, delimiter, most) {
   const records = [], bare = new RegExp(`[^${delimiter.replace(/[\\\]^|]/g, "\\$&")}\\r\\n]*`, "y");
@@ -251,7 +254,7 @@ async function begin(facts, schema) {
   const [first] = facts;
   endCounting();
   own = { files: facts.map((it) => it.file), text: first.text.replace(/^\ufeff/, ""), notes: notesOn(facts, schema), schema: "", by: [], of: [],
-    given: null, isCountOnly: false, isEdited: Boolean(schema), isGuess: true, isShown: false, fault: "" };
+    given: null, nulls: null, isCountOnly: false, isEdited: Boolean(schema), isGuess: true, isShown: false, fault: "" };
   const name = nameOfAll();
   by("own-title").textContent = name;
   for (const it of document.querySelectorAll(".own-notes")) {
@@ -272,12 +275,16 @@ function notesOn(facts, schema) {
   const notes = [], [{ file, text }] = facts, [line = "", next = ""] = text.split(/[\r\n]+/, 2);
   const header = recordsIn(line, delimiterOf(line), 1)[0] ?? [], behind = recordsIn(next, delimiterOf(next), 1)[0] ?? [];
   const odd = facts.filter((it) => !it.isUtf8).map((it) => it.file.name);
-  if (odd.length) notes.push(`${odd.join(" and ")}: not all of it is UTF-8, and columns and lines with other letters can't be used. Save the file as UTF-8.`);
+  if (odd.length) {
+    notes.push(`${odd.join(" and ")}: not all of it is UTF-8, and columns and lines with other letters can't be used. Save the file `
+      + "as UTF-8.");
+  }
   if (!schema && header[0] === "op" && header[1] === "id") {
-    notes.push(`${file.name} may be a feed of changes (op, id). Drop its schema (.toml) with it, and its changes are taken as such.`);
+    notes.push(`${file.name} may be a feed of changes (op, id). Drop its schema (.toml) with it, and they are taken as such.`);
   }
   if ((header.length === 1 && behind.length > 1) || /^sep=/i.test(line)) {
-    notes.push(`The first line of ${file.name} doesn't look like a header: “${line.slice(0, 60)}”. If it is a comment, take it out, and drop the file again.`);
+    notes.push(`The first line of ${file.name} doesn't look like a header: “${line.slice(0, 60)}”. If it is a comment, take it out, `
+      + "and drop the file again.");
   }
   return notes;
 }
@@ -306,8 +313,8 @@ async function guess(byText, ofText) {
     return false;
   }
   own.fault = "";
-  takeSchema(answer.text);
-  readColumns(readSchema(answer.text));
+  takeSchema(own.nulls ? withNulls(answer.text, own.nulls) : answer.text);
+  readColumns(readSchema(own.schema));
   tell("");
   showChoices();
   return true;
@@ -332,6 +339,7 @@ function readColumns(schema) {
       canBeUsed: !fault, why: fault || leftOut(schema, name) };
   });
   if (!schema) return;
+  by("own-nulls").value = recordOf(nulls);
   const columns = schema["feed.columns"] ?? {}, from = (name) => columns[name]?.column ?? columns[name] ?? name;
   own.by = schema.dimensions.map((name) => ({ column: from(name), first: Number(columns[name]?.first ?? 0) }));
   const given = new Map(own.of.map((it) => [it.column, it.isGiven]));
@@ -403,7 +411,8 @@ function columnRow(column) {
   const use = useOf(column);
   const name = column.name === "" ? make("span", { class: "pill" }, "no name") : textNode(column.name);
   const options = [["none", "left out"], ["dimension", "a dimension"], ["measure", "a measure"]];
-  const select = make("select", { "data-own": `use ${column.at}`, "aria-label": `What ${column.name || "the column without a name"} is`, disabled: !column.canBeUsed },
+  const label = `What ${column.name || "the column without a name"} is`;
+  const select = make("select", { "data-own": `use ${column.at}`, "aria-label": label, disabled: !column.canBeUsed },
     ...options.map(([value, text]) => make("option", { value, selected: value === use }, text)));
   select.addEventListener("change", () => choose(() => setUse(column, select.value)));
   const examples = column.examples.flatMap((it, at) => (at ? [", ", textNode(it.slice(0, 40))] : [textNode(it.slice(0, 40))]));
@@ -423,8 +432,10 @@ function howOf(column, use) {
   }
   if (!column.isTime) {
     const it = own.by.find((one) => one.column === column.name);
-    return [numberBox(`first ${column.at}`, "first characters", `First characters of ${column.name}; all where it is empty`, it.first || "", 1, 255,
-      (value) => (it.first = Number(value)))];
+    const label = `First characters of ${column.name}; all where it is empty`;
+    return [numberBox(`first ${column.at}`, "first characters", label, it.first || "", 1, 255, (value) => {
+      it.first = Number(value);
+    })];
   }
   return [make("span", { class: "choices", role: "group", "aria-label": `Parts of ${column.name}` },
     ...[...TIMES, ["whole", 0]].map(([name, first]) => timeButton(column, name, first)))];
@@ -595,7 +606,7 @@ function say(sentence) {
 /** The command that does the same. */
 function commandOf() {
   const files = own.files.map((it) => fileWord(it.name)).join(" ");
-  if (own.isEdited || own.isCountOnly) return `datacube print ${fileWord(own.given?.name ?? schemaName())} ${files}`;
+  if (own.isEdited || own.isCountOnly || own.nulls) return `datacube print ${fileWord(own.given?.name ?? schemaName())} ${files}`;
   if (own.isGuess) return `datacube table ${files}`;
   return `datacube table ${files} ${optionWord("--by", byText())}${own.of.length ? ` ${optionWord("--of", ofText())}` : ""}`;
 }
@@ -663,7 +674,7 @@ function edited() {
 
 async function guessAgain() {
   endCounting();
-  Object.assign(own, { isEdited: false, isGuess: true, isCountOnly: false, given: null, by: [], of: [] });
+  Object.assign(own, { isEdited: false, isGuess: true, isCountOnly: false, given: null, nulls: null, by: [], of: [] });
   await guess("", "");
 }
 
@@ -688,6 +699,9 @@ function listenToOwn() {
   for (const [id, what] of Object.entries(clicks)) by(id).addEventListener("click", what);
   for (const it of document.querySelectorAll(".own-copy")) it.addEventListener("click", () => copy(it));
   by("own-schema").addEventListener("input", edited);
+  by("own-nulls").addEventListener("change", () => choose(() => {
+    own.nulls = recordsIn(by("own-nulls").value, ",", 1)[0] ?? [];
+  }));
 }
 
 /** Puts the parts where they belong, and has the start page say what it takes. */
