@@ -431,6 +431,37 @@ def nulls(trials, page, room):
     trials.see("the cube with other nulls", page.cube(), by_command(page, room))
 
 
+STRANGE = b"""constructor,__proto__,"a""b",it's,,x:7,op,"l\nm",qty
+a,b,c,d,e,f,I,g,1
+b,b,"c,d",d,e,f,U,h,2
+"""
+
+
+def strange_names(trials, page, room):
+    """Columns whose names are hard to quote; each is left out once and taken again."""
+    write_file(f"{room}/it's strange.csv", STRANGE)
+    page.fresh()
+    page.drop({"it's strange.csv": STRANGE})
+    page.shows_cube("it's strange")
+    trials.see("a name with a quote", page.shell_words(), ["datacube", "table", "it's strange.csv"])
+    trials.see("strange names", page.cube(), by_command(page, room))
+    page.change_columns()
+    trials.see("what they were guessed", page.uses(), [*["dimension"] * 4, "none", *["dimension"] * 3, "measure"])
+    why = page.js("return document.querySelector('#own-rows tr:nth-child(5)').lastChild.textContent")
+    trials.see("why one is left out", why, "it has no name")
+    page.set("use 4", "dimension")
+    page.wait("return document.querySelector('#own .own-command').textContent.includes(',\"\",')")
+    for use in ("none", "dimension"):
+        page.set("use 7", use)
+        page.wait("return document.querySelector('[data-own=\"use 7\"]').value === arguments[0]"
+                  " && document.querySelector('#own .own-command').textContent.includes('\\nm') === (arguments[0] !== 'none')", use)
+    page.set("use 6", "none")
+    page.wait("return !document.querySelector('#own .own-command').textContent.includes(',op')")
+    page.count("it's strange")
+    trials.see("their command", page.shell_words()[3:], ["--by", 'constructor,__proto__,"a""b",it\'s,"",x:7,"l\nm"', "--of", "qty"])
+    trials.see("strange names that were chosen", page.cube(), by_command(page, room))
+
+
 def schema_text(trials, page, room):
     """The schema is changed as a text; one that is wrong is told."""
     drop_sales(page, room)
@@ -460,7 +491,7 @@ def refused_lines(trials, page, room):
     trials.see("how many were refused", page.text("#own-refused-count"), "3 lines were refused.")
     rows = page.js("return [...document.querySelectorAll('#own-refused-rows tr')].map((row) => [...row.children].map((it) => it.textContent))")
     trials.see("where they stand", [it[:4] for it in rows], [["prices.csv", "2", "1", "5"], ["prices.csv", "5", "2", "5"], ["prices.csv", "6", "3", "2"]])
-    trials.see("why", [it[4][:20] for it in rows], ["The line fault L5: a", "The line fault L5: a", "The line fault L2: a"])
+    trials.see("why", [it[4][:20] for it in rows], ["L5: a measure isn't ", "L5: a measure isn't ", "L2: a wrong number o"])
     trials.see("what they say", [it[5] for it in rows], ['"Yo↵rk",1.5', "Leeds,abc", "Leeds"])
 
 
@@ -794,7 +825,7 @@ def try_all(trials, page, room, given):
     trials.run(examples, page, room)
     trials.run(of_cases, page, room, given.all_cases)
     trials.run(generated, page, room, given.cases)
-    for trial in (first_minute, counts_alone, nulls, schema_text, refused_lines, several_files, wrong_files, faults_of_module, too_large, stopped, saved, by_keyboard,
+    for trial in (first_minute, counts_alone, nulls, strange_names, schema_text, refused_lines, several_files, wrong_files, faults_of_module, too_large, stopped, saved, by_keyboard,
                   names_and_contrast):
         trials.run(trial, page, room)
     trials.run(asks_nobody, page)

@@ -85,7 +85,7 @@ function tomlValue(text, at) {
   at = item.lastIndex;
   if (quotedText) return [JSON.parse(quotedText.replace(/\\U([0-9A-Fa-f]{8})/g, (_, it) => String.fromCodePoint(`0x${it}`))), at];
   if (sign !== "[" && sign !== "{") return [bare, at];
-  const values = [], table = {};
+  const values = [], table = Object.create(null); // (a name may be that of a property of every object)
   for (;;) {
     let [value, next] = tomlValue(text, at);
     if (value === undefined) return [sign === "[" ? values : table, next];
@@ -105,7 +105,7 @@ function tomlValue(text, at) {
 
 /** The keys and values of a schema that the module wrote; those of a table stand behind its name and a point. */
 function readSchema(text) {
-  const found = { comments: [] };
+  const found = Object.assign(Object.create(null), { comments: [] });
   let table = "";
   for (const line of text.split("\n")) {
     if (line.startsWith("# ")) found.comments.push(line.slice(2));
@@ -340,7 +340,7 @@ function readColumns(schema) {
   });
   if (!schema) return;
   by("own-nulls").value = recordOf(nulls);
-  const columns = schema["feed.columns"] ?? {}, from = (name) => columns[name]?.column ?? columns[name] ?? name;
+  const columns = schema["feed.columns"] ?? Object.create(null), from = (name) => columns[name]?.column ?? columns[name] ?? name;
   own.by = schema.dimensions.map((name) => ({ column: from(name), first: Number(columns[name]?.first ?? 0) }));
   const given = new Map(own.of.map((it) => [it.column, it.isGiven]));
   own.of = schema.measures.map((name) => ({ column: from(name), decimals: schema[`decimals.${name}`] ?? "", isGiven: given.get(from(name)) }));
@@ -415,7 +415,7 @@ function columnRow(column) {
   const select = make("select", { "data-own": `use ${column.at}`, "aria-label": label, disabled: !column.canBeUsed },
     ...options.map(([value, text]) => make("option", { value, selected: value === use }, text)));
   select.addEventListener("change", () => choose(() => setUse(column, select.value)));
-  const examples = column.examples.flatMap((it, at) => (at ? [", ", textNode(it.slice(0, 40))] : [textNode(it.slice(0, 40))]));
+  const examples = column.examples.flatMap((it, at) => (at ? [" · ", textNode(it.slice(0, 40))] : [textNode(it.slice(0, 40))]));
   return make("tr", {}, make("th", { scope: "row" }, name), make("td", { class: "values" }, ...examples), make("td", {}, select),
     make("td", {}, ...howOf(column, use)));
 }
@@ -580,7 +580,10 @@ function explanations() {
 const explained = explanations();
 
 /** The meaning of a code of refused lines. */
-const meaning = (code, isSecond) => (explained.get(code) ?? explained.get(`${code}/${isSecond ? 2 : 1}`))?.means ?? "";
+function meaning(code, isSecond) {
+  const { means = "" } = explained.get(code) ?? explained.get(`${code}/${isSecond ? 2 : 1}`) ?? {};
+  return means.replace(/^The line fault /, "");
+}
 
 /** A fault of the module as a sentence: what the program would say, and what that means. */
 function faultText(text) {
