@@ -700,6 +700,8 @@ def names_and_contrast(trials, page, room):
         trials.see(f"controls without a name: {place}", nameless, [])
         for look in ("light", "dark"):
             page.colours(look)
+            time.sleep(0.1)
+            page.wait(explorer.SETTLED)
             for state in explorer.STATES:
                 page.force(state)
                 low = [it for it in page.js(explorer.CONTRASTS) if it[1] < explorer.CONTRAST]

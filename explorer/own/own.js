@@ -69,7 +69,7 @@ async function ask(question, told = () => {}) {
   const answer = await new Promise((done) => {
     running.onmessage = ({ data }) => (data.kind === "reading" || data.kind === "counting" ? told(data) : done(data));
     running.onerror = (event) => done({ kind: "trap", text: event.message || "the worker didn't start" });
-    running.postMessage({ module, ...question });
+    running.postMessage({ module, ...question }, question.start ? [question.start] : []);
   });
   running.terminate();
   return mine === asked ? answer : null;

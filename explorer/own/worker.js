@@ -91,7 +91,7 @@ async function cubeOf(asked) {
     const ended = engine.calls.page_run(...places(schema, feeds), BigInt(lengths.at), BigInt(asked.files.length),
       ...places(cube, refusals), BigInt(said.at));
     const needed = engine.numbers(said);
-    if (ended !== 0) return { kind: "fault", text: engine.text(cube, needed[0]) };
+    if (ended !== 0) return { kind: "fault", text: engine.text(cube, needed[0]).replace(/^datacube: /, "").trimEnd() };
     if (needed[0] <= cube.size && needed[1] <= refusals.size) {
       const text = engine.text(refusals, needed[1]);
       return { kind: "cube", cube: new Blob([engine.bytes(cube, needed[0])]), refusals: text,
