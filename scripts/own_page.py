@@ -778,18 +778,34 @@ def large(trials, page, room):
 # Pictures.
 
 
+def shop_sales():
+    """Some sales of a shop, of which a few have no price that can be read."""
+    pick, lines = random.Random(3), ["order no,when,city,product,price,pieces"]
+    for at in range(2_000):
+        when = f"2026-{pick.randint(1, 6):02d}-{pick.randint(1, 28):02d}T{pick.randint(9, 17):02d}:{pick.randint(0, 59):02d}"
+        price = "free" if at % 500 == 77 else f"{pick.randint(120, 990) / 100:.2f}"
+        city, product = pick.choice(["Hull", "Leeds", "Leeds", "York", "York", "York"]), pick.choice(["cake", "coffee", "tea", "tea"])
+        lines.append(f"{10_000 + at},{when},{city},{product},{price},{pick.randint(1, 4)}")
+    return "\n".join(lines) + "\n"
+
+
 def pictures(page, room):
     """The pictures of docs/explorer/ whose names begin with `own-`."""
-    drop_sales(page, room)
-    write_file(f"{room}/shop sales.csv", large_feed(3000).encode())
-    page.driver.set_window_size(1240, 720)
+    write_file(f"{room}/sales.csv", shop_sales().encode())
+    page.colours("light")
+    page.driver.set_window_size(1080, 780)
     page.fresh()
-    screenshot(page, "own-start")
-    page.choose_files(f"{room}/shop sales.csv")
-    page.shows_cube("shop sales")
-    screenshot(page, "own-cube")
+    page.choose_files(f"{room}/sales.csv")
+    page.shows_cube("sales")
     page.change_columns()
+    page.js("document.querySelector('[data-own=\"time 1 10\"]').click()")
+    page.wait("return document.querySelector('#own .own-command').textContent.includes('--by when:7')")
+    page.set("use 4", "measure")
+    page.wait("return document.querySelector('#own .own-command').textContent.includes('price:2')")
     screenshot(page, "own-columns")
+    page.count("sales")
+    page.js("document.getElementById('own-refused').open = true")
+    screenshot(page, "own-cube")
     page.driver.set_window_size(1280, 800)
 
 

@@ -330,13 +330,13 @@ function takeSchema(text) {
 function readColumns(schema) {
   const delimiter = schema?.["feed.delimiter"] ?? delimiterOf(own.text);
   const [header = [], ...records] = recordsIn(own.text, delimiter, 200);
-  const nulls = schema?.["feed.null"] ?? [];
+  const nulls = schema?.["feed.null"] ?? [], point = schema?.["feed.point"] ?? ".";
   own.columns = header.map((name, at) => {
     const values = [...new Set(records.map((it) => it[at]).filter((it) => it !== undefined && !nulls.includes(it)))];
     const fault = header.indexOf(name) !== header.lastIndexOf(name) ? "its name stands in the header more than once"
       : name.includes("\ufffd") ? "its name isn't UTF-8" : "";
     return { name, at, examples: values.slice(0, EXAMPLES), isTime: values.length > 0 && values.every((it) => DATE.test(it)),
-      canBeUsed: !fault, why: fault || leftOut(schema, name) };
+      decimals: decimalsIn(values, point), canBeUsed: !fault, why: fault || leftOut(schema, name) };
   });
   if (!schema) return;
   by("own-nulls").value = recordOf(nulls);
@@ -346,10 +346,17 @@ function readColumns(schema) {
   own.of = schema.measures.map((name) => ({ column: from(name), decimals: schema[`decimals.${name}`] ?? "", isGiven: given.get(from(name)) }));
 }
 
+/** How many decimals those of some texts have that are numbers. */
+function decimalsIn(values, point) {
+  const found = values.map((it) => /^[+-]?\d+(?:([.,])(\d*?)0*)?$/.exec(it)).filter((it) => it?.[1] === point);
+  return Math.min(18, Math.max(0, ...found.map((it) => it[2].length)));
+}
+
 /** Why a schema leaves a column out, as its comments say. */
 function leftOut(schema, name) {
   const start = `${name || '""'}: `, found = schema?.comments.find((it) => it.startsWith(start)) ?? "";
-  return found.slice(start.length).split("; --")[0];
+  const why = found.slice(start.length).split("; --")[0];
+  return why === "--by doesn't name it" ? "" : why;
 }
 
 /** The texts of the two options for what is chosen. */
@@ -393,7 +400,8 @@ function setUse(column, use) {
   own.by = own.by.filter((it) => it.column !== column.name);
   own.of = own.of.filter((it) => it.column !== column.name);
   if (use === "dimension") own.by.push({ column: column.name, first: column.isTime ? 7 : 0 });
-  if (use === "measure") own.of.push({ column: column.name, decimals: "", isGiven: false });
+  // (the module finds the decimals of a column of numbers alone)
+  if (use === "measure") own.of.push({ column: column.name, decimals: column.decimals, isGiven: column.decimals > 0 });
 }
 
 /** Shows the choices, a line for each column; what has the focus keeps it. */
