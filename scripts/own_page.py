@@ -7,12 +7,13 @@ The page has to be what its parts give, its allocator is tried by random steps, 
 examples, of the cases that name files alone (some of them; all of them by `--all-cases`) and of N generated schemas, feeds and
 files (100), with a memory of 64 bits and with one of 32: the bytes, the refusals and the faults have to be the program's. Then
 files are dropped and chosen, columns chosen, the work stopped, results saved, by keyboard alone too, and the browser's own log
-is read for whatever was asked of a host. `--large` drops a file of a million lines, and says what it took; `--screenshots` takes
-the pictures of docs/explorer/ anew. Needs Debian's chromium-driver and python3-selenium; where one isn't there, or the browser
+is read for whatever was asked of a host. `--large` has the workloads of the measurements too, drops a file of a million lines,
+and says what they took; `--screenshots` takes the pictures of docs/explorer/ anew. Needs Debian's chromium-driver and python3-selenium; where one isn't there, or the browser
 doesn't start, the status is 77. The last line is `N passed, M failed`.
 """
 import argparse
 import base64
+import hashlib
 import json
 import os
 import random
@@ -32,6 +33,7 @@ import hostile
 import page as builder
 import programs
 from explorer import Trials, screenshot
+from workloads import WORKLOADS, make
 
 ROOT = programs.ROOT
 ADDRESS = f"file://{builder.PAGE}"
@@ -731,6 +733,29 @@ def asks_nobody(trials, page):
     trials.see("what was sent to a host", sent, [])
 
 
+def of_workloads(trials, page, room):
+    """The workloads of the measurements, at their own size."""
+    for name in WORKLOADS:
+        folder = f"{room}/{name}"
+        os.mkdir(folder)
+        schema, *feeds = make(folder, name, 64 if name == "many" else 1, 1.0)
+        for width in ("64", "32"):
+            page.fresh()
+            page.driver.execute_async_script("ownData.useModule(arguments[0]).then(arguments[1])", width)
+            start = time.monotonic()
+            page.choose_files(*feeds, schema)
+            page.wait("return Boolean(ownData.result())")
+            took = time.monotonic() - start
+            digest = page.driver.execute_async_script("""
+                const done = arguments[0];
+                ownData.result().cube.arrayBuffer().then((it) => crypto.subtle.digest("SHA-256", it))
+                  .then((it) => done([...new Uint8Array(it)].map((byte) => byte.toString(16).padStart(2, "0")).join("")));
+            """)
+            wanted = ran(folder, "print", schema, *feeds)[1]
+            trials.see(f"the workload {name}, {width} bits", digest, hashlib.sha256(wanted).hexdigest())
+            print(f"{name}, {width} bits: {len(wanted) / 1e6:.1f} MB of cube in {took:.1f} s")
+
+
 # A million lines.
 
 
@@ -848,6 +873,7 @@ def try_all(trials, page, room, given):
         trials.run(trial, page, room)
     trials.run(asks_nobody, page)
     if given.large:
+        trials.run(of_workloads, page, room)
         trials.run(large, page, room)
     if given.screenshots:
         pictures(page, room)
