@@ -8,8 +8,8 @@ examples, of the cases that name files alone (some of them; all of them by `--al
 files (100), with a memory of 64 bits and with one of 32: the bytes, the refusals and the faults have to be the program's. Then
 files are dropped and chosen, columns chosen, the work stopped, results saved, by keyboard alone too, and the browser's own log
 is read for whatever was asked of a host. `--large` has the workloads of the measurements too, drops a file of a million lines,
-and says what they took; `--screenshots` takes the pictures of docs/explorer/ anew. Needs Debian's chromium-driver and python3-selenium; where one isn't there, or the browser
-doesn't start, the status is 77. The last line is `N passed, M failed`.
+and says what they took; `--screenshots` takes the pictures of docs/explorer/ anew. Needs Debian's chromium-driver and
+python3-selenium; where one isn't there, or the browser doesn't start, the status is 77. The last line is `N passed, M failed`.
 """
 import argparse
 import base64
@@ -133,7 +133,7 @@ class Page(explorer.Page):
 
     def cube(self):
         """The bytes of the cube that is shown."""
-        return self.driver.execute_async_script("ownData.result().cube.text().then(arguments[0])").encode()
+        return self.driver.execute_async_script("ownData.shown().cube.text().then(arguments[0])").encode()
 
     def shell_words(self):
         """The words of the command that does the same."""
@@ -394,6 +394,21 @@ def first_minute(trials, page, room):
     page.count("sales")
     trials.see("the command of other columns", page.shell_words(), ["datacube", "table", "sales.csv", "--by", "when:7,product,order no", "--of", "price:3,qty"])
     trials.see("the cube of other columns", page.cube(), by_command(page, room))
+
+
+def other_columns(trials, page, room):
+    """What stands above a cube is of that cube, though other columns were chosen meanwhile."""
+    drop_sales(page, room)
+    before = page.cube(), page.shell_words()
+    page.change_columns()
+    page.set("use 0", "none")
+    page.wait("return document.querySelector('#own .own-command').textContent.includes('--by')")
+    page.at("#own-back").click()
+    trials.see("the command is the cube's", (page.cube(), page.shell_words()), before)
+    page.change_columns()
+    trials.see("the choice is still there", page.uses()[0], "none")
+    page.js("window.dispatchEvent(new ErrorEvent('error', { error: new Error('by a trial') }))")
+    trials.see("a fault of the page is told", page.shows_problem("This page met a fault of its own (Error: by a trial)") != "")
 
 
 def counts_alone(trials, page, room):
@@ -744,11 +759,11 @@ def of_workloads(trials, page, room):
             page.driver.execute_async_script("ownData.useModule(arguments[0]).then(arguments[1])", width)
             start = time.monotonic()
             page.choose_files(*feeds, schema)
-            page.wait("return Boolean(ownData.result())")
+            page.wait("return Boolean(ownData.shown())")
             took = time.monotonic() - start
             digest = page.driver.execute_async_script("""
                 const done = arguments[0];
-                ownData.result().cube.arrayBuffer().then((it) => crypto.subtle.digest("SHA-256", it))
+                ownData.shown().cube.arrayBuffer().then((it) => crypto.subtle.digest("SHA-256", it))
                   .then((it) => done([...new Uint8Array(it)].map((byte) => byte.toString(16).padStart(2, "0")).join("")));
             """)
             wanted = ran(folder, "print", schema, *feeds)[1]
@@ -868,8 +883,8 @@ def try_all(trials, page, room, given):
     trials.run(examples, page, room)
     trials.run(of_cases, page, room, given.all_cases)
     trials.run(generated, page, room, given.cases)
-    for trial in (first_minute, counts_alone, nulls, strange_names, schema_text, refused_lines, several_files, wrong_files, faults_of_module, too_large, stopped, saved, by_keyboard,
-                  names_and_contrast):
+    for trial in (first_minute, other_columns, counts_alone, nulls, strange_names, schema_text, refused_lines, several_files, wrong_files,
+                  faults_of_module, too_large, stopped, saved, by_keyboard, names_and_contrast):
         trials.run(trial, page, room)
     trials.run(asks_nobody, page)
     if given.large:

@@ -254,7 +254,7 @@ async function begin(facts, schema) {
   const [first] = facts;
   endCounting();
   own = { files: facts.map((it) => it.file), text: first.text.replace(/^\ufeff/, ""), notes: notesOn(facts, schema), schema: "", by: [], of: [],
-    given: null, nulls: null, isCountOnly: false, isEdited: Boolean(schema), isGuess: true, isShown: false, fault: "" };
+    given: null, nulls: null, isCountOnly: false, isEdited: Boolean(schema), isGuess: true, shown: null, fault: "" };
   const name = nameOfAll();
   by("own-title").textContent = name;
   for (const it of document.querySelectorAll(".own-notes")) {
@@ -470,11 +470,11 @@ function numberBox(key, label, name, value, min, max, set) {
 
 /** Counts the cube of the files by the schema, and shows it. */
 async function count() {
-  const mine = own, start = performance.now();
+  const mine = own, start = performance.now(), { schema, files, given } = own, command = commandOf();
   tell("");
   showWork(true);
   tick(start);
-  const answer = await ask({ kind: "cube", schema: own.given?.bytes ?? own.schema, files: own.files, delimiter: delimiterByte() }, showProgress);
+  const answer = await ask({ kind: "cube", schema: given?.bytes ?? schema, files, delimiter: delimiterByte() }, showProgress);
   if (!answer || mine !== own) return;
   stopTicking();
   showWork(false);
@@ -483,9 +483,7 @@ async function count() {
     by("own-count").focus();
     return;
   }
-  own.result = answer;
-  own.took = performance.now() - start;
-  await showCube(mine);
+  await showCube({ ...answer, schema, command, took: performance.now() - start });
 }
 
 const delimiterByte = () => (/^\s*delimiter\s*=\s*["'](\\t|[^"'])["']/m.exec(own.schema)?.[1].replace("\\t", "\t") ?? ",").charCodeAt(0);
@@ -538,36 +536,37 @@ function stop() {
   by("own-count").focus();
 }
 
-/** Shows the cube that was counted, and above it what it was made of. */
-async function showCube(mine) {
-  const { result, files } = own, before = cube;
+/** Shows the cube that was counted, and above it what it was made of, which stays though other columns are chosen. */
+async function showCube(counted) {
+  const mine = own, before = cube;
   if (by("own").contains(document.activeElement)) document.activeElement.blur(); // then the explorer gives it to its table
-  await open(new File([result.cube], cubeName(), { type: "text/csv" }));
+  await open(new File([counted.cube], cubeName(), { type: "text/csv" }));
   if (mine !== own) return;
   if (cube === before) {
     by("own-count").focus();
     return;
   }
-  own.isShown = true;
+  own.shown = counted;
   by("own").hidden = true;
   by("explorer").hidden = by("own-bar").hidden = false;
-  by("own-made").textContent = `Counted from ${nameOfAll()}, in ${(own.took / 1000).toFixed(1)} s, on this computer alone.`;
-  showRefused(result, files);
-  say(`The cube of ${files[0].name} is shown.${result.count ? ` ${by("own-refused-count").textContent}` : ""}`);
+  by("own-made").textContent = `Counted from ${nameOfAll()}, in ${(counted.took / 1000).toFixed(1)} s, on this computer alone.`;
+  by("own-bar").querySelector(".own-command").textContent = counted.command;
+  showRefused(counted);
+  say(`The cube of ${own.files[0].name} is shown.${counted.count ? ` ${by("own-refused-count").textContent}` : ""}`);
 }
 
 const cubeName = () => `${stem(own.files[0].name)} cube.csv`;
 const stem = (name) => name.replace(/\.[A-Za-z]{1,4}$/, "");
 
-function showRefused({ count, refused }, files) {
+function showRefused({ count, refused, schema }) {
   by("own-refused").hidden = !count;
   by("own-refused").open = false;
   if (!count) return;
   by("own-refused-count").textContent = `${number(count)} line${count > 1 ? "s were" : " was"} refused`
     + (count > refused.length ? `, the first ${refused.length} of which are` : "") + (count > refused.length ? " here." : ".");
-  const isSecond = /^\s*version\s*=\s*2/m.test(own.schema);
+  const isSecond = /^\s*version\s*=\s*2/m.test(schema);
   by("own-refused-rows").replaceChildren(...refused.map(({ source, record, code, line, text = "" }) => make("tr", {},
-    make("td", {}, files[source - 1].name), make("td", {}, line ? number(line) : "—"), make("td", {}, number(record)), make("td", {}, code),
+    make("td", {}, own.files[source - 1].name), make("td", {}, line ? number(line) : "—"), make("td", {}, number(record)), make("td", {}, code),
     make("td", {}, meaning(String(code), isSecond)), make("td", { class: "text" }, textNode(text)))));
 }
 
@@ -625,7 +624,7 @@ function commandOf() {
 const schemaName = () => `${stem(own.files[0].name)}.toml`;
 
 function showCommand() {
-  for (const it of document.querySelectorAll(".own-command")) it.textContent = commandOf();
+  by("own").querySelector(".own-command").textContent = commandOf();
 }
 
 // What the page listens to.
@@ -634,7 +633,7 @@ function showCommand() {
 function showColumns() {
   by("start").hidden = by("explorer").hidden = by("own-bar").hidden = true;
   by("own").hidden = false;
-  by("own-back").hidden = !own.isShown;
+  by("own-back").hidden = !own.shown;
   by("own-text").open = own.isEdited;
   if (own.columns || own.isEdited) showChoices();
   by("own-title").focus();
@@ -689,7 +688,14 @@ async function guessAgain() {
   await guess("", "");
 }
 
+/** A fault of the page itself is a sentence too. */
+function tellFault(fault) {
+  if (fault) tell(`This page met a fault of its own (${fault}). Load it anew; your files are as they were.`);
+}
+
 function listenToOwn() {
+  window.addEventListener("error", (event) => tellFault(event.error));
+  window.addEventListener("unhandledrejection", (event) => tellFault(event.reason));
   window.addEventListener("drop", (event) => {
     event.preventDefault();
     event.stopPropagation();
@@ -704,9 +710,9 @@ function listenToOwn() {
     if (files.length) take(files);
   }, true);
   const clicks = { "own-stop": stop, "own-count": count, "own-back": backToCube, "own-guess": guessAgain, "own-change": showColumns,
-    "own-other": () => by("chosen").click(), "own-save-cube": () => save(own.result.cube, cubeName(), "text/csv"),
-    "own-save-schema": () => save(own.schema, schemaName(), "text/plain"),
-    "own-save-refusals": () => save(own.result.refusals, `${stem(own.files[0].name)} refusals.csv`, "text/csv") };
+    "own-other": () => by("chosen").click(), "own-save-cube": () => save(own.shown.cube, cubeName(), "text/csv"),
+    "own-save-schema": () => save(own.shown.schema, schemaName(), "text/plain"),
+    "own-save-refusals": () => save(own.shown.refusals, `${stem(own.files[0].name)} refusals.csv`, "text/csv") };
   for (const [id, what] of Object.entries(clicks)) by(id).addEventListener("click", what);
   for (const it of document.querySelectorAll(".own-copy")) it.addEventListener("click", () => copy(it));
   by("own-schema").addEventListener("input", edited);
@@ -731,6 +737,6 @@ function putInPlace() {
 putInPlace();
 listenToOwn();
 // for whoever drives the page from outside: one question, asked as the page asks
-globalThis.ownData = { ask, result: () => own?.result, useModule: async (name) => { module = await moduleBytes(name); },
+globalThis.ownData = { ask, shown: () => own?.shown, useModule: async (name) => { module = await moduleBytes(name); },
   anew: () => { module = workerSource = null; } };
 }
