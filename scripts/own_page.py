@@ -811,6 +811,7 @@ def large(trials, page, room):
     print(f"{os.path.getsize(path) / 1e6:.1f} MB, a million lines: {took:.1f} s from the file to the table; {most - before:.0f} MiB more than "
           f"the empty page at most; the page's longest pause was {longest:.2f} s; {page.text('#about')}; {page.text('#own-made')}")
     trials.see("the cube of a million lines", page.cube(), by_command(page, room))
+    trials.see("the page answers meanwhile", longest < explorer.pause_for(took))
     trials.see("in 8 seconds", took < 8)
     trials.see("in 600 MB", most - before < 600e6 / 2**20)
 

@@ -2,7 +2,8 @@
 """Makes explorer/datacube.html: the explorer, what explorer/own/ adds to it, and the proved cube as WebAssembly, in one file.
 
     scripts/page.py ir RLIBS CRATE OUT.bc           proves the crate in the folder CRATE over the proved libraries in the folder
-                                                    RLIBS (NAME.rlib each), and keeps what the compiler hands to LLVM
+                                                    RLIBS (NAME.rlib each; or crates/, as `rt` leaves them there), and keeps
+                                                    what the compiler hands to LLVM
     scripts/page.py module IN.bc OUT64.wasm OUT32.wasm
                                                     makes the module of it, with a memory of 64 bits and with one of 32
     scripts/page.py page [MODULE64 MODULE32] [OUT.html]
@@ -16,6 +17,7 @@ again from the same files.
 """
 import argparse
 import base64
+import glob
 import gzip
 import hashlib
 import os
@@ -53,21 +55,34 @@ def kit():
 def keep_ir(rlibs, crate, out):
     """Builds a crate as a static library with a toolchain whose clang keeps what it is handed."""
     home, name = kit(), os.path.basename(os.path.realpath(crate))
-    rlibs, out = os.path.realpath(rlibs), os.path.realpath(out)
+    out = os.path.realpath(out)
     with tempfile.TemporaryDirectory(prefix="datacube-page-") as room:
         toolchain = f"{room}/toolchain"
         keeping_toolchain(home, toolchain, f"{room}/kept.bc")
+        rlibs = libraries_in(os.path.realpath(rlibs), room)
         words = [f"{home}/bin/rattle", "build", "--crate-name", name, "src/lib.rt"]
         for library in ("std", "core"):
             words += ["--extern", f"{library}={home}/rlibs/{library}.rlib"]
         for library in needs_of(name):
-            words += ["--extern", f"{library}={rlibs}/{library}.rlib"]
+            folder = rlibs if os.path.exists(f"{rlibs}/{library}.rlib") else f"{home}/rlibs"
+            words += ["--extern", f"{library}={folder}/{library}.rlib"]
         words += ["-L", f"dependency={home}/rlibs", "-L", f"dependency={rlibs}",
                   "--antt-project", f"{home}/rattle/logic/antt-project.json", "--logic-built", f"{home}/logic_built",
                   "--incremental", f"{room}/incremental", "--crate-type", "staticlib", "--toolchain", toolchain,
                   "--jobs", "2", "--links", f"{name}=", "-o", f"{room}/library.a"]
         subprocess.run(words, cwd=crate, check=True)
         shutil.copyfile(f"{room}/kept.bc", out)
+
+
+def libraries_in(folder, room):
+    """A folder of proved libraries: this one, or where it has crates, one of links to theirs."""
+    found = glob.glob(f"{folder}/*/out/rlib/*.rlib")
+    if not found:
+        return folder
+    os.mkdir(f"{room}/rlibs")
+    for path in found:
+        os.symlink(path, f"{room}/rlibs/{os.path.basename(path)}")
+    return f"{room}/rlibs"
 
 
 def keeping_toolchain(home, folder, kept):
