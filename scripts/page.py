@@ -183,11 +183,13 @@ def write(path, data):
 def page_of(packed64, packed32):
     """The page's text, with two modules that are packed."""
     part = lambda name: read(f"{OWN}/{name}").decode()
-    text = read(EXPLORER).decode()
+    text, codes = read(EXPLORER).decode(), explained()
+    if any("</script" in it for it in (part("own.js"), part("worker.js"), codes)):
+        sys.exit("a script of explorer/own/, or what the program explains, has the end of a script in it")
     head, body = part("style.css"), part("parts.html")
     for name, packed in (("64", packed64), ("32", packed32)):
         body += f'<script type="text/plain" id="own-module-{name}">{packed}</script>\n'
-    body += f'<script type="text/plain" id="own-explained">\n{explained()}</script>\n'
+    body += f'<script type="text/plain" id="own-explained">\n{codes}</script>\n'
     body += f'<script type="text/plain" id="own-worker">\n{part("worker.js")}</script>\n<script>\n{part("own.js")}</script>\n'
     text = put_before(text, "</head>", f"<style>\n{head}</style>\n")
     text = put_before(text, "</body>", body)
