@@ -191,8 +191,9 @@ def page_of(packed64, packed32):
         body += f'<script type="text/plain" id="own-module-{name}">{packed}</script>\n'
     body += f'<script type="text/plain" id="own-explained">\n{codes}</script>\n'
     body += f'<script type="text/plain" id="own-worker">\n{part("worker.js")}</script>\n<script>\n{part("own.js")}</script>\n'
-    text = put_before(text, "</head>", f"<style>\n{head}</style>\n")
-    text = put_before(text, "</body>", body)
+    # (the head is closed before any script, and the body behind the last one: neither mark is in a script)
+    text = put_before(text.partition("</head>"), f"<style>\n{head}</style>\n")
+    text = put_before(text.rpartition("</body>"), body)
     return with_policy(text)
 
 
@@ -201,11 +202,11 @@ def explained():
     return subprocess.run([programs.datacube(), "explain"], stdout=subprocess.PIPE, text=True, check=True).stdout
 
 
-def put_before(text, mark, more):
-    """A text with more of it before its last mark."""
-    start, found, end = text.rpartition(mark)
-    if not found:
-        sys.exit(f"{EXPLORER} has no {mark}")
+def put_before(parts, more):
+    """A text, parted at a mark, with more of it before the mark."""
+    start, mark, end = parts
+    if not mark:
+        sys.exit(f"{EXPLORER} has no end of its head or of its body")
     return start + more + mark + end
 
 
