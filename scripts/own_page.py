@@ -508,8 +508,16 @@ def refused_lines(trials, page, room):
     trials.see("how many were refused", page.text("#own-refused-count"), "3 lines were refused.")
     rows = page.js("return [...document.querySelectorAll('#own-refused-rows tr')].map((row) => [...row.children].map((it) => it.textContent))")
     trials.see("where they stand", [it[:4] for it in rows], [["prices.csv", "2", "1", "5"], ["prices.csv", "5", "2", "5"], ["prices.csv", "6", "3", "2"]])
-    trials.see("why", [it[4][:20] for it in rows], ["L5: a measure isn't ", "L5: a measure isn't ", "L2: a wrong number o"])
+    trials.see("why", [it[4] for it in rows], ["L5: a measure isn't a number. price is “1.5”.", "L5: a measure isn't a number. price is “abc”.",
+                                              "L2: a wrong number of fields. It has 1, and the header 2."])
     trials.see("what they say", [it[5] for it in rows], ['"Yo↵rk",1.5', "Leeds,abc", "Leeds"])
+    schema = b'dimensions = ["city"]\nmeasures = ["a", "b"]\naggregates = ["count(*)"]\n[feed]\nnull = ["-"]\ndelimiter = ";"\npoint = ","\n'
+    numbers = b"a;city;b\n-;York;1,50\n1,0;York;1,5000\n1;York;1,005\n1;York;,5\n1;York;1,\n1;York;+1\n1;York;-\n"
+    page.drop({"numbers.csv": numbers, "s.toml": schema + b"[decimals]\nb = 2\n"})
+    page.shows_cube("numbers")
+    why = page.js("return [...document.querySelectorAll('#own-refused-rows tr')].map((row) => [row.children[1], row.children[4]].map((it) => it.textContent))")
+    trials.see("which numbers aren't", why, [[line, f"L5: a measure isn't a number. {what}."] for line, what in (
+        ("3", "a is “1,0”"), ("4", "b is “1,005”"), ("5", "b is “,5”"), ("6", "b is “1,”"))])
 
 
 def several_files(trials, page, room):

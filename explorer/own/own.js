@@ -558,16 +558,51 @@ async function showCube(counted) {
 const cubeName = () => `${stem(own.files[0].name)} cube.csv`;
 const stem = (name) => name.replace(/\.[A-Za-z]{1,4}$/, "");
 
-function showRefused({ count, refused, schema }) {
+function showRefused(counted) {
+  const { count, refused, schema } = counted;
   by("own-refused").hidden = !count;
   by("own-refused").open = false;
   if (!count) return;
   by("own-refused-count").textContent = `${number(count)} line${count > 1 ? "s were" : " was"} refused`
     + (count > refused.length ? `, the first ${refused.length} of which are` : "") + (count > refused.length ? " here." : ".");
   const isSecond = /^\s*version\s*=\s*2/m.test(schema);
-  by("own-refused-rows").replaceChildren(...refused.map(({ source, record, code, line, text = "" }) => make("tr", {},
-    make("td", {}, own.files[source - 1].name), make("td", {}, line ? number(line) : "—"), make("td", {}, number(record)), make("td", {}, code),
-    make("td", {}, meaning(String(code), isSecond)), make("td", { class: "text" }, textNode(text)))));
+  const cause = causes(counted);
+  by("own-refused-rows").replaceChildren(...refused.map((it) => make("tr", {},
+    make("td", {}, own.files[it.source - 1].name), make("td", {}, it.line ? number(it.line) : "—"), make("td", {}, number(it.record)),
+    make("td", {}, it.code), make("td", {}, meaning(String(it.code), isSecond), ...cause(it)),
+    make("td", { class: "text" }, textNode(it.text ?? "")))));
+}
+
+/** What finds, of a refused line, the columns that are at fault, or how many fields it has, as nodes; nothing where it can't be told. */
+function causes({ schema, headers, delimiter }) {
+  const sign = String.fromCharCode(delimiter), fields = (text) => recordsIn(text, sign, 1)[0] ?? [];
+  const wholes = headers.map(fields), measures = measuresOf(schema);
+  return ({ source, code, text, isCut }) => {
+    const header = wholes[source - 1], record = fields(text ?? "");
+    if (!text || isCut) return [];
+    if (code === 2) return [` It has ${record.length}, and the header ${header.length}.`];
+    if (code !== 5) return [];
+    return measures.flatMap(({ column, isNumber }) => {
+      const field = record[header.indexOf(column)];
+      return field === undefined || isNumber(field) ? [] : [" ", textNode(column), " is “", textNode(field.slice(0, 40)), "”."];
+    });
+  };
+}
+
+/** The measures of a schema: each one's column, and whether a field is a number of it, or null. None where the schema is laid out
+ * in another way than this page reads. */
+function measuresOf(text) {
+  try {
+    const schema = readSchema(text), columns = schema["feed.columns"] ?? Object.create(null), point = schema["feed.point"] ?? ".";
+    const nulls = schema["feed.null"] ?? ["\\N"];
+    return schema.measures.map((name) => {
+      const decimals = schema[`decimals.${name}`], behind = decimals === undefined ? "" : `(?:\\${point}(?=\\d)\\d{0,${decimals}}0*)?`;
+      const spelled = new RegExp(`^[+-]?\\d+${behind}$`);
+      return { column: columns[name] ?? name, isNumber: (field) => nulls.includes(field) || spelled.test(field) };
+    });
+  } catch {
+    return [];
+  }
 }
 
 // Sentences.

@@ -5,6 +5,7 @@
 const PIECE = 4 << 20; // bytes of a file that are read at once
 const FIRST_ROOM = 256 << 20, LEAST_ROOM = 1 << 20, REFUSALS_ROOM = 1 << 20, SCHEMA_ROOM = 2 << 20;
 const MOST_REFUSED = 100, MOST_SHOWN = 300; // refused lines that are told of one by one, and how many bytes of each
+const MOST_HEADER = 1 << 16; // and of the header of their file
 const LF = 10, CR = 13, QUOTE = 34;
 
 /** There is no memory for what was asked. */
@@ -137,26 +138,30 @@ function refusedIn(text, engine, feeds, { files, delimiter }) {
     const [source, record, code] = line.split(",").map(Number);
     return { source, record, code };
   });
+  const headers = [];
   let from = feeds.at;
   for (const [at, file] of files.entries()) {
-    const own = refused.filter((it) => it.source === at + 1);
-    if (own.length) findLines(engine.bytes({ at: from, size: file.size }), delimiter, own);
+    const own = refused.filter((it) => it.source === at + 1), header = { record: 0, most: MOST_HEADER };
+    if (own.length) findLines(engine.bytes({ at: from, size: file.size }), delimiter, [header, ...own]);
+    headers.push(header.text ?? "");
     from += file.size;
   }
-  return { count: lines.length, refused };
+  return { count: lines.length, refused, headers, delimiter };
 }
 
-/** Finds the line and the text of refused records, which come in the order of the file. */
-function findLines(bytes, delimiter, refused) {
+/** Finds the line and the text of records, which come in the order of the file: the header is 0. */
+function findLines(bytes, delimiter, records) {
   let at = bytes[0] === 0xef && bytes[1] === 0xbb && bytes[2] === 0xbf ? 3 : 0, line = 1, next = 0;
-  for (let record = 0; next < refused.length; record++) {
+  for (let record = 0; next < records.length; record++) {
     while (at < bytes.length && (bytes[at] === LF || bytes[at] === CR)) if (bytes[at++] === LF) line++;
     if (at >= bytes.length) return;
     const end = recordEnd(bytes, at, delimiter);
-    if (refused[next].record === record) {
-      refused[next].line = line;
-      refused[next].text = new TextDecoder().decode(bytes.slice(at, Math.min(end, at + MOST_SHOWN)))
-        + (end - at > MOST_SHOWN ? "…" : "");
+    const found = records[next];
+    if (found.record === record) {
+      const most = found.most ?? MOST_SHOWN;
+      found.line = line;
+      found.isCut = end - at > most;
+      found.text = new TextDecoder().decode(bytes.slice(at, Math.min(end, at + most))) + (found.isCut ? "…" : "");
       next++;
     }
     for (; at < end; at++) if (bytes[at] === LF) line++;
