@@ -125,6 +125,8 @@ class Page(explorer.Page):
         self.wait("return !document.getElementById('own-bar').hidden && !document.getElementById('explorer').hidden"
                   " && document.title.startsWith(arguments[0])", f"{name} cube.csv")
         self.wait(explorer.SETTLED)
+        if self.at("#problem").is_displayed():
+            raise ValueError(self.text("#problem"))
 
     def shows_problem(self, start):
         """Waits for a sentence that begins so, and gives all of it."""

@@ -1,6 +1,6 @@
 "use strict";
 // A file of one's own becomes a cube in this page: the schema is guessed, shown as choices, and the proved module counts in a
-// worker. What the explorer has is used as it stands: `by`, `make`, `number`, `quoted`, `textNode`, `tell`, `open`, `cube`.
+// worker. What the explorer has is used as it stands: `by`, `make`, `number`, `quoted`, `textNode`, `tell`, `open`, `cube`, `rowsSeen`.
 
 {
 const LOOKED_AT = 16 << 20; // as many bytes of a file the module's guess may look at
@@ -244,9 +244,19 @@ async function showPrinted(file) {
   endCounting();
   own = null;
   by("own-bar").hidden = by("own").hidden = true;
-  await open(file);
+  await openCube(file);
   by("start").hidden = cube !== null;
   by("explorer").hidden = cube === null;
+}
+
+/** Has the explorer open a printed cube, and says whether it did. Rows of the cube of before aren't drawn meanwhile: they would be
+ * looked up in the new one when the parts around the table change its size. */
+async function openCube(file) {
+  const before = cube, { makeRow } = rowsSeen;
+  rowsSeen.makeRow = null;
+  await open(file);
+  if (cube === before) rowsSeen.makeRow = makeRow;
+  return cube !== before;
 }
 
 /** Begins with new files: by the schema that was dropped with them, or by one that is guessed. */
@@ -538,11 +548,11 @@ function stop() {
 
 /** Shows the cube that was counted, and above it what it was made of, which stays though other columns are chosen. */
 async function showCube(counted) {
-  const mine = own, before = cube;
+  const mine = own;
   if (by("own").contains(document.activeElement)) document.activeElement.blur(); // then the explorer gives it to its table
-  await open(new File([counted.cube], cubeName(), { type: "text/csv" }));
+  const isOpen = await openCube(new File([counted.cube], cubeName(), { type: "text/csv" }));
   if (mine !== own) return;
-  if (cube === before) {
+  if (!isOpen) {
     by("own-count").focus();
     return;
   }
