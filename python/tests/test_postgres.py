@@ -318,8 +318,8 @@ def interruptible():
 class Command:
     """The command, asked over its standard input."""
 
-    def __init__(self, *words):
-        pipes = {"stdin": subprocess.PIPE, "stdout": subprocess.PIPE, "stderr": subprocess.DEVNULL}
+    def __init__(self, *words, told=subprocess.DEVNULL):
+        pipes = {"stdin": subprocess.PIPE, "stdout": subprocess.PIPE, "stderr": told}
         command = [sys.executable, "-m", "jackraisin.postgres", *words]
         self.process = subprocess.Popen(command, env=environment(), preexec_fn=interruptible, **pipes)
 
@@ -458,7 +458,7 @@ class Moments(Base):
         """It doesn't stay in memory, and comes whole."""
         self.sales()
         follower = self.follower()
-        with mock.patch("jackraisin.postgres._stream.IN_MEMORY", 1000), mock.patch("jackraisin.postgres._mirror.IN_MEMORY", 1000):
+        with mock.patch("jackraisin.postgres._stream.IN_MEMORY", 1000), mock.patch("jackraisin.postgres._work.IN_MEMORY", 1000):
             self.run_sql("INSERT INTO {table} SELECT n, 'city ' || n % 10, NULL, n FROM generate_series(1, 20000) AS n")
             follower.catch_up(SECONDS)
         self.assertEqual(follower.slice({})[0]["count(*)"], 20000)
@@ -594,7 +594,7 @@ class Verified(Base):
         ):
             follower = self.follower(self.schema, verify=0.3)
             with self.subTest(words), self.assertLogs("jackraisin.postgres", "ERROR") as told, postgres.Server(follower) as server:
-                with follower._lock:
+                with follower._mirror._live.held():
                     change(follower._mirror._live)
                 until(lambda: follower.state.differences == 1, SECONDS)
                 until(lambda: follower.state.is_caught_up and follower.state.copies == 2, SECONDS)
@@ -619,7 +619,7 @@ class Verified(Base):
 
         follower._conclude = last
         with postgres.Server(follower) as server:
-            with follower._lock:
+            with follower._mirror._live.held():
                 follower._mirror._live.delete(1, "7")
             until(lambda: follower.state.is_caught_up and follower.state.copies == 2, SECONDS)
             self.assertEqual(get(f"{server.address}cube.csv")[2]["Datacube-Verified"], "0")
