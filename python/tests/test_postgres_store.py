@@ -38,6 +38,7 @@ class Stored:
         return f"{test_postgres.PRIVATE.room}/{self.table}.db"
 
     def drop(self):
+        self.is_free()
         super().drop()
         for it in self.files():
             os.unlink(it)
@@ -50,12 +51,17 @@ class Stored:
         folder, name = os.path.split(self.path())
         return sorted(f"{folder}/{it}" for it in os.listdir(folder) if it.startswith(name))
 
+    def is_free(self):
+        """Waits until the server has seen that nobody is at a slot."""
+        until(lambda: not test_postgres.PRIVATE.ask("SELECT FROM pg_replication_slots WHERE active"), SECONDS)
+
     def stored(self, **options):
         """A follower over the store that has caught up."""
         return self.follower(store=self.path(), **options)
 
     def goes_on(self, *statements, copies=0, **options):
         """Sees that a follower which is started behind some statements has the table's cube, and how often it copied the table."""
+        self.is_free()
         self.run_sql(*statements)
         follower = self.stored(**options)
         self.same(follower)
@@ -349,7 +355,7 @@ class GoesOn(Stored, test_postgres.Base):
                             usual(*words)
                         raise SystemExit("broken off")
 
-                    with mock.patch(path, broken), mock.patch.object(follower, "_finish", lambda: None):
+                    with mock.patch(path, broken), mock.patch.object(follower, "_finish", lambda _: None):
                         self.run_sql("TRUNCATE {table}", "INSERT INTO {table} VALUES (1, 'York', 'tea', 1)")
                         until(lambda: follower._thread.is_alive() is False or follower.state.failure, SECONDS)
                     follower.close()
@@ -367,7 +373,9 @@ class GoesOn(Stored, test_postgres.Base):
             self.same(follower)
             self.assertEqual(follower.state.copies, 1)
             until(lambda: follower._mirror.session.changes < 1000)
-            self.assertEqual(answers[1:], sorted(answers[1:]))
+            # (those of the first row alone, before the first update, are more)
+            answers = answers[answers.index(next(it for it in answers if it != answers[0])) :]
+            self.assertEqual(answers, sorted(answers))
             follower.close()
             self.assertLess(self.noted().changes, 1000)
             self.assertEqual(self.noted().rows, 3)

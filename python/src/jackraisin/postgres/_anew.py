@@ -48,4 +48,8 @@ class StoreAnew(InSnapshot):
         assert self.lsn is not None
         if has_many(self._changes, self.rows):
             TOLD.info("the store has %d changes of %d rows, and is made anew beside the old one", self._changes, self.rows)
-            self.copy = self._copied(connection, snapshot, self.lsn)
+            copy = self._copied(connection, snapshot, self.lsn)
+            if self._is_given_up:
+                copy.mirror.close()
+            else:
+                self.copy = copy

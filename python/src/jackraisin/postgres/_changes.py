@@ -78,9 +78,10 @@ class Changes:
             self._insert(work, whole)
 
     def _delete(self, work: Work, id: str) -> None:
-        if id in self.skipped.ids:
-            self.skipped.ids.remove(id)
-        else:
+        is_skipped = id in self.skipped.ids
+        self.skipped.ids.discard(id)
+        # (where changes may come twice, a row that is left out now may have been there then)
+        if not is_skipped or self._may_come_twice:
             work.delete(id)
 
     def _fields(self, values: Values) -> Union[List[str], RowUnsayable]:

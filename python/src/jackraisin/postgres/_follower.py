@@ -246,7 +246,6 @@ class Follower(Questions, Running):
                 if self._served is mirror:
                     raise
                 continue
-            self._answered = max(self._answered, state.lsn)
             return state, text
 
     def _to_ask(self) -> Mirror:
@@ -261,6 +260,7 @@ class Follower(Questions, Running):
         with self._lock:
             if self._served is not mirror:
                 raise Replaced
+            self._answered = max(self._answered, self._state.lsn)
             begun()
             return self._state
 
@@ -285,7 +285,7 @@ class Follower(Questions, Running):
         self._set(is_connected=False)
         try:
             # (before the failure is told: whoever is told may begin another follower, whose slot has the same name)
-            self._finish()
+            self._finish(failure is None)
             self._drop_own()
         except DatacubeError as why:
             failure = failure or why
@@ -295,11 +295,11 @@ class Follower(Questions, Running):
                 self._store.close()
             self._set(failure=failure)
 
-    def _finish(self) -> None:
-        """Ends the session over a store well."""
+    def _finish(self, is_whole: bool) -> None:
+        """Ends the session over a store well; where nothing was broken off, the next start goes on from here."""
         kept = self._served or self._mirror
         if isinstance(kept, StoredMirror) and kept.is_chosen:
-            kept.finish()
+            kept.finish(is_whole)
 
     def _drop_own(self) -> None:
         """Drops the slot and the publication that this follower made, unless there is a store that goes on with them."""
@@ -446,7 +446,7 @@ class Follower(Questions, Running):
             raise BeginAnew(f"the server's log ends at {lsn_text(self._target)}, and the store {store.path} is further: the server was set back")
         table = table_of(note.about["table"])
         rows, skipped = self._rows_of(table), Skipped(note.left_out)
-        mirror = StoredMirror(store.open(note), self.schema, note.place, store, self._note, is_chosen=True)
+        mirror = StoredMirror(store.open(note, self._ending), self.schema, note.place, store, self._note, is_chosen=True)
         mirror.excuse(True)
         self._table, self._counted, self._answered = table, note.rows, note.answered
         ends = list(self._ends)
@@ -675,6 +675,9 @@ class Follower(Questions, Running):
             self._arrive(it)
         else:
             self._compare(it.end, False)
+            if self._served is not self._mirror and it.end > self._target:
+                # (transactions come in the order of their commits)
+                self._arrive(self._target)
             self._apply(it)
             self._arrive(it.end)
 

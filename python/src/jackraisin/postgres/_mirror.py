@@ -93,10 +93,6 @@ class Mirror:
         with contextlib.suppress(Ended):
             old.close()
 
-    def finish(self) -> None:
-        """Ends the session well."""
-        self.close()
-
     def check(self) -> None:
         """Raises where the session refused a row or a change, which none of a table's is."""
         self._check(self._refused())

@@ -6,6 +6,7 @@ import glob
 import os
 import re
 import secrets
+import threading
 import time
 from typing import Callable, Optional
 
@@ -52,8 +53,9 @@ class Store:
         self._clean(self._path_of(word) if word else None)
         return self.notes.of(word) if word else None
 
-    def open(self, note: Note) -> StoredSession:
-        """A session over the store that is gone on with. Raises `BeginAnew` where it isn't what is noted."""
+    def open(self, note: Note, ending: threading.Event) -> StoredSession:
+        """A session over the store that is gone on with, which the program of an earlier follower may have yet; an event ends the wait
+        for that. Raises `BeginAnew` where it isn't what is noted."""
         word = self.notes.whole()
         assert word is not None
         path, end = self._path_of(word), time.monotonic() + SECONDS_IN_USE
@@ -66,9 +68,8 @@ class Store:
                 code = why.line.partition(" ")[0]
                 if code in UNFIT:
                     raise BeginAnew(f"the store {path} isn't the one that was noted, or is damaged ({why.line})") from None
-                if code != "D1" or time.monotonic() > end:
+                if code != "D1" or time.monotonic() > end or ending.wait(SECONDS_BETWEEN_TRIES):
                     raise
-            time.sleep(SECONDS_BETWEEN_TRIES)
 
     def begin(self) -> StoredSession:
         """A session over an empty store, at the path where nothing is, else beside it."""
@@ -131,8 +132,9 @@ class StoredMirror(Mirror):
     def close(self) -> None:
         self.session.kill()
 
-    def finish(self) -> None:
-        self.keep()
+    def finish(self, is_whole: bool) -> None:
+        if is_whole:
+            self.keep()
         self._store.end(self.session)
 
     def choose(self) -> None:
