@@ -3,11 +3,9 @@
 With DATACUBE_LONG=1 in the environment the follower is killed 50 times among the writers."""
 import contextlib
 import itertools
-import json
 import os
 import random
 import signal
-import sqlite3
 import subprocess
 import sys
 import tempfile
@@ -25,7 +23,7 @@ from test_postgres import SALES, SECONDS, Command
 
 if private_server.missing() is None:
     from jackraisin import postgres
-    from jackraisin.postgres import CantFollow, Follower, NotCaughtUp, _notes, _store
+    from jackraisin.postgres import CantFollow, Follower, _notes, _together
 
 KILLS = 50 if LONG else 5
 setUpModule, tearDownModule = test_postgres.setUpModule, test_postgres.tearDownModule
@@ -382,6 +380,45 @@ class GoesOn(Stored, test_postgres.Base):
             self.goes_on("UPDATE {table} SET cents = 9").close()
         self.assertEqual(len(self.kept()), 2)
 
+    def test_a_store_that_isnt_the_tables(self):
+        """It is found out, and made anew; a start goes on with that one."""
+        self.looking_often()
+        with self.assertLogs("jackraisin.postgres", "ERROR"):
+            follower = self.stored(verify=0.3)
+            with follower._mirror._live.held():
+                follower._mirror._live.remove(1, "1;")
+            until(lambda: follower.state.differences == 1 and follower.state.is_caught_up and follower.state.is_verified, SECONDS)
+        self.same(follower)
+        follower.close()
+        self.goes_on("UPDATE {table} SET cents = cents + 1")
+
+    def test_partitions(self):
+        self.run_sql(
+            "DROP TABLE {table}", "CREATE TABLE {table} (id int, city text, product text, cents bigint, PRIMARY KEY (city, id)) PARTITION BY LIST (city)",
+            "CREATE TABLE {table}_york PARTITION OF {table} FOR VALUES IN ('York')", "CREATE TABLE {table}_rest PARTITION OF {table} DEFAULT",
+            "INSERT INTO {table} VALUES (1, 'York', 'tea', 5), (2, 'Leeds', NULL, 7)",
+        )
+        self.stored().close()
+        self.goes_on("UPDATE {table} SET city = 'Hull' WHERE id = 1", "INSERT INTO {table} VALUES (3, 'York', 'tea', 1)").close()
+        with self.assertLogs("jackraisin.postgres", "WARNING") as told:
+            self.goes_on("ALTER TABLE {table} DETACH PARTITION {table}_york", copies=1).close()
+        self.assertIn("partitions", told.output[0])
+        self.goes_on("INSERT INTO {table} VALUES (4, 'Hull', 'tea', 1)")
+        self.addCleanup(self.run_sql, "DROP TABLE IF EXISTS {table}_york")
+
+    def test_a_server_that_crashes(self):
+        follower = self.stored()
+        for how in (signal.SIGQUIT, signal.SIGINT):
+            self.run_sql("UPDATE {table} SET cents = cents + 1")
+            test_postgres.PRIVATE.server.end(how)
+            self.assertEqual(follower.slice({})[0]["count(*)"], 3)
+            test_postgres.PRIVATE.server.begin()
+            self.run_sql("INSERT INTO {table} SELECT max(id) + 1, 'York', 'tea', 1 FROM {table}", "DELETE FROM {table} WHERE id = 2")
+            self.run_sql("INSERT INTO {table} VALUES (2, 'York', 'tea', 1)", "DELETE FROM {table} WHERE id = 1", "INSERT INTO {table} VALUES (1, 'York', 'tea', 1)", "DELETE FROM {table} WHERE id > 3")
+            self.same(follower)
+        follower.close()
+        self.goes_on("UPDATE {table} SET cents = cents + 1")
+
     def test_drop(self):
         follower = self.stored()
         follower.close()
@@ -520,6 +557,28 @@ class Readers(test_postgres.Base):
                 it.join()
         self.assertEqual(set(answers), {self.cube_of_sql()})
         self.assertLess(len(asked), 6)
+
+
+class Turns(unittest.TestCase):
+    def test_who_asks_for_little_goes_first(self):
+        turns, order, has_begun = _together.Turns(), [], threading.Event()
+
+        def ask(name, is_long):
+            with turns.turn(is_long):
+                order.append(name)
+                if name == "first":
+                    has_begun.set()
+                    until(lambda: turns._short == 2, SECONDS)
+
+        first = threading.Thread(target=ask, args=["first", True])
+        first.start()
+        self.assertTrue(has_begun.wait(SECONDS))
+        others = [threading.Thread(target=ask, args=it) for it in (["long", True], ["short", False], ["short", False])]
+        for it in others:
+            it.start()
+        for it in [first, *others]:
+            it.join()
+        self.assertEqual(order, ["first", "short", "short", "long"])
 
 
 class WithoutDriver(unittest.TestCase):

@@ -38,13 +38,15 @@ from ._store import Store, StoredMirror
 from ._stream import Stream, Transaction
 from ._table import Table, check_same, find, look, noted, read_table, table_of, untold
 from ._taker import Taker
-from ._together import Together
+from ._together import Together, Turns
 from ._values import Rows, Skipped
 from ._work import END, SOURCE
 
 if TYPE_CHECKING:
     from psycopg2.extensions import connection as Connection
 
+# (the question whose answer is long)
+WHOLE: Final = "print"
 # (a schema's `feed` that says nothing but that it is there)
 NO_COLUMNS: Final[Mapping[str, Any]] = {}
 # (how often the table's columns are looked at, and how long one wait for changes is)
@@ -156,6 +158,7 @@ class Follower(Questions, Running):
         self._served: Optional[Mirror] = None
         self._target = self._answered = self._counted = 0
         self._together: Together[Tuple[State, str]] = Together()
+        self._turns = Turns()
         self._has_slot = self._has_publication = False
         self._place: Optional[Place] = None
         self._table: Optional[Table] = None
@@ -239,7 +242,8 @@ class Follower(Questions, Running):
         while True:
             mirror = self._to_ask()
             try:
-                state, text = mirror.ask_at(lambda: self._state_of(mirror, begun), question, *fields)
+                with self._turns.turn(question == WHOLE):
+                    state, text = mirror.ask_at(lambda: self._state_of(mirror, begun), question, *fields)
             except BeginAnew as why:
                 raise NotCaughtUp(f"{why}: table {self.name} is copied again") from None
             except (Ended, Replaced):
