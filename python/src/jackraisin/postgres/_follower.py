@@ -9,44 +9,42 @@ import os
 import tempfile
 import threading
 import time
-from dataclasses import dataclass, replace
 from typing import TYPE_CHECKING, Any, Callable, Deque, Dict, Final, Iterator, Mapping, Optional, Sequence, Set, TextIO, Tuple, Union
 
 import psycopg2
 import psycopg2.errors
 
 from .._ask import Given
-from .._errors import DatacubeError, Ended
+from .._errors import DatacubeError
 from .._live import Live
 from .._program import Path
-from .._questions import Questions
 from .._schema import Schema, schema_of
 from ._anew import SECONDS_AFTER_FAILURE, StoreAnew, has_many
 from ._changes import Changes
 from ._comparison import Comparison
 from ._copy import Copy, RowsWriter, copy_table
-from ._errors import BeginAnew, CantFollow, ColumnsChanged, NotCaughtUp
-from ._mirror import Mirror, Replaced
+from ._errors import BeginAnew, CantFollow
+from ._lsn import lsn_text
+from ._mirror import Mirror
 from ._notes import Note
 from ._publication import check_not_anothers, check_publication, drop_publication, fault_of, make_publication
+from ._resumed import Resumed
 from ._running import Running
 from ._slot import (
-    TOLD, AnyConnection, Place, cancel, check_server, connect, connect_to_replicate, drop_slot, free_slot, lsn_text, make_slot, now_of, place_of,
-    slot_name,
+    TOLD, AnyConnection, Place, cancel, check_server, connect, connect_to_replicate, drop_slot, make_slot, now_of, place_of, slot_name,
 )
+from ._state import Asked
+from ._state import State as State
 from ._store import Store, StoredMirror
 from ._stream import Stream, Transaction
-from ._table import Table, check_same, find, look, noted, read_table, table_of, untold
+from ._table import Table, check_same, look, noted, read_table, table_of, untold
 from ._taker import Taker
-from ._together import Together, Turns
 from ._values import Rows, Skipped
 from ._work import END, SOURCE
 
 if TYPE_CHECKING:
     from psycopg2.extensions import connection as Connection
 
-# (the question whose answer is long)
-WHOLE: Final = "print"
 # (a schema's `feed` that says nothing but that it is there)
 NO_COLUMNS: Final[Mapping[str, Any]] = {}
 # (how often the table's columns are looked at, and how long one wait for changes is)
@@ -60,49 +58,7 @@ FIRST_PAUSE, LONGEST_PAUSE = 0.1, 5.0
 OF_CONNECTIONS, IN_USE = ("08", "53", "57"), "55006"
 
 
-@dataclass(frozen=True)
-class State:
-    """How far a follower is. All that was committed before `lsn` is in the cube, and nothing after it; `behind` is by how
-    many bytes of log the server was ahead at the last look, once a second. Before `looked` the table wasn't changed in a way
-    that its log doesn't tell. `last_commit` is when the last transaction that was taken was committed, by the server's clock, in
-    seconds since 1970 began. `is_verified` says whether the cube had the table's totals when they were compared last, and
-    `differences` how often it hadn't; `copies` is how often the table was copied, and `remade` how often a store was made anew beside
-    the one that went on. All that was committed until `as_of`, a time of `time.monotonic`, is in the cube. `version` changes
-    where the cube does."""
-
-    is_caught_up: bool = False
-    is_connected: bool = False
-    lsn: int = 0
-    looked: int = 0
-    behind: int = 0
-    copies: int = 0
-    remade: int = 0
-    rows_copied: int = 0
-    transactions: int = 0
-    changes: int = 0
-    skipped: int = 0
-    differences: int = 0
-    is_verified: Optional[bool] = None
-    last_commit: Optional[float] = None
-    as_of: Optional[float] = None
-    failure: Optional[BaseException] = None
-
-    @property
-    def lsn_text(self) -> str:
-        return lsn_text(self.lsn)
-
-    @property
-    def behind_seconds(self) -> Optional[float]:
-        """How long ago the moment is whose commits are all in the cube: it is behind by so many seconds at most, also where the
-        connection is lost. None before the follower has caught up for the first time."""
-        return None if self.as_of is None else time.monotonic() - self.as_of
-
-    @property
-    def version(self) -> Tuple[int, int]:
-        return self.copies, self.transactions
-
-
-class Follower(Questions, Running):
+class Follower(Asked, Running):
     """A cube over a table of PostgreSQL, which takes each transaction whole, in the order of their commits.
 
     It makes a publication and a replication slot, copies the table as it is in the slot's snapshot, and then takes the changes
@@ -140,25 +96,19 @@ class Follower(Questions, Running):
         verify: float = 600,
         store: Optional[Path] = None,
     ) -> None:
+        super().__init__(table)
         given = schema_of(schema)
         # (version 2 can say that a value is kept, and a feed by names that a fact is put or removed, whether or not it is there)
         names, feed = (given.dimensions, given.measures, given.aggregates), None if store is None else NO_COLUMNS
         self.schema = Schema(*names, grouping=given.grouping, version=2, decimals=given.decimals, feed=feed)
-        self.dsn, self.name, self.slot, self.publication, self.skip = dsn, table, slot, publication, skip
+        self.dsn, self.slot, self.publication, self.skip = dsn, slot, publication, skip
         self.store = store
         self._store: Optional[Store] = None
         self._columns = dimensions, measures, scale or {}
-        # (what is held is the lock itself: Ctrl-C may come between the begin of a condition's own release and its end)
-        self._lock = threading.RLock()
-        self._changed = threading.Condition(self._lock)
-        self._state = State()
-        # (what takes changes, and what is asked: another one where a store was made anew and isn't as far yet, and none before the
+        # (what takes changes: what is asked is another one where a store was made anew and isn't as far yet, and none before the
         # follower has come to its target)
         self._mirror: Optional[Mirror] = None
-        self._served: Optional[Mirror] = None
-        self._target = self._answered = self._counted = 0
-        self._together: Together[Tuple[State, str]] = Together()
-        self._turns = Turns()
+        self._target = self._counted = 0
         self._has_slot = self._has_publication = False
         self._place: Optional[Place] = None
         self._table: Optional[Table] = None
@@ -176,7 +126,6 @@ class Follower(Questions, Running):
         # (where the server's log ended, and when that was asked for, where the follower hasn't come to yet)
         self._ends: Deque[Tuple[int, float]] = collections.deque()
         self._connections: Set["Connection"] = set()
-        self._ending = threading.Event()
         self._thread = threading.Thread(target=self._run, name="datacube follower", daemon=True)
 
     # What others call.
@@ -195,23 +144,6 @@ class Follower(Questions, Running):
                 cancel(connection, [it.info.backend_pid for it in list(self._connections)])
             self._thread.join(SECONDS_TO_END)
 
-    @property
-    def state(self) -> State:
-        return self._state
-
-    def check(self) -> None:
-        """Raises why the follower stopped, where it did."""
-        if self._state.failure:
-            raise self._state.failure
-
-    def wait(self, seconds: Optional[float] = None) -> State:
-        """Waits until the follower has caught up with the table."""
-        return self._wait(lambda it: it.is_caught_up, seconds)
-
-    def wait_for(self, lsn: int, seconds: Optional[float] = None) -> State:
-        """Waits until all that was committed before an LSN is in the cube."""
-        return self._wait(lambda it: it.is_caught_up and it.lsn >= lsn, seconds)
-
     def catch_up(self, seconds: Optional[float] = None) -> State:
         """Waits until all that is committed now is in the cube. Where the table was altered since the last look, it waits for the
         next one, which may lead to a new copy."""
@@ -228,53 +160,6 @@ class Follower(Questions, Running):
         with connection.cursor() as cursor, contextlib.suppress(CantFollow):
             return table is not None and look(cursor, table.oid) == table
         return False
-
-    def ask(self, question: str, *fields: str) -> str:
-        """The text that answers a question of a session: `print`, or `slice` with a field for each dimension."""
-        return self.ask_with_state(question, *fields)[1]
-
-    def ask_with_state(self, question: str, *fields: str) -> Tuple[State, str]:
-        """The same, and the state that it is an answer of. Changes go on being taken while it is answered; those who ask the same
-        while another question is answered have one answer."""
-        return self._together.ask((question, *fields), lambda begun: self._asked(begun, question, *fields))
-
-    def _asked(self, begun: Callable[[], None], question: str, *fields: str) -> Tuple[State, str]:
-        while True:
-            mirror = self._to_ask()
-            try:
-                with self._turns.turn(question == WHOLE):
-                    state, text = mirror.ask_at(lambda: self._state_of(mirror, begun), question, *fields)
-            except BeginAnew as why:
-                raise NotCaughtUp(f"{why}: table {self.name} is copied again") from None
-            except (Ended, Replaced):
-                if self._served is mirror:
-                    raise
-                continue
-            return state, text
-
-    def _to_ask(self) -> Mirror:
-        with self._lock:
-            self.check()
-            if self._served is None:
-                raise NotCaughtUp(f"the follower hasn't caught up with table {self.name}")
-            return self._served
-
-    def _state_of(self, mirror: Mirror, begun: Callable[[], None]) -> State:
-        """The state at which a mirror is asked, where it is the one to be asked."""
-        with self._lock:
-            if self._served is not mirror:
-                raise Replaced
-            self._answered = max(self._answered, self._state.lsn)
-            begun()
-            return self._state
-
-    def _wait(self, is_there: Callable[[State], bool], seconds: Optional[float]) -> State:
-        with self._lock:
-            self._changed.wait_for(lambda: self._state.failure or self._ending.is_set() or is_there(self._state), seconds)
-            self.check()
-            if not is_there(self._state):
-                raise NotCaughtUp(f"the follower hasn't caught up with table {self.name}: it is at {self._state.lsn_text}")
-            return self._state
 
     # What the thread does.
 
@@ -440,14 +325,19 @@ class Follower(Questions, Running):
         note = store.noted()
         if note is None:
             return None
+        resumed = Resumed(store, note, self.name, self.publication)
         with self._open(connect(self.dsn)) as connection:
             check_server(connection)
             with self._open(connect_to_replicate(self.dsn)) as replication:
                 place = self._place = place_of(replication)
-            self._check_noted(connection, note, place)
+            resumed.check_server(place, self.slot)
+            resumed.check_table(connection)
+            self.slot = note.about["slot"]
+            resumed.check_slot(connection)
+            self._has_slot = True
+            resumed.check_settings(self._settings())
             self._target = self._end_of(connection)
-        if max(note.place, note.answered) > self._target:
-            raise BeginAnew(f"the server's log ends at {lsn_text(self._target)}, and the store {store.path} is further: the server was set back")
+        resumed.check_end(self._target)
         table = table_of(note.about["table"])
         rows, skipped = self._rows_of(table), Skipped(note.left_out)
         mirror = StoredMirror(store.open(note, self._ending), self.schema, note.place, store, self._note, is_chosen=True)
@@ -459,45 +349,6 @@ class Follower(Questions, Running):
         self._set(lsn=note.place, skipped=len(skipped.ids))
         TOLD.info("going on over the store %s of table %s, from %s", store.path, table, lsn_text(note.place))
         return place
-
-    def _check_noted(self, connection: "Connection", note: Note, place: Place) -> None:
-        """Raises where what is noted doesn't go with what was asked for, or with what is there now."""
-        about, store = note.about, self.store
-        if self.slot not in (None, about["slot"]):
-            raise CantFollow(f"the store {store} goes with the slot {about['slot']}, and the slot {self.slot} was given: name another store, or that slot")
-        if about["place"] != [place.server, place.timeline]:
-            raise BeginAnew(f"the store {store} is of another server, or the server was set back")
-        self._check_noted_table(connection, about)
-        if about["settings"] != self._settings():
-            raise BeginAnew(f"the store {store} was made with another schema, other columns, scales or another publication")
-        taken = free_slot(connection, about["slot"])
-        if taken is None:
-            raise BeginAnew(f"the slot {about['slot']} is gone")
-        if taken > note.place:
-            raise BeginAnew(f"the slot {about['slot']} is at {lsn_text(taken)}, and the store {store} at {lsn_text(note.place)}: others took what is between")
-        self.slot, self._has_slot = about["slot"], True
-
-    def _check_noted_table(self, connection: "Connection", about: Mapping[str, Any]) -> None:
-        """Raises where the table isn't the one that is noted any more. Its name may be another one now."""
-        before = table_of(about["table"])
-        with connection.cursor() as cursor:
-            named = find(cursor, self.name)
-            if named is not None and named[0] != before.oid:
-                self._leave(connection, about)
-                raise BeginAnew(f"{self.name} is another table than the one that the store {self.store} is of")
-            now = look(cursor, before.oid)
-        try:
-            check_same(before, now, about["names"])
-        except ColumnsChanged as why:
-            raise BeginAnew(f"{why}") from None
-
-    def _leave(self, connection: "Connection", about: Mapping[str, Any]) -> None:
-        """Drops the slot and the publication of a store that is of another table than the one that is followed now."""
-        assert self._store is not None
-        self._store.notes.forget()
-        drop_slot(connection, about["slot"], is_own=True)
-        if self.publication is None:
-            drop_publication(connection, about["slot"])
 
     def _settings(self) -> Any:
         """What a store's start has to have in common with the next one's, as JSON has it."""
@@ -777,11 +628,6 @@ class Follower(Questions, Running):
                 yield connection
             finally:
                 self._connections.discard(connection)
-
-    def _set(self, **what: Any) -> None:
-        with self._lock:
-            self._state = replace(self._state, **what)
-            self._changed.notify_all()
 
     def _put_mirror(self, mirror: Optional[Mirror]) -> None:
         """Puts a session in place of what is there, which ends; it is asked once it has come to its target."""

@@ -14,6 +14,7 @@ import psycopg2.extensions
 import psycopg2.extras
 
 from ._errors import CantFollow
+from ._lsn import lsn_of
 from ._table import one
 
 if TYPE_CHECKING:
@@ -219,14 +220,3 @@ def cancel(connection: "Connection", processes: Sequence[int]) -> None:
     with connection.cursor() as cursor:
         for it in processes:
             cursor.execute("SELECT pg_cancel_backend(%s)", [it])
-
-
-def lsn_of(text: str) -> int:
-    """An LSN as a number of bytes."""
-    high, low = text.split("/")
-    return (int(high, 16) << 32) + int(low, 16)
-
-
-def lsn_text(lsn: int) -> str:
-    """An LSN as PostgreSQL writes it."""
-    return f"{lsn >> 32:X}/{lsn & 0xFFFFFFFF:X}"
