@@ -26,6 +26,12 @@ if private_server.missing() is None:
     from jackraisin.postgres import CantFollow, Follower, _notes, _together
 
 KILLS = 50 if LONG else 5
+# (each leaves rows whose cents add up to nothing)
+PAIRS = [
+    "INSERT INTO {table} SELECT n, 'city ' || n / 2 % 3, NULL, CASE WHEN n % 2 = 0 THEN 1 ELSE -1 END * (n / 2) FROM generate_series({at}, {at} + 9) AS n",
+    "UPDATE {table} SET cents = -cents, city = 'b', id = id + 1000000000 WHERE id BETWEEN {at} AND {at} + 5",
+    "DELETE FROM {table} WHERE id BETWEEN {at} + 6 AND {at} + 7 OR id BETWEEN 1000000000 + {at} AND 1000000001 + {at}",
+]
 setUpModule, tearDownModule = test_postgres.setUpModule, test_postgres.tearDownModule
 
 
@@ -128,7 +134,8 @@ class Killed(Stored, test_postgres.WithWriters):
         self.assertEqual(command.end(), 0)
         self.assertEqual(len(self.lines("copied ")), 1, self.lines("again"))
         self.assertLessEqual(len(self.lines("going on over the store")), starts - 1)
-        print(f"{KILLS} rounds, {starts} starts, {len(self.lines('going on'))} of them went on, {self.writers.transactions} transactions", file=sys.stderr)
+        went_on = len(self.lines("going on"))
+        print(f"{KILLS} rounds, {starts} starts, {went_on} of them went on, {self.writers.transactions} transactions", file=sys.stderr)
         self.assertEqual(self.kept(), ["", "-notes"])
 
     def alter(self, rng):
@@ -149,11 +156,8 @@ class Killed(Stored, test_postgres.WithWriters):
                 for at in itertools.count(0, 10):
                     if is_over.is_set():
                         return
-                    cursor.execute(
-                        f"INSERT INTO {self.table} SELECT n, 'city ' || n / 2 % 3, NULL, CASE WHEN n % 2 = 0 THEN 1 ELSE -1 END * (n / 2) FROM generate_series({at}, {at} + 9) AS n"
-                    )
-                    cursor.execute(f"UPDATE {self.table} SET cents = -cents, city = 'b', id = id + 1000000000 WHERE id BETWEEN {at} AND {at} + 5")
-                    cursor.execute(f"DELETE FROM {self.table} WHERE id BETWEEN {at} + 6 AND {at} + 7 OR id BETWEEN 1000000000 + {at} AND 1000000001 + {at}")
+                    for it in PAIRS:
+                        cursor.execute(it.format(table=self.table, at=at))
 
         writing = threading.Thread(target=write)
         writing.start()
@@ -189,7 +193,8 @@ class GoesOn(Stored, test_postgres.Base):
         slots = self.slots()
         self.assertEqual((slots, test_postgres.publications()), ([(follower.slot,)], [(follower.slot,)]))
         for at in range(3):
-            follower = self.goes_on("UPDATE {table} SET cents = cents + 1", "DELETE FROM {table} WHERE id = 2", f"INSERT INTO {{table}} VALUES ({at} + 10, 'York', '', 1)")
+            new = f"INSERT INTO {{table}} VALUES ({at} + 10, 'York', '', 1)"
+            follower = self.goes_on("UPDATE {table} SET cents = cents + 1", "DELETE FROM {table} WHERE id = 2", new)
             self.run_sql("UPDATE {table} SET id = id + 100 WHERE id < 100")
             self.same(follower)
             follower.close()
@@ -222,8 +227,9 @@ class GoesOn(Stored, test_postgres.Base):
             long = "string_agg(n::text || md5(n::text), ' ')"
             follower = self.goes_on(
                 f"INSERT INTO {{table}} SELECT 4, {long}, 'tea', 1 FROM generate_series(1, 2000) AS n", "UPDATE {table} SET cents = 2 WHERE id = 4",
-                f"INSERT INTO {{table}} SELECT 5, {long}, 'tea', 1 FROM generate_series(1, 3000) AS n", "UPDATE {table} SET cents = 2 WHERE id = 5", "DELETE FROM {table} WHERE id = 5",
-                "DELETE FROM {table} WHERE id = 1", "INSERT INTO {table} VALUES (1, 'Hull', 'tea', 8)", "UPDATE {table} SET id = 7 WHERE id = 2", "UPDATE {table} SET id = 2, cents = NULL WHERE id = 7",
+                f"INSERT INTO {{table}} SELECT 5, {long}, 'tea', 1 FROM generate_series(1, 3000) AS n", "UPDATE {table} SET cents = 2 WHERE id = 5",
+                "DELETE FROM {table} WHERE id = 5", "DELETE FROM {table} WHERE id = 1", "INSERT INTO {table} VALUES (1, 'Hull', 'tea', 8)",
+                "UPDATE {table} SET id = 7 WHERE id = 2", "UPDATE {table} SET id = 2, cents = NULL WHERE id = 7",
             )
             cube = follower.ask("print")
             follower.close()
@@ -257,8 +263,9 @@ class GoesOn(Stored, test_postgres.Base):
         for statements in (
             ["ALTER TABLE {table} RENAME TO {table}_2", "UPDATE {table}_2 SET cents = 4", "ALTER TABLE {table}_2 RENAME TO {table}"],
             ["ALTER TABLE {table} ADD COLUMN more text"], ["GRANT SELECT ON {table} TO PUBLIC"], ["VACUUM FULL {table}"],
-            ["ALTER TABLE {table} REPLICA IDENTITY FULL", "UPDATE {table} SET cents = 5 WHERE id = 1"], ["TRUNCATE {table}", "INSERT INTO {table} VALUES (1, 'Hull', 'tea', 1)"],
-            ["BEGIN; INSERT INTO {table} VALUES (5, 'Hull', 'tea', 1); TRUNCATE {table}; INSERT INTO {table} VALUES (1, 'Hull', 'tea', 1); COMMIT"], [],
+            ["ALTER TABLE {table} REPLICA IDENTITY FULL", "UPDATE {table} SET cents = 5 WHERE id = 1"],
+            ["TRUNCATE {table}", "INSERT INTO {table} VALUES (1, 'Hull', 'tea', 1)"],
+            ["BEGIN; INSERT INTO {table} VALUES (5, 'A', 'tea', 1); TRUNCATE {table}; INSERT INTO {table} VALUES (1, 'B', 'tea', 1); COMMIT"], [],
         ):
             with self.subTest(statements):
                 self.goes_on(*statements).close()
@@ -276,8 +283,12 @@ class GoesOn(Stored, test_postgres.Base):
         for statements, why in (
             ([f"SELECT pg_drop_replication_slot({name})"], "is gone"),
             ([f"SELECT pg_drop_replication_slot({name})", f"SELECT pg_create_logical_replication_slot({name}, 'pgoutput')"], "others took what is between"),
-            (["INSERT INTO {table} VALUES (20, 'York', 'tea', 1)", f"SELECT pg_replication_slot_advance({name}, pg_current_wal_lsn())"], "others took what is between"),
-            (["ALTER TABLE {table} ALTER COLUMN cents TYPE bigint USING cents * 100"], "written anew"), (["ALTER TABLE {table} ALTER COLUMN product TYPE text"], "columns of table"),
+            (
+                ["INSERT INTO {table} VALUES (20, 'York', 'tea', 1)", f"SELECT pg_replication_slot_advance({name}, pg_current_wal_lsn())"],
+                "others took what is between",
+            ),
+            (["ALTER TABLE {table} ALTER COLUMN cents TYPE bigint USING cents * 100"], "written anew"),
+            (["ALTER TABLE {table} ALTER COLUMN product TYPE text"], "columns of table"),
             ([f"DROP PUBLICATION {follower.slot}"], "no publication"),
         ):
             with self.subTest(why=why, statements=statements), self.assertLogs("jackraisin.postgres", "WARNING") as told:
@@ -339,25 +350,33 @@ class GoesOn(Stored, test_postgres.Base):
         self.assertLess(self.noted().changes, 5)
         self.goes_on("UPDATE {table} SET cents = 9")
 
-    def test_truncate_that_is_broken_off(self):
-        for place in ("Notes.choose", "Store.clean"):
-            module = "_notes" if place.startswith("Notes") else "_store"
+    def test_a_new_store_that_is_broken_off(self):
+        """Before it takes the old one's place and behind that, for a TRUNCATE, and where a store is made anew."""
+        self.looking_often()
+        truncate = ["TRUNCATE {table}", "INSERT INTO {table} VALUES (1, 'York', 'tea', 1)"]
+        many = [f"UPDATE {{table}} SET cents = {at}" for at in range(60)]
+        for place, statements in itertools.product(("_notes.Notes.choose", "_store.Store.clean"), (truncate, many)):
             for is_after in (False, True):
-                with self.subTest(place=place, is_after=is_after):
-                    follower = self.stored()
-                    path, owner, name = f"jackraisin.postgres.{module}.{place}", getattr(getattr(postgres, module), place.split(".")[0]), place.split(".")[1]
-                    usual = getattr(owner, name)
+                with self.subTest(place=place, statements=len(statements), is_after=is_after):
+                    self.break_off(place, statements, is_after)
+                    self.goes_on("INSERT INTO {table} SELECT max(id) + 1, 'York', 'tea', 1 FROM {table}").close()
 
-                    def broken(*words):
-                        if is_after:
-                            usual(*words)
-                        raise SystemExit("broken off")
+    def break_off(self, place, statements, is_after):
+        """Lets a follower make a new store, and ends it before a call or behind it."""
+        follower = self.stored()
+        module, owner, name = place.split(".")
+        usual = getattr(getattr(getattr(postgres, module), owner), name)
 
-                    with mock.patch(path, broken), mock.patch.object(follower, "_finish", lambda _: None):
-                        self.run_sql("TRUNCATE {table}", "INSERT INTO {table} VALUES (1, 'York', 'tea', 1)")
-                        until(lambda: follower._thread.is_alive() is False or follower.state.failure, SECONDS)
-                    follower.close()
-                    self.goes_on("INSERT INTO {table} VALUES (2, 'York', 'tea', 1)").close()
+        def broken(*words):
+            if is_after:
+                usual(*words)
+            raise SystemExit("broken off")
+
+        few = mock.patch("jackraisin.postgres._anew.FEWEST_CHANGES", 20)
+        with few, mock.patch(f"jackraisin.postgres.{place}", broken), mock.patch.object(follower, "_finish", lambda _: None):
+            self.run_sql(*statements)
+            until(lambda: follower.state.failure, SECONDS)
+        follower.close()
 
     def test_a_store_with_many_changes_is_made_anew(self):
         """While the old one serves."""
@@ -413,8 +432,8 @@ class GoesOn(Stored, test_postgres.Base):
             test_postgres.PRIVATE.server.end(how)
             self.assertEqual(follower.slice({})[0]["count(*)"], 3)
             test_postgres.PRIVATE.server.begin()
-            self.run_sql("INSERT INTO {table} SELECT max(id) + 1, 'York', 'tea', 1 FROM {table}", "DELETE FROM {table} WHERE id = 2")
-            self.run_sql("INSERT INTO {table} VALUES (2, 'York', 'tea', 1)", "DELETE FROM {table} WHERE id = 1", "INSERT INTO {table} VALUES (1, 'York', 'tea', 1)", "DELETE FROM {table} WHERE id > 3")
+            for it in (1, 2):
+                self.run_sql(f"DELETE FROM {{table}} WHERE id = {it}", f"INSERT INTO {{table}} VALUES ({it}, 'York', 'tea', 1)")
             self.same(follower)
         follower.close()
         self.goes_on("UPDATE {table} SET cents = cents + 1")
@@ -423,7 +442,8 @@ class GoesOn(Stored, test_postgres.Base):
         follower = self.stored()
         follower.close()
         ran = test_postgres.run(*self.words(SALES, "--drop"))
-        self.assertEqual((ran.returncode, ran.stdout), (0, f"the slot {follower.slot} was dropped\nthe store {self.path()} stays; a follower that is started with it copies the table\n"))
+        stays = f"the store {self.path()} stays; a follower that is started with it copies the table"
+        self.assertEqual((ran.returncode, ran.stdout), (0, f"the slot {follower.slot} was dropped\n{stays}\n"))
         self.assertEqual((self.slots(), test_postgres.publications()), ([], []))
         with self.assertLogs("jackraisin.postgres", "WARNING"):
             self.goes_on(copies=1)
