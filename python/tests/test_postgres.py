@@ -11,6 +11,7 @@ import signal
 import struct
 import subprocess
 import sys
+import tempfile
 import threading
 import time
 import traceback
@@ -318,8 +319,9 @@ def interruptible():
 class Command:
     """The command, asked over its standard input."""
 
-    def __init__(self, *words, told=subprocess.DEVNULL):
-        pipes = {"stdin": subprocess.PIPE, "stdout": subprocess.PIPE, "stderr": told}
+    def __init__(self, *words, told=None):
+        self.told = told or tempfile.TemporaryFile("w+")
+        pipes = {"stdin": subprocess.PIPE, "stdout": subprocess.PIPE, "stderr": self.told}
         command = [sys.executable, "-m", "jackraisin.postgres", *words]
         self.process = subprocess.Popen(command, env=environment(), preexec_fn=interruptible, **pipes)
 
@@ -327,6 +329,9 @@ class Command:
         self.process.stdin.write(f"{question}\n".encode())
         self.process.stdin.flush()
         line = self.process.stdout.readline().split()
+        if not line:
+            self.told.seek(0)
+            raise AssertionError(f"it ended with status {self.process.wait()}: {self.told.read()}")
         return self.process.stdout.read(int(line[1])).decode() if line[0] == b"ok" else line[0].decode()
 
     def kill(self):
@@ -336,7 +341,9 @@ class Command:
     def end(self):
         self.process.stdin.close()
         self.process.stdout.close()
-        return self.process.wait()
+        status = self.process.wait()
+        self.told.close()
+        return status
 
 
 class Moments(Base):

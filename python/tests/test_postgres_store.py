@@ -93,18 +93,15 @@ class Killed(Stored, test_postgres.WithWriters):
 
     def setUp(self):
         super().setUp()
-        self.told = open(f"{test_postgres.PRIVATE.room}/{self.table}.told", "w+", encoding="utf-8")
-        self.addCleanup(self.told.close)
+        self.told = f"{test_postgres.PRIVATE.room}/{self.table}.told"
 
     def command(self, schema=SCHEMA, more=("--scale", "price=2")):
-        return Command(*self.words(schema, *more), told=self.told)
+        return Command(*self.words(schema, *more), told=open(self.told, "a+", encoding="utf-8"))
 
     def lines(self, words):
-        """The lines with some words that the command said on standard error."""
-        self.told.seek(0)
-        found = [it for it in self.told if words in it]
-        self.told.seek(0, os.SEEK_END)
-        return found
+        """The lines with some words that the commands said on standard error."""
+        with open(self.told, encoding="utf-8") as told:
+            return [it for it in told if words in it]
 
     def test_among_writers(self):
         """The first answer of a start is at least of all that was committed before it, and no start copies the table."""
