@@ -396,6 +396,32 @@ class GoesOn(Stored, test_postgres.Base):
             self.goes_on("UPDATE {table} SET cents = 9").close()
         self.assertEqual(len(self.kept()), 2)
 
+    def test_truncate_while_a_store_is_made_anew(self):
+        self.looking_often()
+        follower, usual = self.stored(), postgres._follower.copy_table
+        truncated = threading.Event()
+
+        def late(*words):
+            found, before = usual(*words), follower.state.transactions
+            if not truncated.is_set():
+                truncated.set()
+                self.run_sql("TRUNCATE {table}", "INSERT INTO {table} VALUES (1, 'York', 'tea', 1)")
+                until(lambda: follower.state.transactions >= before + 2, SECONDS)
+            return found
+
+        with mock.patch("jackraisin.postgres._anew.FEWEST_CHANGES", 20), mock.patch("jackraisin.postgres._follower.copy_table", late):
+            for at in range(10):
+                self.run_sql(f"UPDATE {{table}} SET cents = {at}")
+            until(truncated.is_set, SECONDS)
+            until(lambda: follower._anew is None, SECONDS)
+            self.same(follower)
+            for at in range(10):
+                self.run_sql(f"UPDATE {{table}} SET cents = {at}")
+            self.same(follower)
+            follower.close()
+        self.assertEqual(self.kept(), ["", "-notes"])
+        self.goes_on("UPDATE {table} SET cents = 5")
+
     def test_a_store_that_isnt_the_tables(self):
         """It is found out, and made anew; a start goes on with that one."""
         self.looking_often()

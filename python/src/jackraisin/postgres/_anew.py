@@ -26,10 +26,10 @@ def has_many(changes: int, rows: int) -> bool:
 
 class StoreAnew(InSnapshot):
     """Counts the rows of a table, and copies them where a store has many changes more. `rows` is their number, and `copy` the copy; both
-    are there when it has ended and didn't fail."""
+    are there when it has ended and didn't fail. The store is known by a word."""
 
-    def __init__(self, dsn: str, rows: Rows, changes: int, copied: Callable[["Connection", str, int], Copy]) -> None:
-        self._rows, self._changes, self._copied = rows, changes, copied
+    def __init__(self, dsn: str, rows: Rows, word: str, changes: int, copied: Callable[["Connection", str, int], Copy]) -> None:
+        self._rows, self.word, self._changes, self._copied = rows, word, changes, copied
         self.rows = 0
         self.copy: Optional[Copy] = None
         super().__init__(dsn, "copied")

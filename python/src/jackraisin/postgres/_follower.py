@@ -374,7 +374,7 @@ class Follower(Asked, Running):
             assert self._table is not None
             rows = self._rows_of(self._table)
             self._held = mirror.certain
-            self._anew = StoreAnew(self.dsn, rows, changes, lambda connection, snapshot, lsn: self._copied(connection, snapshot, rows, lsn))
+            self._anew = StoreAnew(self.dsn, rows, mirror.session.word, changes, lambda connection, snapshot, lsn: self._copied(connection, snapshot, rows, lsn))
 
     def _take_up(self) -> None:
         """Goes on with a store that was made anew, from the place of its copy; the old one is asked until that has come as far."""
@@ -382,15 +382,16 @@ class Follower(Asked, Running):
         if anew is None:
             return
         copy, old = anew.copy, self._mirror
+        assert isinstance(old, StoredMirror)
         self._counted = anew.rows or self._counted
-        if copy is None or self._ending.is_set():
+        # (a TRUNCATE has put another store in the place of the one that had many changes)
+        if copy is None or old.session.word != anew.word or self._ending.is_set():
             self._held = None
             if anew.failure is not None:
                 TOLD.warning("the store couldn't be made anew: %s", anew.failure)
                 self._next_anew = time.monotonic() + SECONDS_AFTER_FAILURE
             anew.close()
             return
-        assert isinstance(old, StoredMirror)
         old.keep()
         with self._lock:
             self._mirror, self._target = copy.mirror, old.lsn

@@ -71,8 +71,8 @@ class Notes:
         """Notes that a store is whole, and forgets all others."""
         with self._lock:
             self._do("BEGIN IMMEDIATE")
-            self._do("DELETE FROM stores WHERE word <> ?", word)
-            self._do(f"UPDATE stores SET is_whole = 1, ({COLUMNS}) = (?, ?, ?, ?, ?, ?) WHERE word = ?", *texts_of(note), word)
+            self._do("DELETE FROM stores")
+            self._do("INSERT INTO stores VALUES (?, 1, ?, ?, ?, ?, ?, ?)", word, *texts_of(note))
             self._do("COMMIT")
 
     def put(self, word: str, note: Note) -> None:
