@@ -1,7 +1,7 @@
 #!/usr/bin/env python3
 """Measures a follower of a PostgreSQL table: what it costs the writers, and how fresh its answers are.
 
-    scripts/postgres_speed.py [--seconds N] [--rounds N] [--rows N] [--rate N] [--probes N]
+    scripts/postgres_speed.py [--mode MODE] [--seconds N] [--rounds N] [--rows N] [--rate N] [--probes N]
 
 A private server (with the settings of a new one, but wal_level) has a table of N rows (200,000). pgbench has four clients
 make transactions of one row each, as fast as they go, in rounds with and without a follower, in turn (6 rounds of 3 seconds):
@@ -9,15 +9,20 @@ first with commits that wait for the disk, then with `synchronous_commit = off`,
 it makes 1,000 transactions a second, and a probe commits a sale to a city of its own and asks for that city's cell until
 the sale is in it: the time from the end of the commit to the end of the answer, 500 times. Needs Debian's packages
 postgresql and python3-psycopg2, which is of Debian's Python; where one isn't there, the status is 77.
+
+`--mode store` measures a start over a store of N rows instead, beside that of the copy; `--mode readers` the time from commit to
+answer without readers, and with six that ask for a whole cube of 5 MB again and again.
 """
 import argparse
 import contextlib
 import os
 import re
+import resource
 import statistics
 import subprocess
 import sys
 import tempfile
+import threading
 import time
 
 sys.dont_write_bytecode = True
@@ -41,6 +46,9 @@ SCRIPTS = {
     4: "\\set id random(1, ROWS)\n\\set n random(1, 10000)\nUPDATE sales SET cents = :n, product = 'product ' || :n % 200 WHERE id = :id;\n",
     1: "\\set id random(1, ROWS)\nDELETE FROM sales WHERE id = :id;\n",
 }
+TOTALS = b"COPY (SELECT count(*), sum(cents), min(cents), max(cents) FROM sales) TO STDOUT"
+MANY_CELLS = "INSERT INTO sales (city, product, cents) SELECT 'a city ' || n / 200, 'product ' || n % 200, n FROM generate_series(1, 100000) AS n;"
+READERS = 6
 SCHEMA = 'dimensions = ["city", "product"]\nmeasures = ["cents"]\naggregates = ["count(*)", "sum(cents)", "min(cents)", "max(cents)", "avg(cents)"]\n'
 
 
@@ -127,6 +135,78 @@ def freshness(bench, rate, probes, questions):
         long_transaction(bench, follower)
 
 
+def starts(bench, rows):
+    """The seconds of a start without a store, of the one that makes it, and of those over it."""
+    from jackraisin.postgres import Follower
+
+    store = f"{bench.room}/sales.db"
+    for name, path in (("without a store", None), ("that makes the store", store), ("over the store", store), ("over the store, 10,000 changes behind", store)):
+        if "changes" in name:
+            bench.server.ask(b"UPDATE sales SET cents = cents + 1 WHERE id <= 10000;")
+        start, of_processors = time.perf_counter(), processor_seconds()
+        with Follower(bench.dsn, "sales", bench.schema, store=path) as follower:
+            state = follower.wait()
+            spent = time.perf_counter() - start
+            answers, of_sql = follower.slice({})[0].answers[:-1], bench.server.ask(TOTALS).decode().split()
+            is_same = [str(it) for it in answers] == of_sql
+        copies = f"{state.copies} copies, {'the totals of the table' if is_same else 'OTHER TOTALS THAN THE TABLE'}"
+        of_processors = processor_seconds() - of_processors
+        print(f"{f'a start {name}':56} {spent:.2f} s ({of_processors:.2f} processor s until its end), over {rows} rows, {copies}", flush=True)
+    print(f"{'the store':56} {os.path.getsize(store) / 2**20:.0f} MiB")
+
+
+def processor_seconds():
+    """What this process and its children that have ended, as the program of a session, have used; the server's isn't among it."""
+    return sum(it.ru_utime + it.ru_stime for it in map(resource.getrusage, (resource.RUSAGE_SELF, resource.RUSAGE_CHILDREN)))
+
+
+def beside_readers(bench, rate, probes):
+    """The time from commit to answer, without and with six who ask for a whole cube again and again."""
+    from jackraisin.postgres import Follower
+
+    bench.server.ask(MANY_CELLS.encode())
+    with Follower(bench.dsn, "sales", bench.schema) as follower:
+        follower.wait()
+        text = follower.ask("print")
+        print(f"{'the whole cube':56} {len(text) / 10**6:.1f} MB")
+        writing = bench.writing(3600, "-R", str(rate))
+        over = threading.Event()
+        readers = [threading.Thread(target=read_again_and_again, args=[follower, over]) for _ in range(READERS)]
+        try:
+            time.sleep(2)
+            said("from commit to answer, without readers", list(probed(bench, follower, probes)))
+            for it in readers:
+                it.start()
+            said("from commit to answer, beside six readers", list(probed(bench, follower, probes)))
+            said("from commit to where the follower is, beside them", list(arrived(bench, follower, probes)))
+        finally:
+            over.set()
+            writing.terminate()
+            writing.wait()
+        for it in readers:
+            it.join()
+
+
+def read_again_and_again(follower, over):
+    while not over.is_set():
+        follower.ask("print")
+
+
+def arrived(bench, follower, count):
+    """The seconds from the end of each commit until the follower has taken it."""
+    import psycopg2
+
+    with contextlib.closing(psycopg2.connect(bench.dsn)) as connection, connection.cursor() as cursor:
+        for at in range(count):
+            cursor.execute("INSERT INTO sales (city, product, cents) VALUES ('city 1', 'product 1', 1) RETURNING pg_current_wal_insert_lsn() - '0/0'")
+            lsn = int(cursor.fetchone()[0])
+            connection.commit()
+            start = time.perf_counter()
+            follower.wait_for(lsn)
+            yield time.perf_counter() - start
+            time.sleep(0.01)
+
+
 def long_transaction(bench, follower):
     """One transaction that changes many rows, and questions until it is there."""
     before = follower.catch_up()
@@ -173,6 +253,7 @@ def main():
     parser = argparse.ArgumentParser(description=__doc__, formatter_class=argparse.RawDescriptionHelpFormatter)
     for name, number in (("seconds", 3), ("rounds", 6), ("rows", 200_000), ("rate", 1000), ("probes", 500)):
         parser.add_argument(f"--{name}", type=int, default=number)
+    parser.add_argument("--mode", choices=("writers", "store", "readers"), default="writers")
     given = parser.parse_args()
     binaries = sql.newest_server()
     try:
@@ -185,9 +266,14 @@ def main():
     folder = lambda: tempfile.TemporaryDirectory(prefix="datacube-speed-")
     with folder() as room, folder() as ours, sql.Server(binaries, room, SETTINGS) as server:
         bench = Bench(server, ours, given.rows)
-        for waits in (True, False):
-            cost(bench, given.rounds, given.seconds, waits)
-        freshness(bench, given.rate, given.probes, 1000)
+        if given.mode == "store":
+            starts(bench, given.rows)
+        elif given.mode == "readers":
+            beside_readers(bench, given.rate, given.probes)
+        else:
+            for waits in (True, False):
+                cost(bench, given.rounds, given.seconds, waits)
+            freshness(bench, given.rate, given.probes, 1000)
     return 0
 
 

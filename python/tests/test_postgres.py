@@ -14,6 +14,7 @@ import socket
 import struct
 import subprocess
 import sys
+import tempfile
 import threading
 import time
 import traceback
@@ -323,8 +324,9 @@ def interruptible():
 class Command:
     """The command, asked over its standard input."""
 
-    def __init__(self, *words):
-        pipes = {"stdin": subprocess.PIPE, "stdout": subprocess.PIPE, "stderr": subprocess.DEVNULL}
+    def __init__(self, *words, told=None):
+        self.told = told or tempfile.TemporaryFile("w+")
+        pipes = {"stdin": subprocess.PIPE, "stdout": subprocess.PIPE, "stderr": self.told}
         command = [sys.executable, "-m", "jackraisin.postgres", *words]
         self.process = subprocess.Popen(command, env=environment(), preexec_fn=interruptible, **pipes)
 
@@ -332,6 +334,9 @@ class Command:
         self.process.stdin.write(f"{question}\n".encode())
         self.process.stdin.flush()
         line = self.process.stdout.readline().split()
+        if not line:
+            self.told.seek(0)
+            raise AssertionError(f"it ended with status {self.process.wait()}: {self.told.read()}")
         return self.process.stdout.read(int(line[1])).decode() if line[0] == b"ok" else line[0].decode()
 
     def kill(self):
@@ -341,7 +346,9 @@ class Command:
     def end(self):
         self.process.stdin.close()
         self.process.stdout.close()
-        return self.process.wait()
+        status = self.process.wait()
+        self.told.close()
+        return status
 
 
 class Moments(Base):
@@ -458,7 +465,7 @@ class Moments(Base):
         """It doesn't stay in memory, and comes whole."""
         self.sales()
         follower = self.follower()
-        with mock.patch("jackraisin.postgres._stream.IN_MEMORY", 1000), mock.patch("jackraisin.postgres._mirror.IN_MEMORY", 1000):
+        with mock.patch("jackraisin.postgres._stream.IN_MEMORY", 1000), mock.patch("jackraisin.postgres._work.IN_MEMORY", 1000):
             self.run_sql("INSERT INTO {table} SELECT n, 'city ' || n % 10, NULL, n FROM generate_series(1, 20000) AS n")
             follower.catch_up(SECONDS)
         self.assertEqual(follower.slice({})[0]["count(*)"], 20000)
@@ -594,7 +601,7 @@ class Verified(Base):
         ):
             follower = self.follower(self.schema, verify=0.3)
             with self.subTest(words), self.assertLogs("jackraisin.postgres", "ERROR") as told:
-                with follower._lock:
+                with follower._mirror._live.held():
                     change(follower._mirror._live)
                 until(lambda: follower.state.differences == 1, SECONDS)
                 until(lambda: follower.state.is_caught_up and follower.state.copies == 2, SECONDS)
@@ -617,7 +624,7 @@ class Verified(Base):
 
         follower._conclude = last
         with postgres.Server(follower) as server:
-            with follower._lock:
+            with follower._mirror._live.held():
                 follower._mirror._live.delete(1, "7")
             until(lambda: follower.state.is_caught_up and follower.state.copies == 2, SECONDS)
             self.see_whether_it_is_verified(server, 0)

@@ -10,7 +10,7 @@ import subprocess
 import tempfile
 import threading
 from types import TracebackType
-from typing import IO, Callable, Iterable, Iterator, List, Optional, Sequence, Tuple, Type, Union
+from typing import IO, Callable, Iterable, Iterator, List, Optional, Sequence, Tuple, Type, TypeVar, Union
 
 from ._ask import Given, Shard, options_of
 from ._cells import Named, text_of
@@ -22,6 +22,7 @@ from ._questions import Questions
 from ._records import GREATEST
 from ._schema import schema_of
 
+T = TypeVar("T")
 
 
 class Live(Questions):
@@ -132,26 +133,48 @@ class Live(Questions):
 
     def ask(self, question: str, *fields: str) -> str:
         """The text that answers a question of the session; one that is refused raises `Failure` with its code."""
+        return self.ask_at(lambda: None, question, *fields)[1]
+
+    def ask_at(self, at: Callable[[], T], question: str, *fields: str) -> Tuple[T, str]:
+        """The same, and what a call gives that is made when all changes before the question are sent, and none behind it is. Where
+        the call raises something, nothing is asked."""
         record = [text_of(it, "a field of a question") for it in (question, *fields)]
         if question[:1].isdigit():
             raise Unsayable(f"{question!r} begins a change, not a question")
+        is_asked = False
         with self._asking:
             try:
                 with self._watched():
-                    self._send([record], True)
-                    first = self._output.readline()
-                    size = int(first[3:]) if first.startswith(b"ok ") else 0
-                    text = self._output.read(size)
-            except BaseException:
-                # (the answer was begun and not read to its end)
-                self._kill()
+                    with self._writing:
+                        found = at()
+                        is_asked = True
+                        self._send([record], True)
+                    return found, self._read_answer()
+            except Failure:
                 raise
+            except BaseException:
+                if is_asked:
+                    # (the answer was begun and not read to its end)
+                    self._kill()
+                raise
+
+    def _read_answer(self) -> str:
+        """The answer to the question that was sent."""
+        first = self._output.readline()
+        size = int(first[3:]) if first.startswith(b"ok ") else 0
+        text = self._output.read(size)
         if not first.endswith(b"\n") or len(text) < size:
             raise self._end()
         if not first.startswith(b"ok "):
             code = first.decode("utf-8", "replace").strip()
             raise Failure(code, meaning_of(code))
         return text.decode("utf-8")
+
+    @contextlib.contextmanager
+    def held(self) -> Iterator[None]:
+        """Nothing is sent by another thread for as long as it is entered, neither a change nor a question."""
+        with self._writing:
+            yield
 
     def send(self, changes: IO[str]) -> None:
         """Sends changes that are written as the records of a session, from a file's place to its end, and hands them over. They go
@@ -206,6 +229,10 @@ class Live(Questions):
     def _too_late(self) -> None:
         self._is_late = True
         self._process.kill()
+
+    def kill(self) -> None:
+        """Ends the session at once. What was sent behind the last answer may be lost."""
+        self._kill()
 
     def _kill(self) -> None:
         self._process.kill()

@@ -2,6 +2,7 @@
 from __future__ import annotations
 
 import contextlib
+import copy
 import json
 import os
 import tempfile
@@ -83,6 +84,12 @@ class Schema:
         if self.decimals:
             lines.append(f"decimals = {quoted(self.decimals)}")
         return "\n".join(lines) + "\n"
+
+    def remarked(self, remark: str) -> "Schema":
+        """The same schema, whose file begins with a comment: a store that is made with it takes no other file."""
+        schema = copy.copy(self)
+        object.__setattr__(schema, "_text", f"# {remark}\n{self.toml()}")
+        return schema
 
     @contextlib.contextmanager
     def file(self) -> Iterator[str]:

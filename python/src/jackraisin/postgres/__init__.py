@@ -8,10 +8,16 @@
 
 `python -m jackraisin.postgres` is the same as a command. It needs psycopg2, and nothing that isn't the server's own.
 """
+import sys
+
 try:
     import psycopg2
 except ImportError:
-    raise ImportError("jackraisin.postgres needs psycopg2 (Debian: python3-psycopg2)") from None
+    WHY = "jackraisin.postgres needs psycopg2 (Debian: python3-psycopg2)"
+    # (so Python calls itself while it looks for what `python -m` is to run)
+    if sys.argv[:1] == ["-m"]:
+        sys.exit(WHY)
+    raise ImportError(WHY) from None
 
 from ._errors import CantFollow, ColumnsChanged, NotCaughtUp, RowUnsayable
 from ._follower import Follower, State

@@ -62,7 +62,11 @@ def parser() -> argparse.ArgumentParser:
     )
     asks.add_argument("--slot", metavar="NAME", help=f"the replication slot, and the publication, by default {PREFIX}TABLE_OID; one of another prefix is never dropped")
     asks.add_argument("--publication", metavar="NAME", help="a publication that names the table, where the role may not make one")
-    asks.add_argument("--drop", action="store_true", help="drop the slot and the publication of a follower that was killed, and end")
+    asks.add_argument(
+        "--store", metavar="FILE",
+        help="keep the cube in a file, and the slot when it ends: a start with the same words goes on where the last one ended, and copies nothing",
+    )
+    asks.add_argument("--drop", action="store_true", help="drop the slot and the publication of a follower that was killed, or that has a store, and end")
     serving = asks.add_argument_group("serving", "With --serve or --listen the page, questions and metrics are served; tokens and TLS go with --listen.")
     serving.add_argument("--serve", type=int, metavar="PORT", help="serve on this port of 127.0.0.1, without a token; 0 is any free one")
     add_reach(serving, None)
@@ -91,7 +95,7 @@ def scale(text: str) -> Tuple[str, int]:
 def follower_of(given: argparse.Namespace) -> Follower:
     return Follower(
         given.dsn, given.table, given.schema, dimensions=given.dimensions, measures=given.measures, scale=dict(given.scale),
-        slot=given.slot, skip=given.skip == SKIPPING[0], publication=given.publication, verify=given.verify,
+        slot=given.slot, skip=given.skip == SKIPPING[0], publication=given.publication, verify=given.verify, store=given.store,
     )
 
 
@@ -165,13 +169,15 @@ def serve(follower: Follower, reach: Reach, slice: Optional[Sequence[str]], max_
             tell_systemd("STOPPING=1")
 
 
-def drop(dsn: str, table: str, slot: Optional[str]) -> None:
-    """Drops what a follower that was killed has left."""
+def drop(dsn: str, table: str, slot: Optional[str], store: Optional[str]) -> None:
+    """Drops what a follower that was killed, or that has a store, has left in the server."""
     with closing(connect(dsn)) as connection:
         name = slot or slot_of(connection, table)
         print(f"the slot {name} was dropped" if drop_slot(connection, name) else f"there is no slot {name}")
         if name.startswith(PREFIX):
             drop_publication(connection, name)
+    if store is not None:
+        print(f"the store {store} stays; a follower that is started with it copies the table")
 
 
 def slot_of(connection: "Connection", table: str) -> str:
@@ -186,7 +192,7 @@ def slot_of(connection: "Connection", table: str) -> str:
 def run(given: argparse.Namespace, reach: Optional[Reach]) -> int:
     """Does what is asked, and gives the status: 1 where the cube was found not to be the table's."""
     if given.drop:
-        drop(given.dsn, given.table, given.slot)
+        drop(given.dsn, given.table, given.slot, given.store)
         return 0
     with follower_of(given) as follower, contextlib.suppress(KeyboardInterrupt):
         if reach is None:

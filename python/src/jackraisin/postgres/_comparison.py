@@ -1,14 +1,10 @@
 """The cube beside what the database itself says of the table, at the same moment."""
 from __future__ import annotations
 
-import contextlib
 import io
-import secrets
-import threading
 from fractions import Fraction
 from typing import TYPE_CHECKING, Dict, Final, List, Optional, Sequence, Set, Tuple
 
-import psycopg2
 from psycopg2 import sql
 
 from .._cells import ALL, ANY, MARKS, Mark
@@ -16,7 +12,8 @@ from .._cube import Cube, Row
 from .._records import GREATEST, LEAST
 from .._schema import Schema
 from ._mirror import Mirror
-from ._slot import PREFIX, AnyConnection, connect, connect_to_replicate, make_slot, snapshot_of
+from ._slot import snapshot_of
+from ._snapshot import InSnapshot
 from ._table import look
 from ._values import Rows, row_of, shown, text_of
 
@@ -26,7 +23,6 @@ if TYPE_CHECKING:
 
 # (a dimension with more values isn't compared by them)
 MOST_VALUES: Final = 10_000
-MOST_JOINS, SECONDS_TO_JOIN = 20, 0.1
 PER_MEASURE: Final = ("count", "sum", "min", "max")
 
 Answers = Tuple[Optional[Fraction], ...]
@@ -34,38 +30,21 @@ Answers = Tuple[Optional[Fraction], ...]
 Totals = Dict[Optional[str], Answers]
 
 
-class Comparison:
-    """Compares the grand total of a cube, and the totals of the values of each dimension, with the database's own. That is asked in a
-    thread of its own, in the snapshot of a slot that lasts as long. `lsn` is where the snapshot is in the log, once it `has_begun`;
-    when the cube has come there, and no further, its totals are taken."""
+class Comparison(InSnapshot):
+    """Compares the grand total of a cube, and the totals of the values of each dimension, with the database's own, as they are in a
+    snapshot; when the cube has come to its place, and no further, its totals are taken."""
 
     def __init__(self, dsn: str, rows: Rows, schema: Schema, large: Set[int]) -> None:
-        self._dsn, self._rows, self._schema, self._large = dsn, rows, schema, large
-        self._connections: List["Connection"] = []
+        self._rows, self._schema, self._large = rows, schema, large
         self._of_table: Dict[Optional[int], Totals] = {}
         self._of_cube: Dict[Optional[int], Totals] = {}
-        self.lsn: Optional[int] = None
-        self.failure: Optional[str] = None
-        self.is_taken = self._is_given_up = False
-        self.has_begun, self._has_ended = threading.Event(), threading.Event()
-        self._thread = threading.Thread(target=self._run, name="datacube comparison", daemon=True)
-        self._thread.start()
+        self.is_taken = False
+        super().__init__(dsn, "compared")
 
     @property
     def is_over(self) -> bool:
         """Whether both totals are there, or there is a failure."""
-        return self._has_ended.is_set() and (self.is_taken or self.failure is not None)
-
-    def close(self) -> None:
-        """Ends it, whatever it is at. One that is still connecting ends once it is connected, or can't be, and isn't waited for."""
-        self._is_given_up = True
-        for _ in range(MOST_JOINS):
-            for it in list(self._connections):
-                with contextlib.suppress(psycopg2.Error):
-                    it.cancel()
-            self._thread.join(SECONDS_TO_JOIN)
-            if not self._thread.is_alive():
-                return
+        return self.has_ended.is_set() and (self.is_taken or self.failure is not None)
 
     def take(self, mirror: Mirror) -> None:
         """Takes the totals of the cube."""
@@ -101,27 +80,7 @@ class Comparison:
             found = [names.index(it[0]) if it else None for it in kept if len(it) < 2]
         return [it for it in dict.fromkeys(found) if it not in self._large]
 
-    def _run(self) -> None:
-        try:
-            with contextlib.closing(self._kept(connect_to_replicate(self._dsn))) as replication:
-                self.lsn, snapshot = make_slot(replication, f"{PREFIX}compared_{secrets.token_hex(8)}", is_temporary=True)
-                self.has_begun.set()
-                with contextlib.closing(self._kept(connect(self._dsn))) as connection:
-                    self._ask(connection, snapshot)
-        except Exception as why:
-            self.failure = " ".join(str(why).split())
-        finally:
-            self._has_ended.set()
-            self.has_begun.set()
-
-    def _kept(self, connection: AnyConnection) -> AnyConnection:
-        """A connection whose work `close` may cut short."""
-        self._connections.append(connection)
-        if self._is_given_up:
-            raise psycopg2.InterfaceError("the comparison was given up")
-        return connection
-
-    def _ask(self, connection: "Connection", snapshot: str) -> None:
+    def work(self, connection: "Connection", snapshot: str) -> None:
         """Asks for the table's totals. A snapshot sees no rows that were written anew since, so then there is nothing to compare."""
         oid = self._rows.table.oid
         with snapshot_of(connection, snapshot) as cursor:

@@ -1,14 +1,16 @@
-"""The table as it is in a snapshot, written as a feed."""
+"""The table as it is in a snapshot, written as the records of a feed or of a session."""
 from __future__ import annotations
 
 import csv
 import io
 from dataclasses import replace
-from typing import TYPE_CHECKING, Iterable, TextIO
+from typing import TYPE_CHECKING, NamedTuple, Sequence, TextIO
 
 from psycopg2 import sql
 
+from ._changes import Changes
 from ._errors import BeginAnew, RowUnsayable
+from ._mirror import Mirror
 from ._slot import snapshot_of
 from ._table import Table, look
 from ._values import Rows, Skipped, row_of
@@ -17,15 +19,24 @@ if TYPE_CHECKING:
     from psycopg2.extensions import connection as Connection
 
 
-class FeedWriter(io.RawIOBase):
-    """Takes the rows that COPY sends, a line each, and writes them as a feed. `skipped` has those that can't be said, where they may be
-    skipped."""
+class Copy(NamedTuple):
+    """A mirror with the rows of a snapshot, what says the changes behind it, their number, and the table as it was there."""
 
-    def __init__(self, rows: Rows, header: Iterable[str], out: TextIO, skip: bool) -> None:
+    mirror: Mirror
+    changes: Changes
+    rows: Rows
+    number: int
+    table: Table
+
+
+class RowsWriter(io.RawIOBase):
+    """Takes the rows that COPY sends, a line each, and writes them as records, each of which begins with the same fields. `skipped`
+    has those that can't be said, where they may be skipped."""
+
+    def __init__(self, rows: Rows, out: TextIO, skip: bool, first: Sequence[str]) -> None:
         super().__init__()
         self._rows, self._skip, self._records = rows, skip, csv.writer(out)
-        self._names = rows.names
-        self._records.writerow(["op", "id", *header])
+        self._names, self._first = rows.names, first
         self.count = 0
         self.skipped = Skipped()
 
@@ -33,7 +44,7 @@ class FeedWriter(io.RawIOBase):
         values = dict(zip(self._names, row_of(bytes(line).decode("utf-8")[:-1])))
         self.count += 1
         try:
-            self._records.writerow(["I", self._rows.id_of(values), *self._rows.fields_of(values)])
+            self._records.writerow([*self._first, self._rows.id_of(values), *self._rows.fields_of(values)])
         except RowUnsayable as why:
             if not self._skip:
                 raise
@@ -41,8 +52,8 @@ class FeedWriter(io.RawIOBase):
         return len(line)
 
 
-def copy_table(connection: "Connection", snapshot: str, rows: Rows, writer: FeedWriter) -> Table:
-    """Copies the rows of a snapshot into a feed, and gives the table as it is there. Raises `BeginAnew` where the table isn't there
+def copy_table(connection: "Connection", snapshot: str, rows: Rows, writer: RowsWriter) -> Table:
+    """Copies the rows of a snapshot, and gives the table as it is there. Raises `BeginAnew` where the table isn't there
     what it was when it was looked at, or where its rows were written anew since, for then a snapshot of before may see none of
     them (of TRUNCATE, and of some forms of ALTER TABLE)."""
     name, columns = sql.Identifier(rows.table.schema, rows.table.name), sql.SQL(", ").join(map(sql.Identifier, rows.names))

@@ -10,8 +10,8 @@ import psycopg2.errors
 from psycopg2 import sql
 
 from ._errors import CantFollow
-from ._slot import PREFIX
-from ._table import Table
+from ._slot import PREFIX, is_numbered_otherwise
+from ._table import Table, one
 
 if TYPE_CHECKING:
     from psycopg2.extensions import connection as Connection
@@ -53,6 +53,28 @@ def fault_of(connection: "Connection", name: str, table: Table, columns: Sequenc
         return f"the publication {name} leaves rows of table {table} out, by WHERE {filter}"
     missing = [it for it in columns if sent is not None and it not in sent]
     return f"the publication {name} leaves column {missing[0]} of table {table} out" if missing else None
+
+
+OTHERS = """
+SELECT r.prrelid::regclass::text FROM pg_publication AS p JOIN pg_publication_rel AS r ON r.prpubid = p.oid WHERE p.pubname = %s AND r.prrelid <> %s
+"""
+IS_THERE = """
+SELECT EXISTS (SELECT FROM pg_replication_slots WHERE slot_name = %(name)s) OR EXISTS (SELECT FROM pg_publication WHERE pubname = %(name)s)
+"""
+
+
+def check_not_anothers(connection: "Connection", name: str, table: Table) -> None:
+    """Raises `CantFollow` where a slot or a publication of a follower's name is that of another table, so that it isn't dropped."""
+    with connection.cursor() as cursor:
+        cursor.execute(OTHERS, [name, table.oid])
+        other = cursor.fetchone()
+        cursor.execute(IS_THERE, {"name": name})
+        is_there = one(cursor)[0]
+    mend = f"so it is left alone: give this follower another slot, or drop that one by --slot {name} --drop"
+    if name.startswith(PREFIX) and other is not None:
+        raise CantFollow(f"the publication {name} is of another table, {other[0]}, and not of {table}, {mend}")
+    if is_there and is_numbered_otherwise(name, table.oid):
+        raise CantFollow(f"the slot or the publication {name} has the number of another table in its name than {table}, which is {table.oid}, {mend}")
 
 
 def make_publication(connection: "Connection", name: str, table: Table, columns: Sequence[str]) -> bool:

@@ -14,6 +14,7 @@ import psycopg2.extensions
 import psycopg2.extras
 
 from ._errors import CantFollow
+from ._lsn import lsn_of
 from ._table import one
 
 if TYPE_CHECKING:
@@ -41,8 +42,10 @@ FROM pg_database WHERE datname = current_database()
 """
 
 SLOT = """
-SELECT plugin, database = current_database(), active_pid FROM pg_replication_slots WHERE slot_name = %s
+SELECT plugin, database = current_database(), active_pid, confirmed_flush_lsn::text FROM pg_replication_slots WHERE slot_name = %s
 """
+# (a slot's or a publication's own name ends with the number of its table)
+NUMBERED = re.compile(re.escape(PREFIX) + r".*_(\d+)")
 
 
 def dsn_of(dsn: str) -> str:
@@ -147,11 +150,38 @@ def drop_slot(connection: "Connection", slot: str, is_own: bool = False) -> bool
                 cursor.execute("SELECT pg_drop_replication_slot(%s)", [slot])
                 return True
             if time.monotonic() > until:
-                raise CantFollow(
-                    f"the slot {slot} is in use by the server's process {row[2]}: is another follower running? End that one, or give "
-                    "this one another slot; a follower that was cut off is forgotten after wal_sender_timeout"
-                )
+                raise in_use(slot, row[2])
             time.sleep(0.1)
+
+
+def free_slot(connection: "Connection", slot: str) -> Optional[int]:
+    """The LSN until which a slot's changes were taken, once nobody is at it, or none where it isn't there or isn't one that a follower of
+    this database made."""
+    until = time.monotonic() + SECONDS_TO_BE_FREE
+    with connection.cursor() as cursor:
+        while True:
+            cursor.execute(SLOT, [slot])
+            row = cursor.fetchone()
+            if row is None or row[0] != PLUGIN or not row[1] or row[3] is None:
+                return None
+            if row[2] is None:
+                return lsn_of(row[3])
+            if time.monotonic() > until:
+                raise in_use(slot, row[2])
+            time.sleep(0.1)
+
+
+def in_use(slot: str, process: int) -> CantFollow:
+    return CantFollow(
+        f"the slot {slot} is in use by the server's process {process}: is another follower running? End that one, or give "
+        "this one another slot; a follower that was cut off is forgotten after wal_sender_timeout"
+    )
+
+
+def is_numbered_otherwise(name: str, oid: int) -> bool:
+    """Whether a name is that of a slot of another table."""
+    found = NUMBERED.fullmatch(name)
+    return found is not None and found[1] != str(oid)
 
 
 def check_ours(slot: str, is_own: bool, plugin: Optional[str], is_of_database: Optional[bool]) -> None:
@@ -190,14 +220,3 @@ def cancel(connection: "Connection", processes: Sequence[int]) -> None:
     with connection.cursor() as cursor:
         for it in processes:
             cursor.execute("SELECT pg_cancel_backend(%s)", [it])
-
-
-def lsn_of(text: str) -> int:
-    """An LSN as a number of bytes."""
-    high, low = text.split("/")
-    return (int(high, 16) << 32) + int(low, 16)
-
-
-def lsn_text(lsn: int) -> str:
-    """An LSN as PostgreSQL writes it."""
-    return f"{lsn >> 32:X}/{lsn & 0xFFFFFFFF:X}"

@@ -29,10 +29,12 @@ class Change(NamedTuple):
 
 class Transaction:
     """The changes of a committed transaction, in their order; those of a long one lie in a file. `end` is the LSN behind its
-    commit, and `committed` when that was, in seconds since 1970 began. It begins with the table as it was told before."""
+    commit, and `committed` when that was, in seconds since 1970 began. They have `size` bytes. It begins with the table as it was told
+    before."""
 
     def __init__(self, messages: IO[bytes], commit: Commit, relation: Optional[Relation]) -> None:
         self._messages, self._relation = messages, relation
+        self.size = messages.tell()
         self.end, self.committed = commit.end, commit.seconds
 
     def __iter__(self) -> Iterator[Change]:
@@ -123,6 +125,7 @@ class Stream:
         """The LSN before which all commits were given; 0 inside a transaction."""
         return 0 if self._pending is not None else int(self._cursor.wal_end)
 
-    def confirm(self, lsn: int) -> None:
-        """Says that all until an LSN is done with, so that the server may drop its log until there."""
-        self._cursor.send_feedback(flush_lsn=lsn)
+    def confirm(self, lsn: int, is_read: bool = True) -> None:
+        """Says that all until an LSN is done with, so that the server may drop its log until there. That goes out once a second while
+        the stream is read, else at once."""
+        self._cursor.send_feedback(flush_lsn=lsn, force=not is_read)

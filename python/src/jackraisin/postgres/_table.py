@@ -1,8 +1,8 @@
 """The followed table, as the catalog of the database tells of it."""
 from __future__ import annotations
 
-from dataclasses import dataclass
-from typing import TYPE_CHECKING, Any, Iterable, List, Mapping, Optional, Sequence, Tuple
+from dataclasses import asdict, dataclass
+from typing import TYPE_CHECKING, Any, Dict, Iterable, List, Mapping, Optional, Sequence, Tuple
 
 import psycopg2.errors
 
@@ -140,6 +140,20 @@ class Table:
         if name not in self.columns:
             raise CantFollow(f"table {self} has no column {name}, which is wanted as a {what}; it has {', '.join(self.columns)}")
         return self.columns[name]
+
+
+def noted(table: Table) -> Dict[str, Any]:
+    """A table as JSON has it."""
+    return asdict(table)
+
+
+def table_of(note: Mapping[str, Any]) -> Table:
+    """The table that was so noted."""
+    said = dict(note)
+    said["columns"] = {name: Column(**it) for name, it in note["columns"].items()}
+    said["key"] = tuple(note["key"])
+    said["partitions"] = None if note["partitions"] is None else {oid: Partition(**it) for oid, it in note["partitions"].items()}
+    return Table(**said)
 
 
 def read_table(cursor: "Cursor", name: str) -> Table:

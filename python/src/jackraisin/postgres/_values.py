@@ -4,19 +4,19 @@ from __future__ import annotations
 import json
 import re
 from fractions import Fraction
-from typing import Final, List, Mapping, Optional, Sequence, Set
+from typing import Final, Iterable, List, Mapping, Optional, Sequence, Set
 
 from .._numbers import spelled
 from .._records import GREATEST, LEAST, NULL, escaped
 from .._schema import Schema
 from ._errors import CantFollow, RowUnsayable
 from ._table import TEXTS, Column, Table
+from ._work import KEPT
 
 # (values as the server writes them; one that the log leaves out, since it is long and didn't change, isn't there)
 Values = Mapping[str, Optional[str]]
 
 LONGEST_SHOWN: Final = 100
-KEPT: Final = "\\="
 BOOLS: Final = {"t": "true", "f": "false"}
 ESCAPE = re.compile(r"\\(.)", re.DOTALL)
 ESCAPES: Final = {"b": "\b", "f": "\f", "n": "\n", "r": "\r", "t": "\t", "v": "\v"}
@@ -24,12 +24,13 @@ ESCAPES: Final = {"b": "\b", "f": "\f", "n": "\n", "r": "\r", "t": "\t", "v": "\
 
 class Rows:
     """How the rows of a table are said: which columns are the dimensions and measures of a schema, in its order, by
-    which power of ten a measure is taken, and how many decimals it has."""
+    which power of ten a measure is taken, and how many decimals it has. An id that is the text of a key alone has an `end` behind it."""
 
     def __init__(
-        self, table: Table, schema: Schema, dimensions: Optional[Sequence[str]], measures: Optional[Sequence[str]], scale: Mapping[str, int]
+        self, table: Table, schema: Schema, dimensions: Optional[Sequence[str]], measures: Optional[Sequence[str]], scale: Mapping[str, int],
+        end: str = "",
     ) -> None:
-        self.table = table
+        self.table, self._end = table, end
         self.dimensions = columns_of(table, "dimension", schema.dimensions, dimensions)
         self.measures = columns_of(table, "measure", schema.measures, measures)
         self.factors = factors_of(self.measures, scale)
@@ -54,7 +55,7 @@ class Rows:
     def id_of(self, values: Values) -> str:
         """The id of a row: the text of its key, or a list of texts where one alone could be empty or mean two keys."""
         texts = [self._key_text(column, values) for column in self._key]
-        return texts[0] if self._is_bare else json.dumps(texts, ensure_ascii=False)
+        return texts[0] + self._end if self._is_bare else json.dumps(texts, ensure_ascii=False)
 
     def _key_text(self, column: Column, values: Values) -> str:
         text = text_of(column, values.get(column.name))
@@ -101,8 +102,8 @@ class Rows:
 class Skipped:
     """The ids of the rows that are left out, since they can't be said, and why the last one is, until that is told."""
 
-    def __init__(self) -> None:
-        self.ids: Set[str] = set()
+    def __init__(self, ids: Iterable[str] = ()) -> None:
+        self.ids: Set[str] = set(ids)
         self.last: Optional[RowUnsayable] = None
 
     def add(self, id: str, why: RowUnsayable) -> None:
