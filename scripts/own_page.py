@@ -784,9 +784,9 @@ def of_workloads(trials, page, room):
 # A million lines.
 
 
-def memory_of(driver):
-    """The memory that a browser's processes have by themselves, in MiB."""
-    children, total = {}, 0
+def processes_of(driver):
+    """The numbers of a browser's processes."""
+    children = {}
     for name in filter(str.isdigit, os.listdir("/proc")):
         try:
             with open(f"/proc/{name}/stat") as file:
@@ -796,12 +796,21 @@ def memory_of(driver):
     below = [driver.service.process.pid]
     for it in below:
         below += children.get(it, [])
+    return below
+
+
+def use_of(driver):
+    """The memory that a browser's processes have by themselves, in MiB, and the processor time that they took, in seconds."""
+    memory = ticks = 0
+    for it in processes_of(driver):
         try:
             with open(f"/proc/{it}/smaps_rollup") as file:
-                total += int(re.search(r"^Pss: +(\d+)", file.read(), re.M)[1])
+                memory += int(re.search(r"^Pss: +(\d+)", file.read(), re.M)[1])
+            with open(f"/proc/{it}/stat") as file:
+                ticks += sum(map(int, file.read().rpartition(")")[2].split()[11:13]))
         except (OSError, TypeError):
             continue
-    return total / 1024
+    return memory / 1024, ticks / os.sysconf("SC_CLK_TCK")
 
 
 def large(trials, page, room):
@@ -810,15 +819,18 @@ def large(trials, page, room):
     write_file(path, large_feed(1_000_000).encode())
     page.fresh()
     time.sleep(1)
-    before = most = memory_of(page.driver)
+    before, spent = use_of(page.driver)
+    most = before
     page.js(explorer.BEATS)
     start = time.monotonic()
     page.choose_files(path)
     while not page.js("return !document.getElementById('own-bar').hidden"):
-        most = max(most, memory_of(page.driver))
-        time.sleep(0.1)
+        most = max(most, use_of(page.driver)[0])
+        time.sleep(0.3)
     took, longest = time.monotonic() - start, page.js("return window.longest") / 1000
-    print(f"{os.path.getsize(path) / 1e6:.1f} MB, a million lines: {took:.1f} s from the file to the table; {most - before:.0f} MiB more than "
+    last, spent = use_of(page.driver)[0], use_of(page.driver)[1] - spent
+    most = max(most, last)
+    print(f"{os.path.getsize(path) / 1e6:.1f} MB, a million lines: {took:.1f} s from the file to the table, {spent:.1f} s of processors; {most - before:.0f} MiB more than "
           f"the empty page at most; the page's longest pause was {longest:.2f} s; {page.text('#about')}; {page.text('#own-made')}")
     trials.see("the cube of a million lines", page.cube(), by_command(page, room))
     trials.see("the page answers meanwhile", longest < explorer.pause_for(took))
