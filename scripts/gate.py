@@ -199,6 +199,7 @@ def long_parts(program):
         ("the same question in SQL", ["scripts/sql.py", "--program", program]),
         *([("the same question in SQL, generated cases", generated)] if generated else []),
         ("the page in a browser", ["scripts/explorer.sh"]),
+        ("the page that counts a file of one's own, in a browser", ["scripts/own_page.sh"]),
     ]
 
 

@@ -48,7 +48,7 @@ completions/_datacube share/zsh/site-functions/_datacube 644
 completions/datacube.fish share/fish/vendor_completions.d/datacube.fish 644
 release/NOTICES $documents/NOTICES 644
 END
-    for file in CHANGELOG.md README.md docs/*.md docs/*.svg docs/*.png docs/explorer/*.png explorer/index.html \
+    for file in CHANGELOG.md README.md docs/*.md docs/*.svg docs/*.png docs/explorer/*.png explorer/index.html explorer/datacube.html \
         examples/first/feed.csv examples/first/cube.csv examples/live/README.md examples/serve/datacube-serve.service; do
         echo "$file $documents/$file 644"
     done

@@ -314,7 +314,7 @@ def packs(copy):
         is_program = path.endswith("bin/datacube") or "/examples/" in path and path.endswith(".py")
         expect(rights, {"d": "drwxr-xr-x", "l": "lrwxrwxrwx"}.get(rights[0]) or ("-rwxr-xr-x" if is_program else "-rw-r--r--"), path)
     documents = f"{usr}/share/doc/datacube"
-    for path in ("docs/FORMATS.md", "explorer/index.html", "README.md", "changelog.gz", "copyright", *examples()):
+    for path in ("docs/FORMATS.md", "explorer/index.html", "explorer/datacube.html", "README.md", "changelog.gz", "copyright", *examples()):
         holds(os.path.exists(f"{documents}/{path}"), f"{path} isn't in the package")
     expect(links.lost_where_installed(documents), [], "links of the package's documents that lead nowhere")
     holds(not os.path.exists(f"{documents}/folders"), "the package has notes of an installation")

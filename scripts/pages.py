@@ -69,6 +69,8 @@ LEFT_OUT = {
     "scripts/install.sh": "scripts/installing.py tries it",
     "scripts/deb.sh": "scripts/installing.py tries it",
     "scripts/explorer.sh": "it is a part of the gate by itself, or takes pictures",
+    "scripts/own_page.sh": "it is a part of the gate by itself, or takes pictures",
+    "scripts/page.py": "it is a part of the gate by itself",
     "../../scripts/sql.py  ": SERVES,
     "../../scripts/sql.py schema": SERVES,
     "rt ": "proving takes the kit, and is the gate's",
