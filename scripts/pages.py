@@ -85,7 +85,7 @@ LEFT_OUT = {
     "parts = sc.": "Spark isn't installed",
 }
 # Kinds of blocks that aren't run, and why.
-LEFT_OUT_KINDS = {"console": "its numbers are those of a moment: scripts/progress.py looks at the progress line"}
+LEFT_OUT_KINDS = {"console": "its numbers are those of a moment: tests/test_progress.py looks at the progress line"}
 # What blocks and their marks name that need not be installed: where it isn't, the block is left out.
 NEEDS = ("clickhouse-client", "pandas", "parallel", "psql", "Rscript", "soffice", "sqlite3", "zstd")
 # What runs the blocks of each kind; bash does it itself.

@@ -230,6 +230,13 @@ class Pandas(unittest.TestCase):
         level = frame.index.get_level_values("city")
         self.assertEqual(frame[level.isna() & (frame.index.get_level_values("product") == ALL)].shape[0], 3)
 
+    def test_least_numbers_beside_null(self):
+        """The least whole numbers of 64 bits are no null, where one stands in their column."""
+        for least in (-(2**63), 1 - 2**63, 512 - 2**63, 513 - 2**63):
+            cube = jackraisin.cube_of([{"a": "x", "m": least}, {"a": "y", "m": None}], by=["a"], of={"m": "min"})
+            found = [None if self.pandas.isna(it) else int(it) for it in cube.to_pandas()["min(m)"]]
+            self.assertEqual(found, [least, None, least])
+
     def test_every_row(self):
         for seed in range(20):
             rng = random.Random(f"pandas {seed}")

@@ -17,8 +17,9 @@ if TYPE_CHECKING:
     import pandas
 
 HAS_SLOTS = getattr(Fraction, "__slots__", None) == ("_numerator", "_denominator")
-# (what pandas reads in another way than csv, which reads such texts then: it ends a field at a NUL, and a line at a CR)
-NOT_FOR_PANDAS = "\0\r\ufeff"
+# (what pandas reads in another way than csv, which reads such texts then: it ends a field at a NUL, and a line at a CR, and takes
+# a number that is -2^63 as a float for null where a null stands beside it)
+NOT_FOR_PANDAS = "\0", "\r", "\ufeff", "-922337203685477"
 
 
 def texts_of(text: str, columns: Columns) -> List[Sequence[str]]:
