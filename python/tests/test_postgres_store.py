@@ -1,6 +1,6 @@
 """Followers that keep their cube in a store, and go on where they ended, beside the table's own GROUP BY CUBE.
 
-With DATACUBE_LONG=1 in the environment the follower is killed 50 times among the writers."""
+With DATACUBE_LONG=1 in the environment the follower is killed in 50 rounds among the writers."""
 import contextlib
 import itertools
 import os
@@ -151,7 +151,8 @@ class Killed(Stored, test_postgres.WithWriters):
         def write():
             with test_postgres.PRIVATE.connected() as cursor:
                 for at in itertools.count(0, 10):
-                    if is_over.is_set():
+                    # (as much as a start can take, however busy the machine is)
+                    if is_over.wait(0.02):
                         return
                     for it in PAIRS:
                         cursor.execute(it.format(table=self.table, at=at))
@@ -160,7 +161,7 @@ class Killed(Stored, test_postgres.WithWriters):
         writing.start()
         try:
             answers, rng = [], random.Random("parts")
-            for _ in range(KILLS):
+            for _ in range(20 if LONG else KILLS):
                 command = self.command(SALES, ())
                 for _ in range(3):
                     answers.append(command.ask("slice,\\A,\\A").splitlines()[1].rpartition(",1,1,")[2].split(","))
