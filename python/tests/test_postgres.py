@@ -1574,7 +1574,12 @@ class Commands(Base):
         hang_up = [signal.SIGHUP]
         for signals in ([signal.SIGINT], [signal.SIGTERM], hang_up, hang_up * 2, [signal.SIGTERM, *hang_up]):
             with self.subTest(signals=signals):
-                command = Command(*self.words())
+                # (whoever runs the tests may have it ignored, as under nohup)
+                before = signal.signal(signal.SIGHUP, signal.SIG_DFL)
+                try:
+                    command = Command(*self.words())
+                finally:
+                    signal.signal(signal.SIGHUP, before)
                 command.ask("print")
                 for it in signals:
                     command.process.send_signal(it)
