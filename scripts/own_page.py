@@ -27,12 +27,13 @@ import time
 
 sys.dont_write_bytecode = True
 import cases
-import explorer
-import guesses
-import hostile
+import explorer_page
+import generated_files
 import page as builder
 import programs
-from explorer import Trials, screenshot
+from explorer import pause_for, screenshot
+from explorer_page import Trials
+from generated import random_case, written
 from workloads import WORKLOADS, make
 
 ROOT = programs.ROOT
@@ -99,7 +100,7 @@ setTimeout(() => done([[...new Set(seen)].sort(), window.isRun === true]), 1000)
 FORBIDDEN = ["connect-src", "form-action", "frame-src", "img-src", "script-src-elem", "style-src-elem", "worker-src"]
 
 
-class Page(explorer.Page):
+class Page(explorer_page.Page):
     """The page in a browser, and questions to its module."""
 
     def fresh(self, address=""):
@@ -124,7 +125,7 @@ class Page(explorer.Page):
         """Waits until the cube of a file is shown."""
         self.wait("return !document.getElementById('own-bar').hidden && !document.getElementById('explorer').hidden"
                   " && document.title.startsWith(arguments[0])", f"{name} cube.csv")
-        self.wait(explorer.SETTLED)
+        self.wait(explorer_page.SETTLED)
         if self.at("#problem").is_displayed():
             raise ValueError(self.text("#problem"))
 
@@ -170,7 +171,7 @@ def read(path):
 def ran(folder, *words):
     """The status of the program in a folder, its output, and the line of its failure or nothing."""
     how = {"cwd": folder, "stdin": subprocess.DEVNULL, "stdout": subprocess.PIPE, "stderr": subprocess.PIPE, "timeout": 300}
-    done = subprocess.run([explorer.datacube(), *words], **how)
+    done = subprocess.run([explorer_page.datacube(), *words], **how)
     first = done.stderr.split(b"\n")[0]
     return done.returncode, done.stdout, first.removeprefix(b"datacube: ") if done.returncode not in (0, 4) else b""
 
@@ -322,13 +323,13 @@ def generated_question(folder, at):
     rng = random.Random(f"page {at}")
     os.mkdir(folder)
     if at % 3 == 2:
-        names, _, data = guesses.file_of(rng)
+        names, _, data = generated_files.file_of(rng)
         write_file(f"{folder}/f.csv", data)
-        texts = [guesses.columns_asked(rng, names, most) for most in (8, 4)]
+        texts = [generated_files.columns_asked(rng, names, most) for most in (8, 4)]
         by, of = (it.decode() if it is not None else None for it in texts)
         return schema_question(f"generated file {at}", folder, "f.csv", by or None, of or None)
-    schema, feeds = hostile.random_case(rng, at % 2 == 0)
-    pairs = [hostile.written(rng, schema, it[:300], rng.random() < 0.9)[0] for it in feeds]
+    schema, feeds = random_case(rng, at % 2 == 0)
+    pairs = [written(rng, schema, it[:300], rng.random() < 0.9)[0] for it in feeds]
     data = [damaged(rng, it) if rng.random() < 0.15 else it for it in pairs]
     write_file(f"{folder}/s.toml", schema.toml())
     for place, it in enumerate(data):
@@ -728,10 +729,10 @@ def names_and_contrast(trials, page, room):
         for look in ("light", "dark"):
             page.colours(look)
             time.sleep(0.1)
-            page.wait(explorer.SETTLED)
-            for state in explorer.STATES:
+            page.wait(explorer_page.SETTLED)
+            for state in explorer_page.STATES:
                 page.force(state)
-                low = [it for it in page.js(explorer.CONTRASTS) if it[1] < explorer.CONTRAST]
+                low = [it for it in page.js(explorer_page.CONTRASTS) if it[1] < explorer_page.CONTRAST]
                 trials.see(f"contrast of {place}, {look}, {' '.join(state) or 'at rest'}", low, [])
     page.colours("light")
 
@@ -821,7 +822,7 @@ def large(trials, page, room):
     time.sleep(1)
     before, spent = use_of(page.driver)
     most = before
-    page.js(explorer.BEATS)
+    page.js(explorer_page.BEATS)
     start = time.monotonic()
     page.choose_files(path)
     while not page.js("return !document.getElementById('own-bar').hidden"):
@@ -833,7 +834,7 @@ def large(trials, page, room):
     print(f"{os.path.getsize(path) / 1e6:.1f} MB, a million lines: {took:.1f} s from the file to the table, {spent:.1f} s of processors; {most - before:.0f} MiB more than "
           f"the empty page at most; the page's longest pause was {longest:.2f} s; {page.text('#about')}; {page.text('#own-made')}")
     trials.see("the cube of a million lines", page.cube(), by_command(page, room))
-    trials.see("the page answers meanwhile", longest < explorer.pause_for(took))
+    trials.see("the page answers meanwhile", longest < pause_for(took))
     trials.see("in 8 seconds", took < 8)
     trials.see("in 600 MB", most - before < 600e6 / 2**20)
 
