@@ -75,6 +75,35 @@ def small_comparison(trials, page, room):
     trials.see("by a change", [it[0] for it in page.shown()["body"]], ["Hull", "Paris", "York", "Leeds"])
 
 
+def comparison_keys(trials, page, room):
+    """The buttons of a comparison by keys alone, up to the browser's own window for files."""
+    from selenium.webdriver.common.keys import Keys
+
+    earlier, later = written(f"{room}/before.csv", EARLIER), written(f"{room}/after.csv", LATER)
+    page.open(later, "")
+    page.js("window.asked = 0; document.getElementById('earlier').addEventListener('click', (it) => { it.preventDefault(); window.asked += 1; })")
+    press = lambda key: page.driver.switch_to.active_element.send_keys(key)
+
+    def come_to(name):
+        page.js("document.getElementById('pick').focus()")
+        for _ in range(60):
+            if page.js("return document.activeElement.id") == name:
+                return True
+            press(Keys.SHIFT + Keys.TAB + Keys.NULL if name == "compare" else Keys.TAB)
+        return False
+
+    trials.see("keys come to the comparison", come_to("compare"))
+    press(Keys.ENTER)
+    press(Keys.SPACE)
+    trials.see("Enter and the space bar ask for the earlier cube", page.js("return window.asked"), 2)
+    open_earlier(page, earlier)
+    trials.see("keys come to its end", come_to("alone"))
+    press(Keys.ENTER)
+    page.wait("return !document.title.includes(' and ')")
+    page.wait(SETTLED)
+    trials.see("and end it", page.js("return document.activeElement.id"), "compare")
+
+
 def addresses(trials, page, room):
     """Charts, addresses and files of a comparison."""
     earlier, later = written(f"{room}/before.csv", EARLIER), written(f"{room}/after.csv", LATER)
@@ -278,4 +307,4 @@ def large_saving(trials, page, room, path):
     trials.see("many lines are saved", (found[1:-1] == lines, ",1,1,1," in found[-1]), (True, True))
 
 
-TRIALS = [small_comparison, unlike, addresses, shop_comparison, saving, pictures, saved_texts, strict]
+TRIALS = [small_comparison, comparison_keys, unlike, addresses, shop_comparison, saving, pictures, saved_texts, strict]
