@@ -416,10 +416,11 @@ class GoesOn(Stored, test_postgres.Base):
             until(truncated.is_set, SECONDS)
             until(lambda: follower._anew is None, SECONDS)
             self.same(follower)
-            for at in range(10):
-                self.run_sql(f"UPDATE {{table}} SET cents = {at}")
-            self.same(follower)
-            follower.close()
+        until(lambda: follower._anew is None, SECONDS)
+        for at in range(10):
+            self.run_sql(f"UPDATE {{table}} SET cents = {at}")
+        self.same(follower)
+        follower.close()
         self.assertEqual(self.kept(), ["", "-notes"])
         self.goes_on("UPDATE {table} SET cents = 5")
 

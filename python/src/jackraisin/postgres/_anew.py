@@ -37,7 +37,7 @@ class StoreAnew(InSnapshot):
     def close(self) -> None:
         super().close()
         if self.copy is not None:
-            self.copy.mirror.close()
+            self.copy.mirror.discard()
 
     def work(self, connection: "Connection", snapshot: str) -> None:
         table = self._rows.table
@@ -50,6 +50,6 @@ class StoreAnew(InSnapshot):
             TOLD.info("the store has %d changes of %d rows, and is made anew beside the old one", self._changes, self.rows)
             copy = self._copied(connection, snapshot, self.lsn)
             if self._is_given_up:
-                copy.mirror.close()
+                copy.mirror.discard()
             else:
                 self.copy = copy

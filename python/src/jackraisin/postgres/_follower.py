@@ -311,7 +311,7 @@ class Follower(Asked, Running):
             session.changes = count
             session.sync()
         except BaseException:
-            session.kill()
+            store.discard(session)
             raise
         return StoredMirror(session, self.schema, lsn, store, self._note)
 

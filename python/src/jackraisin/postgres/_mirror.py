@@ -53,6 +53,10 @@ class Mirror:
         with contextlib.suppress(Ended):
             self._live.close()
 
+    def discard(self) -> None:
+        """Ends it, where another one is gone on with."""
+        self.close()
+
     def apply(self, work: Work, lsn: int, then: Callable[[], None]) -> None:
         """Makes the changes of a transaction, in the order in which they were prepared, and a call behind them, both between two
         questions; the mirror has all until an LSN then. Where that is broken off, the session isn't to be asked any more."""

@@ -87,6 +87,13 @@ class Store:
         """Removes all stores but that of a session. The sessions over them are over."""
         self._clean(session.path)
 
+    def discard(self, session: StoredSession) -> None:
+        """Ends a session at once, and removes its store, which was made beside the one that is gone on with."""
+        session.kill()
+        if session.path != self.path:
+            for it in (session.path, session.path + LOG):
+                remove(it)
+
     def end(self, session: StoredSession) -> None:
         """Ends a session well, and gives its store the path."""
         with contextlib.suppress(Ended):
@@ -131,6 +138,10 @@ class StoredMirror(Mirror):
 
     def close(self) -> None:
         self.session.kill()
+
+    def discard(self) -> None:
+        """Ends it, and removes its store, where another one is gone on with."""
+        self._store.discard(self.session)
 
     def finish(self, is_whole: bool) -> None:
         if is_whole:
