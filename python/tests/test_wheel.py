@@ -114,7 +114,7 @@ class Wheels(unittest.TestCase):
         self.assertEqual((told["License"], told["Home-page"], told.get_all("Project-URL")), (None, None, None))
         self.assertEqual(told["Description-Content-Type"], "text/markdown")
         self.assertEqual(told.get_payload().strip(), content(f"{beside.ROOT}/python/README.md").decode().strip())
-        self.assertEqual([it.split(";")[0] for it in told.get_all("Requires-Dist")], ["pandas ", "psycopg2 ", "aiohttp ", "prometheus-client ", "tomli "])
+        self.assertEqual([it.split(";")[0] for it in told.get_all("Requires-Dist")], ["pyarrow ", "pandas ", "polars ", "psycopg2 ", "aiohttp ", "prometheus-client ", "tomli "])
         self.assertFalse([it for it in parts if it.startswith("datacube")], "a part has the old name")
 
     def test_its_parts(self):

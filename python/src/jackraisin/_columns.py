@@ -7,7 +7,7 @@ from decimal import Decimal
 from fractions import Fraction
 from itertools import repeat
 from math import gcd
-from typing import TYPE_CHECKING, Any, Callable, Dict, List, Optional, Sequence, Union
+from typing import TYPE_CHECKING, Any, Callable, Dict, List, Optional, Sequence, TypeVar, Union
 
 from ._cells import ALL
 from ._numbers import Number, number_of, whole_of
@@ -16,6 +16,7 @@ from ._records import GREATEST, LEAST, NULL, Columns, head_of, records_of, unesc
 if TYPE_CHECKING:
     import pandas
 
+T = TypeVar("T")
 HAS_SLOTS = getattr(Fraction, "__slots__", None) == ("_numerator", "_denominator")
 # (what pandas reads in another way than csv, which reads such texts then: it ends a field at a NUL, and a line at a CR, and takes
 # a number that is -2^63 as a float for null where a null stands beside it)
@@ -34,7 +35,7 @@ def numbers_of(aggregate: str, texts: Sequence[str]) -> List[Optional[Number]]:
     """The numbers that fields say, of an aggregate other than a mean."""
     read = whole_of if is_count(aggregate) else number_of
     try:
-        return [None if it == NULL else read(it) for it in texts]
+        return each_once(texts, lambda some: list(map(read, some)))
     except (ValueError, ArithmeticError) as why:
         raise unreadable(why) from None
 
@@ -42,10 +43,19 @@ def numbers_of(aggregate: str, texts: Sequence[str]) -> List[Optional[Number]]:
 def means_of(texts: Sequence[str]) -> List[Optional[Fraction]]:
     """The means that fields say."""
     try:
-        means = iter(fractions_of([it for it in texts if it != NULL]))
-        return [None if it == NULL else next(means) for it in texts]
+        return each_once(texts, fractions_of)
     except (ValueError, TypeError, ZeroDivisionError) as why:
         raise unreadable(why) from None
+
+
+def each_once(texts: Sequence[str], read: Callable[[List[str]], List[T]]) -> List[Optional[T]]:
+    """What texts say, None for null. Each text is read once where they are few, since a cube says the same number in many lines."""
+    known = [it for it in dict.fromkeys(texts) if it != NULL]
+    if 2 * len(known) > len(texts):
+        each = iter(read([it for it in texts if it != NULL]))
+        return [None if it == NULL else next(each) for it in texts]
+    values: Dict[str, Optional[T]] = {NULL: None, **dict(zip(known, read(known)))}
+    return list(map(values.__getitem__, texts))
 
 
 def mean_of(text: str) -> Fraction:

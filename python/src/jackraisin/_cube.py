@@ -12,7 +12,7 @@ from decimal import Decimal
 from fractions import Fraction
 from typing import TYPE_CHECKING, Any, Dict, Iterable, List, NamedTuple, Optional, Sequence, Tuple, Union, overload
 
-from . import _columns, _numbers, _show, _views
+from . import _columns, _numbers, _show, _tables, _views
 from ._cells import ALL, Cell, Coordinate, Key, Pattern, in_order
 from ._program import Path
 from ._records import NULL, Columns, head_of, lines_of, records_of, unescaped, unreadable
@@ -170,6 +170,20 @@ class Cube(Sequence[Row]):
         is missing. Whole numbers are `Int64` where they fit, else objects; a number with decimals is a `Decimal`, and a mean a
         `Fraction`."""
         return _columns.frame_of(self.text, self._columns)
+
+    def to_arrow(self) -> Any:
+        """A table of pyarrow, with the columns of the printed cube under their names: ALL and null are both null in a dimension, and
+        its GROUPING column (`int8`) tells them apart. Whole numbers are `int64` where all of a column fit, else `decimal128`, as
+        numbers with decimals are, with `decimal256` beyond 38 digits; a mean is the text of its fraction."""
+        return _tables.arrow_table(self.text, self._columns)
+
+    def to_polars(self) -> Any:
+        """The same as a frame of polars, in which numbers beyond 38 digits are texts."""
+        return _tables.polars_frame(self.text, self._columns)
+
+    def __arrow_c_stream__(self, requested_schema: object = None) -> Any:
+        """The same as a stream, by which packages hand each other tables (Arrow's PyCapsule interface); it takes pyarrow or polars."""
+        return _tables.arrow_stream(self.text, self._columns, requested_schema)
 
 
 def cell_html(value: Union[Coordinate, Answer]) -> str:
