@@ -182,6 +182,26 @@ class Streamed(Counted, test_postgres.Base):
         self.copied_once(follower)
         self.assertEqual(follower.state.transactions, 1)
 
+    def test_a_transaction_of_another_server(self):
+        """A block of one that came from elsewhere says so, by a message without a number."""
+        follower = self.begun()
+        self.run_sql("SELECT pg_replication_origin_create('far')")
+        self.addCleanup(lambda: self.run_sql("SELECT pg_replication_origin_drop('far')"))
+        with self.writing() as one:
+            one("COMMIT", "SELECT pg_replication_origin_session_setup('far')", "BEGIN", self.insert(100), "COMMIT")
+            one("SELECT pg_replication_origin_session_reset()")
+        self.copied_once(follower)
+        self.assertEqual((self.came[StreamCommit], follower.state.changes), (1, MANY))
+
+    def test_a_server_that_sends_none_that_is_open(self):
+        """As before PostgreSQL 14."""
+        with mock.patch("jackraisin.postgres._stream.STREAMS", 10**9):
+            follower = self.begun()
+        with self.writing() as one:
+            one(self.insert(100), "SAVEPOINT a", self.insert(5000), "ROLLBACK TO SAVEPOINT a", "TRUNCATE {table}", self.insert(100), "COMMIT")
+        self.copied_once(follower)
+        self.assertEqual((self.came[StreamStart], follower.state.transactions), (0, 1))
+
     def test_partitions(self):
         """One that comes within a transaction which is rolled back was never there; one that is committed has to be copied."""
         self.run_sql(
