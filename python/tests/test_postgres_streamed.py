@@ -365,6 +365,8 @@ class Confirmed(Counted, test_postgres.Base):
                 with self.subTest(it):
                     stream._current = _stream.Pending(True) if it == b"I\0" else None
                     self.assertRaises(_errors.BadMessage, stream._take, it)
+            stream._take(b"S" + number + b"\1")
+            self.assertRaises(_errors.BadMessage, stream._take, b"C" + bytes(25))
 
 
 if __name__ == "__main__":

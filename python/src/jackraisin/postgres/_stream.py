@@ -171,7 +171,7 @@ class Stream:
             if message.is_first:
                 self._streamed[message.number] = Pending(True)
             self._current = self._open(message.number)
-        elif isinstance(message, Commit) and current is not None:
+        elif isinstance(message, Commit) and current is not None and not current.is_streamed:
             return self._committed(current, message)
         elif isinstance(message, StreamCommit):
             pending = self._open(message.number)
