@@ -1878,6 +1878,11 @@ class Messages(unittest.TestCase):
         self.valid = {
             b"B" + struct.pack(">qqI", lsn, time, 9): _messages.Begin(lsn, time, 9),
             b"C\0" + struct.pack(">qqq", lsn, lsn + 1, time): _messages.Commit(lsn, lsn + 1, time),
+            b"S" + struct.pack(">IB", oid, 1): _messages.StreamStart(oid, True),
+            b"S" + struct.pack(">IB", oid, 0): _messages.StreamStart(oid, False),
+            b"E": _messages.StreamStop(),
+            b"c" + struct.pack(">IBqqq", oid, 0, lsn, lsn + 1, time): _messages.StreamCommit(oid, _messages.Commit(lsn, lsn + 1, time)),
+            b"A" + struct.pack(">II", oid, oid + 1): _messages.StreamAbort(oid, oid + 1),
             b"O" + struct.pack(">q", lsn) + b"far\0": _messages.Origin(lsn, "far"),
             b"R" + struct.pack(">I", oid) + b"public\0sales\0d\x00\x02" + b"\x01id\0" + struct.pack(">Ii", 23, -1) + b"\x00price\0" + struct.pack(">Ii", 1700, 524294):
                 _messages.Relation(oid, "public", "sales", "d", (_messages.RelationColumn(True, "id", 23, -1), _messages.RelationColumn(False, "price", 1700, 524294))),
@@ -1906,9 +1911,17 @@ class Messages(unittest.TestCase):
                 with contextlib.suppress(_errors.BadMessage):
                     _messages.message_of(data[:at] + bytes([data[at] ^ turned]) + data[at + 1 :])
 
+    def test_in_a_block(self):
+        """A message within a block has the number of its transaction first, and is the same otherwise."""
+        for data, message in self.valid.items():
+            number, inner = _messages.numbered(data[:1] + struct.pack(">I", 4_000_000_000) + data[1:])
+            self.assertEqual((number, _messages.message_of(inner)), (4_000_000_000, message))
+        for cut in (b"", b"I", b"I\0\0\0"):
+            self.assertRaises(_errors.BadMessage, _messages.numbered, cut)
+
     def test_what_is_none(self):
         relation = b"R" + struct.pack(">I", 7) + b"public\0sales\0"
-        for data, words in ((b"", "kind"), (b"S\0\0\0\1\1", "kind"), (relation + b"x\0\0", "replica identity"), (relation[:-3] + b"\xff\0", "utf-8"), (b"I\0\0\0\7N\0\1b", "kind of a value")):
+        for data, words in ((b"", "kind"), (b"b\0\0\0\1\1", "kind"), (relation + b"x\0\0", "replica identity"), (relation[:-3] + b"\xff\0", "utf-8"), (b"I\0\0\0\7N\0\1b", "kind of a value")):
             with self.subTest(data), self.assertRaises(CantFollow) as caught:
                 _messages.message_of(data)
             self.assertIn("can't be read", str(caught.exception))

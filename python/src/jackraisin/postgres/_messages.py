@@ -1,9 +1,8 @@
-"""The messages of pgoutput, the output plugin that every server has, in version 1 of its protocol.
+"""The messages of pgoutput, the output plugin that every server has, in the versions 1 and 2 of its protocol.
 
-Their source is the PostgreSQL documentation, "Logical Replication Message Formats". The later versions add transactions that
-are sent while they are open (stream start, stop, commit and abort), and prepared ones. A follower takes a transaction once it
-is committed and not before, so it would only keep here what the server keeps for it anyway; it asks for version 1, and in that
-none of these comes."""
+Their source is the PostgreSQL documentation, "Logical Replication Message Formats". By version 2 a large transaction comes while
+it is open, in blocks between those of others; within a block each message of rows and types has the number of its transaction or
+subtransaction first. The later versions add transactions that are prepared, and none of these comes."""
 from __future__ import annotations
 
 import struct
@@ -43,6 +42,32 @@ class Commit(NamedTuple):
     def seconds(self) -> float:
         """When it was, in seconds since 1970 began."""
         return SECONDS_BEFORE + self.time / 10**6
+
+
+class StreamStart(NamedTuple):
+    """The first message of a block: the number of its transaction, and whether it is the first block of that."""
+
+    number: int
+    is_first: bool
+
+
+class StreamStop(NamedTuple):
+    """The last message of a block."""
+
+
+class StreamCommit(NamedTuple):
+    """The commit of a transaction that came in blocks."""
+
+    number: int
+    commit: Commit
+
+
+class StreamAbort(NamedTuple):
+    """The end of a transaction that came in blocks and is rolled back; or, where the second number is another one than the first, of a
+    subtransaction of it."""
+
+    number: int
+    undone: int
 
 
 class Origin(NamedTuple):
@@ -131,7 +156,9 @@ class Emitted(NamedTuple):
     content: bytes
 
 
-Message = Union[Begin, Commit, Origin, Relation, Type, Insert, Update, Delete, Truncate, Emitted]
+Message = Union[
+    Begin, Commit, StreamStart, StreamStop, StreamCommit, StreamAbort, Origin, Relation, Type, Insert, Update, Delete, Truncate, Emitted
+]
 
 
 class Reader:
@@ -212,6 +239,22 @@ def commit(reader: Reader) -> Commit:
     return Commit(reader.number(INT64), reader.number(INT64), reader.number(INT64))
 
 
+def stream_start(reader: Reader) -> StreamStart:
+    return StreamStart(reader.number(INT32), reader.number(BYTE) == 1)
+
+
+def stream_stop(_: Reader) -> StreamStop:
+    return StreamStop()
+
+
+def stream_commit(reader: Reader) -> StreamCommit:
+    return StreamCommit(reader.number(INT32), commit(reader))
+
+
+def stream_abort(reader: Reader) -> StreamAbort:
+    return StreamAbort(reader.number(INT32), reader.number(INT32))
+
+
 def origin(reader: Reader) -> Origin:
     return Origin(reader.number(INT64), reader.name())
 
@@ -253,9 +296,18 @@ def emitted(reader: Reader) -> Emitted:
 
 
 READERS: Dict[bytes, Callable[[Reader], Message]] = {
-    b"B": begin, b"C": commit, b"O": origin, b"R": relation, b"Y": type_of, b"I": insert, b"U": update, b"D": delete, b"T": truncate,
-    b"M": emitted,
+    b"B": begin, b"C": commit, b"S": stream_start, b"E": stream_stop, b"c": stream_commit, b"A": stream_abort,
+    b"O": origin, b"R": relation, b"Y": type_of, b"I": insert, b"U": update, b"D": delete, b"T": truncate, b"M": emitted,
 }
+
+
+def numbered(data: bytes) -> Tuple[int, bytes]:
+    """The number of the transaction or subtransaction that a message of rows or types within a block is of, and the message as it is
+    outside of one."""
+    at = 1 + INT32.size
+    if len(data) < at:
+        raise BadMessage(f"{data!r} has no number of a transaction")
+    return int(INT32.unpack_from(data, 1)[0]), data[:1] + data[at:]
 
 
 def message_of(data: bytes) -> Message:
