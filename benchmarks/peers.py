@@ -51,7 +51,7 @@ class Postgres(sql.Server):
         return run_at(self.process.pid, lambda: self.ask(self.script(work, out).encode()))
 
     def script(self, work, out):
-        name, dimensions, measures = sql.name_of, work.dimensions, work.measures
+        dimensions, measures = work.dimensions, work.measures
         columns = [f"{it} text" for it in dimensions] + [f"{it} bigint" for it in measures]
         base = [f"{kind}({it}) AS {kind}_{it}" for it in measures for kind in OVER_CELLS]
         again = lambda kind, it: f"{OVER_CELLS[kind]}({kind}_{it})" if it else "coalesce(sum(n), 0)"

@@ -24,7 +24,7 @@ import generated_calls
 import oracle
 import programs
 # (for the tests of the Python package)
-from generated import TEXTS, by_names, random_case, random_condition, random_schema, written
+from generated import by_names
 
 HERE = os.path.dirname(os.path.abspath(__file__))
 # (it makes a call that adds something once more where memory ran out)

@@ -36,7 +36,7 @@ import oracle
 import programs
 import store_calls
 import store_crashes
-from store_rooms import FEEDS, SCHEMA, SOURCES, Changes, LeftOut, Room, Wrong, ended_well, everything, expect, feed_bytes, refusal_of, taken
+from store_rooms import FEEDS, SCHEMA, SOURCES, Changes, LeftOut, Room, Wrong, ended_well, everything, expect, feed_bytes, refusal_of, shown, taken
 
 PAGE = 4096
 QUESTIONS = [[b"refusals", b"1", b"0"], [b"rollup", b"place", b"\\A", b"\\A"], [b"slice", b"?", b"\\A"], [b"refusals"], [b"sync"]]

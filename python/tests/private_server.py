@@ -13,8 +13,7 @@ import sys
 import tempfile
 import threading
 import time
-import unittest
-from typing import Any, Iterator, List, Optional, Sequence
+from typing import Any, Iterator, List, Optional
 
 import beside
 import jackraisin

@@ -21,7 +21,6 @@ import traceback
 import unittest
 import urllib.error
 import urllib.request
-from fractions import Fraction
 from unittest import mock
 
 import beside

@@ -1,6 +1,5 @@
 """What a stranger may try on a cube that is served: the same rows on a session's server and on a follower's, as bytes on the wire."""
 import contextlib
-import http.client
 import importlib.util
 import os
 import re

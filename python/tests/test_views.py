@@ -1,5 +1,4 @@
 """What is made of the rows of a cube, by hand over the shop's sales, and beside scripts/oracle.py."""
-import os
 import random
 import tempfile
 import unittest

@@ -4,7 +4,6 @@ from __future__ import annotations
 import contextlib
 import csv
 import io
-import os
 import shutil
 import subprocess
 import tempfile

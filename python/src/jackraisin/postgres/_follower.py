@@ -9,7 +9,7 @@ import os
 import tempfile
 import threading
 import time
-from typing import TYPE_CHECKING, Any, Callable, Deque, Dict, Final, Iterator, Mapping, Optional, Sequence, Set, TextIO, Tuple, Union
+from typing import TYPE_CHECKING, Any, Deque, Dict, Final, Iterator, Mapping, Optional, Sequence, Set, TextIO, Tuple, Union
 
 import psycopg2
 import psycopg2.errors
