@@ -16,7 +16,7 @@ from unittest import mock
 ROOT = os.path.dirname(os.path.dirname(os.path.dirname(os.path.realpath(__file__))))
 sys.path[:0] = [os.path.join(ROOT, "python", "src"), os.path.join(ROOT, "scripts")]
 sys.dont_write_bytecode = True
-import hostile  # noqa: E402
+import generated  # noqa: E402
 import jackraisin  # noqa: E402
 import oracle  # noqa: E402
 import programs  # noqa: E402
@@ -101,9 +101,9 @@ def rows_of(cube: jackraisin.Cube) -> List[Tuple[Any, ...]]:
 
 def small_case(rng: random.Random) -> Tuple[oracle.Schema, List[List[List[bytes]]]]:
     """A schema and the data records of feeds, few where there are many grouping sets."""
-    schema, feeds = hostile.random_case(rng)
+    schema, feeds = generated.random_case(rng)
     while len(schema.masks) > 32:
-        schema, feeds = hostile.random_case(rng)
+        schema, feeds = generated.random_case(rng)
     return schema, [it[: min(60, schema.max_records)] for it in feeds]
 
 

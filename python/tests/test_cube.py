@@ -14,7 +14,7 @@ from fractions import Fraction
 from unittest import mock
 
 import beside
-import hostile
+import generated
 import jackraisin
 import oracle
 from beside import SHOP, needs, rows_like, rows_of
@@ -128,7 +128,7 @@ class FactsOfInterest(unittest.TestCase):
         for seed in range(40):
             rng = random.Random(f"where {seed}")
             schema, feeds = beside.small_case(rng)
-            words = [hostile.random_condition(rng, schema).decode() for _ in range(rng.choice([1, 1, 2, 3]))]
+            words = [generated.random_condition(rng, schema).decode() for _ in range(rng.choice([1, 1, 2, 3]))]
             conditions = [oracle.condition_of(schema, it.encode()) for it in words]
             with self.subTest(seed=seed, words=words), beside.written(schema, feeds, rng) as paths:
                 if "P8" in conditions:
@@ -498,9 +498,9 @@ class ByNames(unittest.TestCase):
         count = 0
         for seed in range(200):
             rng = random.Random(f"by names {seed}")
-            schema, records = hostile.random_case(rng, True)
+            schema, records = generated.random_case(rng, True)
             if schema.feed and len(schema.masks) <= 32 and schema.max_records > 5:
-                pairs, count = [hostile.written(rng, schema, it[:60]) for it in records[:3]], count + 1
+                pairs, count = [generated.written(rng, schema, it[:60]) for it in records[:3]], count + 1
                 with self.subTest(seed=seed), tempfile.TemporaryDirectory() as folder:
                     paths = [os.path.join(folder, f"feed{at}.csv") for at, _ in enumerate(pairs)]
                     for path, (data, _) in zip(paths, pairs):
@@ -514,7 +514,7 @@ class ByNames(unittest.TestCase):
     @unittest.skipIf(sys.version_info < (3, 11), "this Python reads no TOML")
     def test_schemas_come_back(self):
         for seed in range(60):
-            schema = hostile.random_schema(random.Random(f"by names {seed}"), True)
+            schema = generated.random_schema(random.Random(f"by names {seed}"), True)
             given = beside.schema_like(schema)
             with given.file() as path:
                 again = jackraisin.Schema.read(path)

@@ -10,8 +10,8 @@ from decimal import Decimal
 from fractions import Fraction
 
 import beside
+import generated
 import jackraisin
-import hostile
 import oracle
 from beside import needs, rows_like, rows_of
 from jackraisin import ALL, ANY, KEEP, Live
@@ -24,7 +24,7 @@ CENTS = jackraisin.Schema(
     feed={"null": ["0.10"], "delimiter": ";", "point": ","}, decimals={"price": 2},
 )
 SHORT = jackraisin.Schema(["region"], ["amount"], ["count(*)"], max_records=2)
-TEXTS = [it.decode() for it in hostile.TEXTS]
+TEXTS = [it.decode() for it in generated.TEXTS]
 
 
 class Player:
