@@ -69,16 +69,19 @@ def test_commands(room, rng):
 
 def served(session, records, most):
     """The answers to records until one ends the session, the code of that or None, how many records came before it, and how
-    many of them are certain, where so many changes may wait."""
+    many of them are certain, where so many changes may wait: a change that would be one more comes behind a commit."""
     answers, waiting, certain = [], 0, 0
     for at, record in enumerate(records):
         try:
             answers.append(session.reply(record))
         except oracle.Failure as failure:
             return answers, failure.line, at, certain
-        waiting += 1
-        if answers[-1] or waiting == most:
+        if answers[-1]:
             waiting, certain = 0, at + 1
+        elif waiting == most:
+            waiting, certain = 1, at
+        else:
+            waiting += 1
     return answers, None, len(records), len(records)
 
 
