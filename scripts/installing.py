@@ -324,7 +324,8 @@ def packs(copy):
     expect(content(f"{packages}/jackraisin/postgres/explorer.html"), content(f"{copy.root}/explorer/index.html"), "the page that it serves")
     call = "import jackraisin, sys; print(jackraisin.__file__, len(jackraisin.cube(sys.argv[1], sys.argv[2:])))"
     env = {"PATH": f"{usr}/bin:/usr/bin:/bin", "PYTHONPATH": packages}
-    ran = subprocess.run([sys.executable, "-B", "-c", call, *SHOP], cwd=f"{documents}/examples/shop", env=env, stdout=subprocess.PIPE, stderr=subprocess.PIPE, text=True)
+    # (three lines of the shop are refused, which is warned of)
+    ran = subprocess.run([sys.executable, "-B", "-W", "ignore::UserWarning", "-c", call, *SHOP], cwd=f"{documents}/examples/shop", env=env, stdout=subprocess.PIPE, stderr=subprocess.PIPE, text=True)
     expect((ran.returncode, ran.stdout, ran.stderr), (0, f"{packages}/jackraisin/__init__.py 35\n", ""), "the Python package")
     control = subprocess.run(["dpkg-deb", "-f", package], stdout=subprocess.PIPE, text=True).stdout
     holds("Python package" in control, "the description doesn't name the Python package")

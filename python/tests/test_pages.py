@@ -49,7 +49,8 @@ class Examples(unittest.TestCase):
         code = "".join(text + "print('-- end')\n" * (following == "") for (kind, text), (following, _) in pairs if kind == "python")
         env = {**os.environ, "PYTHONPATH": f"{beside.ROOT}/python/src"}
         how = {"cwd": beside.ROOT, "env": env, "stdout": subprocess.PIPE, "stderr": subprocess.STDOUT, "text": True}
-        ran = subprocess.run([sys.executable, "-B", "-"], input=code, **how)
+        # (refused lines are warned of, on standard error, which the page says)
+        ran = subprocess.run([sys.executable, "-B", "-W", "ignore::UserWarning", "-"], input=code, **how)
         said = pages.bare(ran.stdout).split("-- end\n")
         wanted = [text for (kind, _), (following, text) in pairs if kind == "python" and following == ""]
         self.assertGreater(len(wanted), 5)

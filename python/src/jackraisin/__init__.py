@@ -11,7 +11,7 @@ The program `datacube` does the work: it is in this package's wheel, and `DATACU
 from ._ask import cube, drill, merge, refusals, rollup, slice
 from ._cells import ALL, ANY, KEEP, Cell, Coordinate, Pattern
 from ._cube import Answer, Cube, Refusal, Row
-from ._errors import DatacubeError, Ended, Failure, ProgramNotFound, TimedOut, Unreadable, Unsayable
+from ._errors import DatacubeError, Ended, Failure, ProgramNotFound, RefusedLines, TimedOut, Unreadable, Unsayable
 from ._live import Live
 from ._made import cube_of
 from ._program import explain, program
@@ -23,6 +23,6 @@ __version__ = "1.17.0"
 
 __all__ = [
     "ALL", "ANY", "KEEP", "Answer", "Cell", "Coordinate", "Cube", "DatacubeError", "Difference", "Ended", "Failure", "Live",
-    "Pattern", "ProgramNotFound", "Refusal", "Row", "Schema", "TimedOut", "Unreadable", "Unsayable", "cube", "cube_of", "drill",
-    "explain", "merge", "program", "refusals", "rollup", "slice",
+    "Pattern", "ProgramNotFound", "Refusal", "RefusedLines", "Row", "Schema", "TimedOut", "Unreadable", "Unsayable", "cube",
+    "cube_of", "drill", "explain", "merge", "program", "refusals", "rollup", "slice",
 ]

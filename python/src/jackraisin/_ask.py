@@ -3,16 +3,20 @@ from __future__ import annotations
 
 import os
 import tempfile
+import warnings
 from typing import Iterable, List, Optional, Sequence, Tuple, Union
 
 from ._cells import Cell, Pattern, fields_of, text_of, word_of
 from ._cube import Cube, Refusal, refusals_of
-from ._program import Limits, Path, Paths, Word, paths_of, run, words_of
+from ._errors import RefusedLines
+from ._program import Limits, Path, Paths, Word, paths_of, run, run_with_told, words_of
 from ._schema import Schema, schema_of
 
 Given = Union[Schema, Path]
 Shard = Tuple[int, int]
 Conditions = Union[str, Iterable[str]]
+# (the program says no more of them where a store takes part)
+REFUSED = "lines or changes were refused. jackraisin.refusals shows all."
 
 
 def cube(
@@ -158,7 +162,11 @@ def chosen(where: Conditions, strict: bool) -> List[Word]:
 
 
 def asked(command: str, schema: Given, feeds: Paths, words: Sequence[Word], options: Sequence[Word], limits: Limits) -> Cube:
-    status, text = answer(command, schema, feeds, words, options, limits)
+    """The rows that answer a question. Refused lines are warned of."""
+    with schema_of(schema).file() as path:
+        status, text, told = run_with_told(words_of(command, [*options, "--why"], [path, *words, *paths_of(feeds)]), limits)
+    if status == 4:
+        warnings.warn(told or REFUSED, RefusedLines, stacklevel=3)
     return Cube(text, status == 4)
 
 

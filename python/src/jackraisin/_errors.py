@@ -22,11 +22,12 @@ class Unreadable(DatacubeError, ValueError):
 
 
 class Failure(DatacubeError):
-    """What the program refused: the line that it told, as `P2` or `G3 2 F3`, what that means, and its status, if it ended."""
+    """What the program refused: the line that it told, as `P2` or `G3 2 F3`, what that means, and its status, if it ended. Of feeds
+    and schemas `why` says more, for people: the file, the line, the field, and what was wanted there."""
 
-    def __init__(self, line: str, meaning: str = "", status: Optional[int] = None) -> None:
-        super().__init__(line, meaning, status)
-        self.line, self.meaning, self.status = line, meaning, status
+    def __init__(self, line: str, meaning: str = "", status: Optional[int] = None, why: str = "") -> None:
+        super().__init__(line, meaning, status, why)
+        self.line, self.meaning, self.status, self.why = line, meaning, status, why
 
     def __str__(self) -> str:
         told = self.line or f"the program ended, {status_text(self.status or 0)}"
@@ -36,6 +37,11 @@ class Failure(DatacubeError):
     def code(self) -> str:
         """The first word of the line, which is the code where it has one."""
         return self.line.partition(" ")[0]
+
+
+class RefusedLines(UserWarning):
+    """What warns of lines of feeds that were refused, and aren't in a cube: how many, and the first with its file, line and reason.
+    With a store it says only that there are such lines or changes."""
 
 
 class Ended(Failure):

@@ -18,6 +18,8 @@ Word = Union[str, bytes]
 
 BESIDE = os.path.join(os.path.dirname(os.path.abspath(__file__)), "bin", "datacube")
 CODE = re.compile(r"[A-Z][0-9]{1,2}|[0-9]")
+# (what begins a line of --why, below the one of the code)
+BELOW = "\n  "
 # (it puts the program in its own place, under the limit that it took: nothing runs between fork and exec in this process)
 UNDER_A_LIMIT = ["/bin/sh", "-c", 'ulimit -v "$0" && exec "$@"']
 # (0 is done, and 4 is done, with lines refused)
@@ -100,6 +102,11 @@ def paths_of(feeds: Paths) -> List[Word]:
 
 def run(words: Sequence[Word], limits: Limits = UNLIMITED) -> Tuple[int, str]:
     """The status and the output of a command that is done; any other end raises `Failure`."""
+    return run_with_told(words, limits)[:2]
+
+
+def run_with_told(words: Sequence[Word], limits: Limits) -> Tuple[int, str, str]:
+    """The same, with what the command told last on standard error."""
     pipe = subprocess.PIPE
     try:
         ran = subprocess.run(limits.words(words), stdin=subprocess.DEVNULL, stdout=pipe, stderr=pipe, timeout=limits.timeout)
@@ -109,10 +116,12 @@ def run(words: Sequence[Word], limits: Limits = UNLIMITED) -> Tuple[int, str]:
         raise Unsayable(f"a word of a command line can't be said: {why}") from None
     except OSError as why:
         raise ProgramNotFound(f"the program can't be run: {why}") from None
+    # (with --why notes may come before, as of a feed that is given twice)
+    told = line_of(ran.stderr).rpartition("\ndatacube: ")[2]
     if ran.returncode not in DONE:
-        line = line_of(ran.stderr)
-        raise Failure(line, meaning_of(line), ran.returncode)
-    return ran.returncode, ran.stdout.decode("utf-8")
+        line, _, below = told.partition(BELOW)
+        raise Failure(line, meaning_of(line), ran.returncode, below.replace(BELOW, "\n"))
+    return ran.returncode, ran.stdout.decode("utf-8"), told
 
 
 def line_of(told: bytes) -> str:
