@@ -66,6 +66,8 @@ ELSEWHERE = """<!DOCTYPE html>
 """
 
 COPY = None
+# (three lines of the shop are refused)
+REFUSED = "jackraisin.serve: lines of the feeds are refused, 3 of them: /refusals shows them\n"
 
 
 def setUpModule():
@@ -672,6 +674,18 @@ class Ends(Case):
         server.wait()
         self.assertEqual(server.get("/cube.csv").status, 200)
 
+    def test_refused_lines_of_feeds_are_told(self):
+        """In the log, at each start, and no refused change with them; where there are none, nothing is."""
+        server = self.server()
+        server.made(b"3,D,nobody\n")
+        self.assertEqual(server.end(), (0, f"{REFUSED}jackraisin.serve: ready, with 0 changes in {self.store}\n"))
+        server = self.server("--log-format", "json", PYTHONWARNINGS="error::UserWarning")
+        lines = [json.loads(it) for it in server.end()[1].splitlines()]
+        wanted = [("warning", REFUSED.partition(": ")[2].rstrip()), ("info", f"ready, with 1 changes in {self.store}")]
+        self.assertEqual([(it["level"], it["message"]) for it in lines], wanted)
+        self.store = f"{self.folder}/none.db"
+        self.assertEqual(self.server(feeds=SHOP[:1]).end()[1].count("\n"), 1)
+
     def test_each_signal_ends_it_well(self):
         """While many post: what was answered is in the store, which a command takes then."""
         for it in (signal.SIGTERM, signal.SIGINT, signal.SIGHUP):
@@ -730,7 +744,7 @@ class Ends(Case):
             it.close()
         server.made(b"9,D,a\n")
         status, told = server.end()
-        self.assertEqual((status, told.count("\n"), told), (0, 1, f"jackraisin.serve: ready, with 0 changes in {self.store}\n"))
+        self.assertEqual((status, told), (0, f"{REFUSED}jackraisin.serve: ready, with 0 changes in {self.store}\n"))
 
     def test_a_reader_that_stands_still_is_cut_off(self):
         async def run(server):
@@ -787,7 +801,7 @@ class Ends(Case):
                 it.settimeout(SECONDS)
                 self.assertRegex(it.recv(12), rb"^HTTP/1\.[01] 400$")
         self.assertEqual(server.get("/slice").headers["Server"], "datacube")
-        self.assertEqual(server.end()[1].count("\n"), 1)
+        self.assertEqual(server.end()[1].count("\n"), 2)
 
     def test_a_session_that_ends_answers_all_who_wait(self):
         """Also those whose body came to its end after it."""

@@ -69,6 +69,8 @@ async def serve(given: Given) -> int:
 
 
 def is_ready(given: Given, session: StoredSession) -> None:
+    if session.refused_lines:
+        TOLD.warning("lines of the feeds are refused, %d of them: /refusals shows them", session.refused_lines)
     TOLD.info("ready, with %d changes in %s", session.number, given.store)
     tell_systemd("READY=1")
 

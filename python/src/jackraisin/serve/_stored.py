@@ -6,10 +6,11 @@ import os
 import sqlite3
 from typing import Any, Dict, Iterable, List, Mapping, Optional, Sequence, Tuple, Union
 
-from .._ask import cube, refusals
+from .._ask import answer, refusals
+from .._cube import Cube
 from .._errors import Ended
 from .._live import Live
-from .._program import Path, explain
+from .._program import UNLIMITED, Path, explain
 from .._schema import Schema
 from ._bodies import Record
 from ._errors import CantCount
@@ -22,14 +23,15 @@ COUNTED = "SELECT source, count(*) FROM changes GROUP BY source"
 
 
 class StoredSession(Live):
-    """A session over a store, which any SQLite could count before it began. `number` is how many changes the store has, and `keys`
-    what is noted beside it."""
+    """A session over a store, which any SQLite could count before it began. `number` is how many changes the store has, `keys` what
+    is noted beside it, and `refused_lines` how many lines of the feeds are refused."""
 
     def __init__(self, schema: Path, feeds: Sequence[Path], store: Path, *, wary: bool = False, threads: Optional[int] = None) -> None:
         counts = stored_counts(store)
         super().__init__(schema, feeds, store=store, wary=wary, threads=threads)
         try:
             self._last = {source: records_in(feed, self.schema) for source, feed in enumerate(feeds, 1)}
+            self.refused_lines = sum(it.record <= last for source, last in self._last.items() for it in self.refusals(source))
             if counts is None:
                 raise CantCount(f"the changes of {os.fspath(store)} couldn't be counted")
             self.number = sum(counts.values())
@@ -102,10 +104,10 @@ def records_in(feed: Path, schema: Schema) -> int:
         column = given.get("columns", {}).get(name, name)
     table = {"null": [], "delimiter": (given or {}).get("delimiter", ","), "columns": {"it": column}}
     counting = Schema(["it"], [], ["count(*)"], grouping=[[]], feed=table)
-    found = cube(counting, feed)
-    count = found.at({})["count(*)"]
+    status, text = answer("print", counting, feed, [], [], UNLIMITED)
+    count = Cube(text).at({})["count(*)"]
     assert isinstance(count, int)
-    return count + (len(refusals(counting, feed)) if found.refused else 0)
+    return count + (len(refusals(counting, feed)) if status == 4 else 0)
 
 
 def meaning_of_refusal(code: int, version: int) -> str:
