@@ -14,6 +14,7 @@ import sys
 
 sys.dont_write_bytecode = True
 sys.path.insert(0, f"{os.path.dirname(os.path.realpath(__file__))}/../scripts")
+import frames  # noqa: E402
 import own_file  # noqa: E402
 import plots  # noqa: E402
 import runs  # noqa: E402
@@ -35,6 +36,8 @@ OPTIONS = {
     "--changes": {"type": int, "default": 1_000_000, "help": "in bulk"},
     "--answers": {"type": int, "default": 2_000, "help": "of one change each"},
     "--folder": {"help": "where the store is made"},
+    "--rows": {"type": int, "default": 200_000, "help": "of a cube"},
+    "--times": {"type": float, "default": 2.0, "help": "how many times as long a frame may take"},
 }
 # (what runs a command, and its options; those that take workloads end with None)
 COMMANDS = {
@@ -46,6 +49,7 @@ COMMANDS = {
     "own-file": (own_file.measure, "--runs", "--lines", "--threads"),
     "live": (sessions.live, "--facts", "--batches", "--many", "--threads"),
     "store": (sessions.store, "--changes", "--answers", "--folder"),
+    "frames": (frames.measure, "--runs", "--rows", "--times"),
 }
 
 

@@ -470,6 +470,23 @@ class Decimals(unittest.TestCase):
             self.assertRaises(jackraisin.Unreadable, lambda: list(jackraisin.Cube(f"a,grouping(a),count(*),sum(m)\n{line}")))
         self.assertTrue(pandas.isna(frame["max(n)"].iloc[0]))
 
+    def test_decimals_of_a_frame(self):
+        """A frame has what its rows have, whatever a column of decimals says beside them, and also where texts have points."""
+        try:
+            import pandas  # noqa: F401
+        except ImportError:
+            self.skipTest("there is no pandas")
+        for numbers in (["1.50", "-0.05", "170141183460469231731687303715884105.72"], ["\\N", "\\N", "0.00"], ["1.5", "2", "\\N"], ["1.5", "2.25", "3.125"]):
+            for texts in ("abc", [".", "a.b.c", "1.5"]):
+                lines = "".join(f"{name},0,{it},{it},{at}/7\n" for at, (name, it) in enumerate(zip(texts, numbers)))
+                cube = jackraisin.Cube(f"a.b,grouping(a.b),sum(m),min(m),avg(m)\n{lines}")
+                got = list(cube.to_pandas().itertuples(index=False, name=None))
+                self.assertEqual([repr(it) for it in got], [repr(it.answers) for it in cube])
+        for number in ("NaN", "Infinity", "1e5", "1.5.0"):
+            cube = jackraisin.Cube(f"a,grouping(a),sum(m)\nx,0,0.50\ny,0,{number}\n")
+            self.assertRaises(jackraisin.Unreadable, cube.to_pandas)
+            self.assertRaises(jackraisin.Unreadable, list, cube)
+
 
 class ByNames(unittest.TestCase):
     """Feeds that are read by the names of their columns."""

@@ -1,6 +1,7 @@
 """Printed cubes as columns, made straight from their text: frames of pandas and polars, and tables of Arrow."""
 from __future__ import annotations
 
+import csv
 import io
 from collections import deque
 from decimal import Decimal
@@ -11,16 +12,27 @@ from typing import TYPE_CHECKING, Any, Callable, Dict, List, Optional, Sequence,
 
 from ._cells import ALL
 from ._numbers import Number, number_of, whole_of
-from ._records import GREATEST, LEAST, NULL, Columns, head_of, records_of, unescaped, unreadable
+from ._records import GREATEST, LEAST, NULL, Columns, head_of, lines_behind, long_fields, records_of, unescaped, unreadable
 
 if TYPE_CHECKING:
     import pandas
 
 T = TypeVar("T")
+# (so many fields tell whether nearly all of a column are different)
+SAMPLE = 20_000
 HAS_SLOTS = getattr(Fraction, "__slots__", None) == ("_numerator", "_denominator")
 # (what pandas reads in another way than csv, which reads such texts then: it ends a field at a NUL, and a line at a CR, and takes
 # a number that is -2^63 as a float for null where a null stands beside it)
 NOT_FOR_PANDAS = "\0", "\r", "\ufeff", "-922337203685477"
+
+
+class Decimals(Dict[str, Optional[Decimal]]):
+    """What texts say that are looked up in it: null, and any number with decimals. No code of Python runs for each of them."""
+
+    __missing__ = Decimal
+
+
+DECIMALS = Decimals({NULL: None})
 
 
 def texts_of(text: str, columns: Columns) -> List[Sequence[str]]:
@@ -49,11 +61,13 @@ def means_of(texts: Sequence[str]) -> List[Optional[Fraction]]:
 
 
 def each_once(texts: Sequence[str], read: Callable[[List[str]], List[T]]) -> List[Optional[T]]:
-    """What texts say, None for null. Each text is read once where they are few, since a cube says the same number in many lines."""
-    known = [it for it in dict.fromkeys(texts) if it != NULL]
-    if 2 * len(known) > len(texts):
+    """What texts say, None for null. Each text is read once, since a cube says the same number in many lines; but where the first of
+    them are nearly all different, one by one, which is quicker then."""
+    first = texts[:SAMPLE]
+    if 10 * len(set(first)) > 9 * len(first):
         each = iter(read([it for it in texts if it != NULL]))
         return [None if it == NULL else next(each) for it in texts]
+    known = [it for it in dict.fromkeys(texts) if it != NULL]
     values: Dict[str, Optional[T]] = {NULL: None, **dict(zip(known, read(known)))}
     return list(map(values.__getitem__, texts))
 
@@ -103,9 +117,8 @@ def with_decimals(text: str, columns: Columns) -> List[bool]:
     found: List[Optional[bool]] = [False if is_mean(it) or is_count(it) else None for it in columns.aggregates]
     if "." not in text:
         return [False] * len(found)
-    with records_of(text) as records:
-        next(records, None)
-        for record in records:
+    with long_fields():
+        for record in csv.reader(lines_behind(text, [head_of(text)[1]])):
             if None not in found:
                 break
             answers = columns.checked(record)[2 * len(columns.dimensions) :]
@@ -126,19 +139,20 @@ def frame_of(text: str, columns: Columns) -> "pandas.DataFrame":
 
 
 def fields_of(text: str, columns: Columns) -> List[Any]:
-    """The columns of a printed cube: categories for dimensions and marks, whole numbers or texts for answers. pandas reads it
-    twice as fast as csv does, whose answer it is that counts where they differ: for texts that pandas reads in another way,
-    and for those that it refuses."""
+    """The columns of a printed cube: categories for dimensions and marks, and for answers arrays of whole numbers or of decimals, or
+    series of texts. pandas reads it twice as fast as csv does, whose answer it is that counts where they differ: for texts that
+    pandas reads in another way, and for those that it refuses."""
     import pandas
 
     count = 2 * len(columns.dimensions)
-    are_texts = [is_mean(it) or has_point for it, has_point in zip(columns.aggregates, with_decimals(text, columns))]
-    kinds: List[Any] = ["category"] * count + [str if it else None for it in are_texts]
+    points = with_decimals(text, columns)
+    kinds: List[Any] = ["category"] * count
+    kinds += [str if is_mean(it) else Decimal if has_point else None for it, has_point in zip(columns.aggregates, points)]
     if not any(it in text for it in NOT_FOR_PANDAS):
         for at_once in (kinds, [it or str for it in kinds]):
             try:
                 return read_by_pandas(text, at_once)
-            except (ValueError, OverflowError):
+            except (ValueError, ArithmeticError):
                 pass
     texts = texts_of(text, columns)
     return [pandas.Categorical(it) for it in texts[:count]] + [pandas.Series(it, dtype=object) for it in texts[count:]]
@@ -146,17 +160,38 @@ def fields_of(text: str, columns: Columns) -> List[Any]:
 
 def read_by_pandas(text: str, kinds: Sequence[Any]) -> List[Any]:
     """The columns below the header, of some kinds; where none is given it is one of whole numbers. Where a text says anything
-    else it is a `ValueError`."""
+    else it is a `ValueError`, or an `ArithmeticError`."""
     import pandas
 
     body = io.BytesIO(text[head_of(text)[1] :].encode("utf-8"))
     how: Dict[str, Any] = {"header": None, "index_col": False, "skip_blank_lines": False, "low_memory": False, "engine": "c"}
-    how["dtype"] = {at: it for at, it in enumerate(kinds) if it}
+    how["dtype"] = {at: it for at, it in enumerate(kinds) if it == "category"}
+    # (texts too, of which pandas would look each up among those before it)
+    how["converters"] = {at: DECIMALS.__getitem__ if it is Decimal else it for at, it in enumerate(kinds) if it in (str, Decimal)}
     nulls = {at: [NULL] for at, it in enumerate(kinds) if not it}
     frame = pandas.read_csv(body, keep_default_na=False, na_values=nulls, na_filter=bool(nulls), **how)
     if frame.shape[1] != len(kinds):
         raise ValueError(f"lines of {frame.shape[1]} fields")
-    return [frame[at].array if it == "category" else frame[at] if it else wholes_in(frame[at]) for at, it in enumerate(kinds)]
+    if Decimal in kinds and body.getvalue().count(b".") != sum(points_in(frame[at], it) for at, it in enumerate(kinds)):
+        raise ValueError("not numbers with decimals alone")
+    return [column_of(frame[at], it) for at, it in enumerate(kinds)]
+
+
+def column_of(column: Any, kind: Any) -> Any:
+    """A column that pandas has read, in the form of its kind."""
+    if kind is None:
+        return wholes_in(column)
+    return column if kind is str else column.to_numpy() if kind is Decimal else column.array
+
+
+def points_in(column: Any, kind: Any) -> int:
+    """How many points a column has, where each number with decimals has one, and other numbers have none."""
+    import numpy
+
+    if kind is Decimal:
+        return int(column.notna().sum())
+    points = [it.count(".") for it in column.cat.categories] if kind == "category" else []
+    return int(numpy.array(points)[column.cat.codes.to_numpy()].sum()) if any(points) else 0
 
 
 def wholes_in(column: Any) -> Any:
@@ -195,7 +230,7 @@ def answers_of(aggregate: str, column: Any) -> Any:
     """The answers of an aggregate: whole numbers of 64 bits where they fit, else objects, as means and numbers with decimals are."""
     import pandas
 
-    if column.dtype == "Int64":
+    if not isinstance(column, pandas.Series):
         return column
     if is_mean(aggregate):
         return objects(means_of(column.tolist()))

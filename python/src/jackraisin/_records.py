@@ -112,11 +112,12 @@ def lines_of(text: str) -> List[str]:
 def head_of(text: str) -> Tuple[List[str], int]:
     """The first record of a text, and where it ends; no more of the text is read."""
     ends = [0]
-
-    def lines() -> Iterator[str]:
-        while ends[-1] < len(text):
-            ends.append(text.find("\n", ends[-1]) + 1 or len(text))
-            yield text[ends[-2] : ends[-1]]
-
     with long_fields():
-        return next(csv.reader(lines()), []), ends[-1]
+        return next(csv.reader(lines_behind(text, ends)), []), ends[-1]
+
+
+def lines_behind(text: str, ends: List[int]) -> Iterator[str]:
+    """The lines of a text behind the last end that is known, each of whose ends is put to them; no more is read than is asked for."""
+    while ends[-1] < len(text):
+        ends.append(text.find("\n", ends[-1]) + 1 or len(text))
+        yield text[ends[-2] : ends[-1]]
