@@ -83,8 +83,9 @@ def measure(asked):
 
     Each cube is one that the program prints over a feed that is made anew, cut off behind N rows: of whole numbers, of texts with
     accents and in quotes, of decimals, and with means; nearly each number is another. The two calls take turns in one process, and
-    the best of N runs of each counts. `pandas.read_csv` has its defaults, and the text in memory, as `Cube.to_pandas` has. The
-    status is 1 where a frame took more than `--times` times as long."""
+    the best of N runs of each counts, in processor seconds of one thread, which other work on the machine changes least.
+    `pandas.read_csv` has its defaults, and the text in memory, as `Cube.to_pandas` has. The status is 1 where a frame took more than
+    `--times` times as long."""
     import pandas
 
     import jackraisin
