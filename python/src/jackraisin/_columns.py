@@ -8,6 +8,7 @@ from decimal import Decimal
 from fractions import Fraction
 from itertools import repeat
 from math import gcd
+from operator import is_not
 from typing import TYPE_CHECKING, Any, Callable, Dict, List, Optional, Sequence, TypeVar, Union
 
 from ._cells import ALL
@@ -189,7 +190,8 @@ def points_in(column: Any, kind: Any) -> int:
     import numpy
 
     if kind is Decimal:
-        return int(column.notna().sum())
+        # (pandas takes a NaN among them for missing, too)
+        return sum(map(is_not, column.tolist(), repeat(None)))
     points = [it.count(".") for it in column.cat.categories] if kind == "category" else []
     return int(numpy.array(points)[column.cat.codes.to_numpy()].sum()) if any(points) else 0
 
