@@ -3,7 +3,7 @@ how wide the page may be."""
 import time
 from fractions import Fraction
 
-from explorer_page import SETTLED, SHOP, SHOP_SCHEMA, printed, shown_answer
+from explorer_page import DROP, SETTLED, SHOP, SHOP_SCHEMA, printed, shown_answer
 
 # the addresses of the shop's views that are looked at in each width
 TWO = "#slice=%3F,%3F,%5CA"
@@ -53,6 +53,31 @@ return [...document.querySelectorAll("#chart figure")].map((figure) => [...figur
     drawn: Number(it.dataset.drawn), x: read("x"), width: read("width"), cx: read("cx"), cy: read("cy"), role: it.getAttribute("role") };
 }));
 """
+
+# of the ticks of each chart's numbers: what is written, and where
+AXIS = """
+return [...document.querySelectorAll("#chart figure")].map((figure) => [...figure.querySelectorAll("g.tick")].filter((it) =>
+  it.querySelector("line.grid, line.zero")).map((it) => {
+  const frame = figure.querySelector("svg").getBoundingClientRect(), line = it.querySelector("line").getBoundingClientRect();
+  return { said: it.textContent, x: line.left - frame.left, y: line.top - frame.top };
+}));
+"""
+# numbers of a column, and the ticks beside them
+TICKS = {
+    "none": (["0", "0"], "0 1"),
+    "few": (["3", "1", "\\N"], "0 1 2 3"),
+    "thousands": (["12345", "9"], "0 2,000 4,000 6,000 8,000 10,000 12,000 14,000"),
+    "below zero": (["-1500", "2500"], "-2,000 -1,000 0 1,000 2,000 3,000"),
+    "all below zero": (["-7", "-12"], "-12 -10 -8 -6 -4 -2 0"),
+    "decimals": (["-0.25", "0.50"], "-0.4 -0.2 0 0.2 0.4 0.6"),
+    "more decimals": (["0.07", "0.12"], "0 0.02 0.04 0.06 0.08 0.10 0.12"),
+    "the least decimals": (["0.000000000000000003", "-0.000000000000000001"], "-1e-18 0 1e-18 2e-18 3e-18"),
+    "a million": (["999999", "1"], "0 200k 400k 600k 800k 1M"),
+    "millions": (["2500000", "-100000"], "-500k 0 500k 1M 1.5M 2M 2.5M"),
+    "billions": (["-9000000000", "700000000"], "-10B -8B -6B -4B -2B 0 2B"),
+    "above 2^53": (["9223372036854775807", "9223372036854775806"], "0 2e+18 4e+18 6e+18 8e+18 1e+19"),
+    "128 bits": (["-170141183460469231731687303715884105728", "5"], "-2e+38 -1.5e+38 -1e+38 -5e+37 0 5e+37"),
+}
 
 
 def percent(text, of):
@@ -225,6 +250,41 @@ def stacked(trials, page, cube):
                [True, "Counts and sums alone can be stacked"])
 
 
+def dropped(page, name, columns, rows, address):
+    """Drops a printed cube of one dimension with a row for each text of some columns, and goes to a view of it."""
+    lines = [f"place,grouping(place),{','.join(columns)}", *(f"p{at},0,{','.join(it)}" for at, it in enumerate(rows))]
+    page.fresh(address)
+    page.js(DROP, f"{name}.csv", "\n".join(lines) + "\n")
+    page.wait("return document.title.startsWith(arguments[0])", name)
+    page.wait(SETTLED)
+
+
+def value_of(tick):
+    """The number that a tick says."""
+    text, letter = tick.replace(",", "").replace("\u202f", ""), tick[-1]
+    return float(text[:-1]) * 1000 ** ("kMBT".index(letter) + 1) if letter in "kMBT" else float(text)
+
+
+def ticks(trials, page, cube):
+    """The ticks of a scale: their texts, and that each stands where a number of its size is drawn."""
+    for name, (texts, wanted) in TICKS.items():
+        dropped(page, "ticks", ["sum(m)"], [[it] for it in texts], "#slice=%3F&form=lines")
+        found, marks = page.js(AXIS)[0], page.js(MARKS)[0]
+        trials.see(f"ticks: {name}", [it["said"] for it in found], wanted.split())
+        pairs = [*((float(Fraction(it["exact"])), -it["cy"]) for it in marks), *((value_of(it["said"]), -it["y"]) for it in found)]
+        trials.see(f"ticks: {name}: they stand where they belong", is_linear(pairs))
+        trials.see(f"ticks: {name}: the numbers are exact", [it["exact"] for it in marks], [it for it in texts if it != "\\N"])
+        page.go("#slice=%3F&form=bars")
+        found, marks = page.js(AXIS)[0], [it for it in page.js(MARKS)[0] if it["width"] is not None]
+        (zero,) = [it["x"] for it in found if it["said"] == "0"]
+        ends = [(float(it["exact"]), it["x"] + (it["width"] if float(it["exact"]) > 0 else 0) - zero) for it in marks if float(it["exact"])]
+        trials.see(f"ticks: {name}: those of bars do, too", is_linear([*ends, *((value_of(it["said"]), it["x"] - zero) for it in found)]))
+    dropped(page, "thousands", ["sum(m)"], [["12345"]], "#slice=%3F&form=lines&thousands=space")
+    trials.see("ticks: other marks between thousands", page.js(AXIS)[0][-1]["said"], "14\u202f000")
+    page.choose("thousands", "none")
+    trials.see("ticks: none", page.js(AXIS)[0][-1]["said"], "14000")
+
+
 def press(page, *keys):
     """Presses keys, one after the other, where the focus is."""
     for it in keys:
@@ -361,4 +421,4 @@ def widths(trials, page, cube):
     page.size(0)
 
 
-SMALL = [numbers, first_rows, bars, lines, stacked, chart_keys, chart_pointer, controls_by_keys, place_kept, chart_colours, widths]
+SMALL = [numbers, first_rows, bars, lines, stacked, ticks, chart_keys, chart_pointer, controls_by_keys, place_kept, chart_colours, widths]

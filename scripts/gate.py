@@ -173,6 +173,7 @@ def quick_parts(program):
         ("cases", programs.pytest(program, "tests/test_cases.py", shares=shares) or ["scripts/cases.py", "--program", program]),
         ("documents", ["scripts/documents.py", "--check", "--program", program]),
         ("what documents show, run", ["scripts/pages.py", "--program", program]),
+        ("the library that draws the explorer's charts", ["scripts/d3.py", "check"]),
         ("a wrong program", ["scripts/spoil.py", "--program", program]),
         ("starting, installing and packing it", ["scripts/installing.py", "--program", program]),
         ("the Python package", ["scripts/python_tests.py", "--program", program]),

@@ -399,6 +399,14 @@ def first_minute(trials, page, room):
     trials.see("the cube of other columns", page.cube(), by_command(page, room))
 
 
+def drawn(trials, page, room):
+    """The page draws charts under its policy, too."""
+    drop_sales(page, room)
+    page.click("#as-bars")
+    names = page.js("return [...document.querySelectorAll('#chart .mark')].map((it) => it.ariaLabel.split(': ')[0])")
+    trials.see("bars of a dropped file", names, ["Leeds", "York"])
+
+
 def other_columns(trials, page, room):
     """What stands above a cube is of that cube, though other columns were chosen meanwhile."""
     drop_sales(page, room)
@@ -907,7 +915,7 @@ def try_all(trials, page, room, given):
     trials.run(examples, page, room)
     trials.run(of_cases, page, room, given.all_cases)
     trials.run(generated, page, room, given.cases)
-    for trial in (first_minute, other_columns, counts_alone, nulls, strange_names, schema_text, refused_lines, several_files, wrong_files,
+    for trial in (first_minute, drawn, other_columns, counts_alone, nulls, strange_names, schema_text, refused_lines, several_files, wrong_files,
                   faults_of_module, too_large, stopped, saved, by_keyboard, names_and_contrast):
         trials.run(trial, page, room)
     trials.run(asks_nobody, page)

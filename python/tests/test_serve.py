@@ -1080,7 +1080,7 @@ class Explorer(Case):
         self.assertEqual((page.status, page.headers["Content-Type"]), (200, "text/html; charset=utf-8"))
         self.assertIn('<meta name="datacube-served" data-name="cube.csv" data-escaped="0">', page.text)
         policy = page.headers["Content-Security-Policy"]
-        self.assertEqual((policy.count("'sha256-"), "unsafe" in policy, "unsafe-inline" in page.text, "frame-ancestors 'none'" in policy), (3, False, False, True))
+        self.assertEqual((policy.count("'sha256-"), "unsafe" in policy, "unsafe-inline" in page.text, "frame-ancestors 'none'" in policy), (4, False, False, True))
         again = server.get("/", headers={"If-None-Match": page.headers["ETag"]})
         self.assertEqual((again.status, again.headers["Content-Security-Policy"]), (304, policy))
         self.assertEqual(server.get("/", headers={"Cookie": f"jackraisin-1={server.token}"}, token=False).status, 401)
@@ -1100,6 +1100,9 @@ class Explorer(Case):
             server.made(b"9,I,a,York,tea,card,1,100\n9,I,b,Hull,tea,card,1,100\n")
             until(lambda: {("York", "3"), ("Hull", "1")} <= {tuple(it[:2]) for it in rows()})
             self.assertIn("lines, as they are at", driver.find_element("id", "about").text)
+            driver.find_element("id", "as-bars").click()
+            until(lambda: driver.find_elements("css selector", "#chart .mark[aria-label^='York: ']"))
+            driver.find_element("id", "as-table").click()
             self.see_many_tabs(server, driver, rows)
             self.assertEqual([it for it in driver.get_log("browser") if it["level"] == "SEVERE"], [])
             self.assertEqual(server.end()[0], 0)

@@ -49,6 +49,10 @@ class Show(unittest.TestCase):
                 time.sleep(0.1)
             self.assertIn([EVIL, "3"], driver.execute_script(ROWS))
             self.assertIn(["York", "4"], driver.execute_script(ROWS))
+            driver.find_element("id", "as-bars").click()
+            while not (marks := driver.find_elements("css selector", "#chart .mark")) and time.monotonic() < end:
+                time.sleep(0.1)
+            self.assertEqual([it.get_attribute("aria-label") for it in marks], [f"{EVIL}: 3", "York: 4"])
             self.assertNotEqual(driver.title, "evil")
             self.assertEqual([it for it in driver.get_log("browser") if it["level"] == "SEVERE"], [])
 
