@@ -198,11 +198,11 @@ def long_parts(program):
     """The parts that need no kit, but a database and a browser."""
     kills, generated = programs.python_package(program, "-k", "kill"), programs.pytest(program, "tests/test_sql.py")
     return [
-        *([("the Python package, with processes that are killed", kills)] if kills else []),
-        ("the same question in SQL", ["scripts/sql.py", "--program", program]),
-        *([("the same question in SQL, generated cases", generated)] if generated else []),
         ("the page in a browser", ["scripts/explorer.sh"]),
         ("the page that counts a file of one's own, in a browser", ["scripts/own_page.sh"]),
+        ("the same question in SQL", ["scripts/sql.py", "--program", program]),
+        *([("the same question in SQL, generated cases", generated)] if generated else []),
+        *([("the Python package, with processes that are killed", kills)] if kills else []),
     ]
 
 

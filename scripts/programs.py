@@ -1,5 +1,6 @@
 """Where the program stands that the scripts run, by what Python its tests are, and a folder in which it is run."""
 import argparse
+import functools
 import os
 import shutil
 import subprocess
@@ -22,6 +23,7 @@ def datacube():
     return found() or sys.exit("no program is there to run: scripts/build.sh builds it")
 
 
+@functools.cache
 def python_with(package):
     """Debian's Python, or the one that runs this, whichever has a package, or None."""
     has = lambda it: shutil.which(it) and not subprocess.run([it, "-c", f"import {package}"], stderr=subprocess.DEVNULL).returncode
