@@ -19,7 +19,6 @@ import shutil
 import socket
 import subprocess
 import sys
-import tempfile
 import time
 from concurrent.futures import ThreadPoolExecutor
 from fractions import Fraction
@@ -27,8 +26,8 @@ from fractions import Fraction
 sys.dont_write_bytecode = True
 import explorer_charts
 import explorer_saving
-from explorer_page import (AWAIT, BEATS, CONTRAST, CONTRASTS, DROP, ROOT, SETTLED, SHOP, SHOP_SCHEMA, STATES, Page, Trials, print_cube, printed,
-                           see_view, shop_slice, shown_answer, wanted_rows)
+from explorer_page import (AWAIT, BEATS, CONTRAST, CONTRASTS, DROP, ROOT, SETTLED, SHOP, SHOP_SCHEMA, STATES, Page, Trials, browser_and_room, print_cube,
+                           printed, see_view, shop_slice, shown_answer, wanted_rows)
 
 # The shop.
 
@@ -715,33 +714,6 @@ def large_pictures(page):
     page.driver.set_window_size(1280, 800)
 
 
-def chromium(room):
-    """A headless Chromium with its own files in a folder, or None with a line that says what isn't installed, or why it doesn't
-    start."""
-    try:
-        from selenium import webdriver
-        from selenium.common.exceptions import WebDriverException
-        from selenium.webdriver.chrome.service import Service
-    except ImportError:
-        print("explorer: Debian's package python3-selenium isn't installed")
-        return None
-    driver, browser = shutil.which("chromedriver"), shutil.which("chromium")
-    if not driver or not browser:
-        print("explorer: Debian's package chromium-driver isn't installed")
-        return None
-    options = webdriver.ChromeOptions()
-    options.binary_location = browser
-    for word in ("--headless=new", "--window-size=1280,800", "--disable-dev-shm-usage", "--hide-scrollbars=false"):
-        options.add_argument(word)
-    if os.geteuid() == 0:
-        options.add_argument("--no-sandbox")
-    try:
-        return webdriver.Chrome(service=Service(driver, env={**os.environ, "TMPDIR": room}), options=options)
-    except WebDriverException as why:
-        print(f"explorer: the browser can't be driven here: {why.msg}")
-        return None
-
-
 def try_small(trials, page, room, given):
     """Runs the trials of small cubes."""
     cube = f"{room}/shop.csv"
@@ -784,18 +756,10 @@ def main():
     parser.add_argument("--only", default="")
     given = parser.parse_args()
     trials = Trials(given.loud, given.only)
-    room_of = lambda name: tempfile.TemporaryDirectory(prefix=f"datacube-{name}-", ignore_cleanup_errors=True)
-    with room_of("browser") as browsers, room_of("explorer") as room:
-        driver = chromium(browsers)
-        if not driver:
-            print("0 passed, 0 failed")
-            return 77
-        try:
+    with browser_and_room("explorer") as (driver, room):
+        if driver:
             try_all(trials, Page(driver), room, given)
-        finally:
-            driver.quit()
-    print(f"{trials.passed} passed, {trials.failed} failed")
-    return 1 if trials.failed or not trials.passed else 0
+    return trials.end(driver)
 
 
 if __name__ == "__main__":

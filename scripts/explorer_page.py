@@ -1,11 +1,14 @@
 """A page of the explorer in a browser: what drives it, what a person sees of it, and what the program prints of the same."""
+import contextlib
 import csv
 import functools
 import io
 import os
 import re
 import shlex
+import shutil
 import subprocess
+import tempfile
 import time
 from fractions import Fraction
 
@@ -118,6 +121,55 @@ class Trials:
             self.see(trial.__name__, f"{type(fault).__name__}: {str(fault).splitlines()[0]}", "its end")
         if self.loud:
             print(f"{trial.__name__}: {time.monotonic() - start:.1f} s", flush=True)
+
+
+    def end(self, driver):
+        """Says what passed and failed, and gives the status of a script that has these trials; without a browser it is another one."""
+        print(f"{self.passed} passed, {self.failed} failed")
+        return 1 if self.failed else 77 if not driver else 0 if self.passed else 1
+
+
+@contextlib.contextmanager
+def browser_and_room(name, **logs):
+    """A headless Chromium that keeps logs, and a folder; in place of the browser stands None where a line says why there is none."""
+    folder = lambda it: tempfile.TemporaryDirectory(prefix=f"datacube-{it}-", ignore_cleanup_errors=True)
+    with folder("browser") as files, folder(name) as room:
+        driver = chromium(name, files, logs)
+        try:
+            yield driver, room
+        finally:
+            if driver:
+                driver.quit()
+
+
+def chromium(name, files, logs):
+    """A browser with its own files in a folder, or None."""
+    try:
+        from selenium import webdriver
+        from selenium.common.exceptions import WebDriverException
+        from selenium.webdriver.chrome.service import Service
+    except ImportError:
+        print(f"{name}: Debian's package python3-selenium isn't installed")
+        return None
+    driver, browser = shutil.which("chromedriver"), shutil.which("chromium")
+    if not driver or not browser:
+        print(f"{name}: Debian's package chromium-driver isn't installed")
+        return None
+    options = webdriver.ChromeOptions()
+    options.binary_location = browser
+    if logs:
+        options.set_capability("goog:loggingPrefs", logs)
+    for word in ("--headless=new", "--window-size=1280,800", "--disable-dev-shm-usage", "--hide-scrollbars=false"):
+        options.add_argument(word)
+    if os.geteuid() == 0:
+        options.add_argument("--no-sandbox")
+    try:
+        made = webdriver.Chrome(service=Service(driver, env={**os.environ, "TMPDIR": files}), options=options)
+    except WebDriverException as why:
+        print(f"{name}: the browser can't be driven here: {why.msg}")
+        return None
+    made.set_script_timeout(600)
+    return made
 
 
 def short(value):

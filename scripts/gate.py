@@ -30,6 +30,17 @@ RELEASE = f"{ROOT}/release/x86_64-linux"
 COUNTS = re.compile(r"(\d+) passed, (\d+) failed")
 # (the status of a part that says which packages it lacks)
 LEFT_OUT = 77
+# (most share their tests among as many processes as there are processors)
+PARTS_AT_ONCE = 3
+# What pytest alone runs before the proofs, by name, and the files of tests/.
+BY_PYTEST = {
+    "a wrong program": ["spoiled"],
+    "starting, installing and packing it": ["installing"],
+    "generated cases beside a slow program": ["columns", "feeds", "guesses", "merges", "rooms", "sessions", "views"],
+    "a session over a store, the short form": ["store_trials"],
+    "hostile use, the short form": ["hostile"],
+    "the progress line in a terminal": ["progress"],
+}
 
 # What came of a part: its status, the lines that it said, its seconds of the clock and of processors, and the names that it
 # left in the folder for temporary files.
@@ -53,12 +64,12 @@ class Tally:
         self.note(not names, f"nothing is left in the folder for temporary files{''.join(f': {it}' for it in names[:10])}")
 
     def run(self, parts):
-        """Runs parts side by side, as many as there are processors; shows of each in turn what it says but for its last
-        line, and adds up what that counts."""
-        with concurrent.futures.ThreadPoolExecutor(len(os.sched_getaffinity(0))) as pool:
-            for name, ran in [(name, pool.submit(run_part, command)) for name, command in parts]:
+        """Runs parts side by side; shows of each that ended what it says but for its last line, and adds up what that counts."""
+        with concurrent.futures.ThreadPoolExecutor(PARTS_AT_ONCE) as pool:
+            names = {pool.submit(run_part, command): name for name, command in parts}
+            for ran in concurrent.futures.as_completed(names):
+                name, part = names[ran], ran.result()
                 print(f"== {name}", flush=True)
-                part = ran.result()
                 print(*part.lines[:-1], sep="", end="", flush=True)
                 self.rows.append((name, part.clock, part.spent))
                 self.add(part.status, "".join(part.lines[-1:]).strip())
@@ -101,7 +112,7 @@ def run_part(command):
 def place_of(command):
     """Where a part's temporary files go: where the caller says, else of the trials of stores, which sync at each commit, in
     memory, where that can be."""
-    is_of_stores = command[0] == "scripts/store_trials.py" and "TMPDIR" not in os.environ and os.access("/dev/shm", os.W_OK)
+    is_of_stores = "tests/test_store_trials.py" in command and "TMPDIR" not in os.environ and os.access("/dev/shm", os.W_OK)
     return "/dev/shm" if is_of_stores else None
 
 
@@ -167,52 +178,43 @@ class Sampler(threading.Thread):
 
 
 def quick_parts(program):
-    """The parts that take seconds, and need no kit."""
+    """The parts that take seconds, and need no kit; those that wait most begin first."""
     shares = len(os.sched_getaffinity(0))
+    pytest = lambda *files: programs.pytest(program, *(f"tests/test_{it}.py" for it in files), shares=shares)
     parts = [
-        ("cases", programs.pytest(program, "tests/test_cases.py", shares=shares) or ["scripts/cases.py", "--program", program]),
-        ("documents", ["scripts/documents.py", "--check", "--program", program]),
+        ("the Python package", programs.python_package(program, "-k", "not kill") or ["scripts/python_tests.py", "--program", program]),
         ("what documents show, run", ["scripts/pages.py", "--program", program]),
         ("the library that draws the explorer's charts", ["scripts/d3.py", "check"]),
-        ("a wrong program", ["scripts/spoil.py", "--program", program]),
-        ("starting, installing and packing it", ["scripts/installing.py", "--program", program]),
-        ("the Python package", ["scripts/python_tests.py", "--program", program]),
-        ("a session over a store, the short form", ["scripts/store_trials.py", "--short", "--program", program]),
+        ("cases", pytest("cases") or ["scripts/cases.py", "--program", program]),
+        ("documents", ["scripts/documents.py", "--check", "--program", program]),
     ]
-    rest = ["tests", *(f"--ignore=tests/test_{it}.py" for it in ("cases", "progress", "hostile", "store_trials", "sql", "library"))]
-    if programs.pytest(program):
-        parts.append(("the progress line in a terminal", programs.pytest(program, "tests/test_progress.py", shares=8)))
-        parts.append(("generated cases beside a slow program", programs.pytest(program, *rest, shares=shares)))
+    if pytest():
+        parts += [(name, pytest(*files)) for name, files in BY_PYTEST.items()]
     else:
-        print("left out, since python3-pytest isn't installed: generated cases, and the progress line in a terminal")
-    if shutil.which("cc"):
-        hostile = programs.pytest(program, "tests/test_hostile.py", shares=shares) or ["scripts/hostile.sh", "--short", "--program", program]
-        parts.append(("hostile use, the short form", hostile))
-    else:
-        print("left out, since there is no C compiler: hostile use")
+        print("left out, since python3-pytest isn't installed:", ", ".join(BY_PYTEST))
     return parts
 
 
 def long_parts(program):
     """The parts that need no kit, but a database and a browser."""
-    generated = programs.pytest(program, "tests/test_sql.py")
+    kills, generated = programs.python_package(program, "-k", "kill"), programs.pytest(program, "tests/test_sql.py")
     return [
-        ("the same question in SQL", ["scripts/sql.py", "--program", program]),
-        *([("the same question in SQL, generated cases", generated)] if generated else []),
         ("the page in a browser", ["scripts/explorer.sh"]),
         ("the page that counts a file of one's own, in a browser", ["scripts/own_page.sh"]),
+        ("the same question in SQL", ["scripts/sql.py", "--program", program]),
+        *([("the same question in SQL, generated cases", generated)] if generated else []),
+        *([("the Python package, with processes that are killed", kills)] if kills else []),
     ]
 
 
 def parts_of_proved(program):
     """The parts that run programs which the proofs left."""
-    parts = [
+    library = programs.pytest(program, "tests/test_hostile.py", "--long", "-k", "calls", shares=len(os.sched_getaffinity(0)))
+    return [
         ("cases of the library", ["scripts/library_cases.py"]),
         ("cases of the benchmarks", ["scripts/cases.py", "--folder", "cases/bench", "--program", "crates/bench/out/bench"]),
+        *([("calls of the library with memory refused", library)] if library else []),
     ]
-    if shutil.which("cc"):
-        parts.append(("calls of the library with memory refused", ["scripts/hostile.sh", "--library", "--program", program]))
-    return parts
 
 
 def prove(tally, is_anew):
@@ -329,7 +331,7 @@ def main():
     program = programs.found()
     if program:
         print(f"the program that is run: {os.path.relpath(program, ROOT)}", flush=True)
-        tally.run(quick_parts(program) + ([] if given.quick else long_parts(program)))
+        tally.run(([] if given.quick else long_parts(program)) + quick_parts(program))
     else:
         tally.note(False, "there is a program to run the cases on")
     if not given.quick:

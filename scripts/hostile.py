@@ -1,14 +1,13 @@
 """Hostile use of the built program: memory, reads, writes and threads refused in turn, and feeds that lie.
 
-    scripts/hostile.sh [--program FILE] [--short | --library] [--only WORD]
+    scripts/hostile.sh [--program FILE] [--short] [--only WORDS]
 
-The program is the one given, else the one that `./datacube` would run. The short form takes 45 seconds or so. With
---library only calls of the library are tried, by the driver in crates/cube_calls, which rt ci or rt run builds.
-Each trial is a line; the last line is `N passed, M failed`. A trial fails where the program answers what its formats
+The program is the one given, else the one that `./datacube` would run. The short form takes 45 seconds or so. Calls of the
+library are tried by the driver in crates/cube_calls, where rt ci or rt run built it. Each trial is a test of
+tests/test_hostile.py; the last line is `N passed, M failed`. A trial fails where the program answers what its formats
 don't allow for the cause, where standard output is neither empty nor whole (or, under G6, the first bytes that the
-number says), where it crashes, or where it runs past its time. Needs python3 and cc.
+number says), where it crashes, or where it runs past its time. Needs pytest and cc.
 """
-import argparse
 import os
 import random
 import re
@@ -16,7 +15,6 @@ import resource
 import shutil
 import subprocess
 import sys
-import tempfile
 import threading
 
 sys.dont_write_bytecode = True
@@ -165,21 +163,6 @@ class Trials:
         """Makes a trial."""
         call, arguments = self.calls[name]
         return call(*arguments)
-
-    def run(self, only):
-        """Makes those whose name has a word, and says of each what came of it; the status of the script."""
-        passed = failed = 0
-        for name in (it for it in self.calls if only in it):
-            try:
-                why = self.tried(name)
-            except Exception as error:
-                why = f"the trial itself failed: {error!r}"
-            is_right = why is None or isinstance(why, int)
-            passed, failed = passed + is_right, failed + (not is_right)
-            told = f": {why}" if not is_right else f" ({why})" if why is not None else ""
-            print(f"{'ok     ' if is_right else 'FAILED '} {name}{told}", flush=True)
-        print(f"{passed} passed, {failed} failed")
-        return 1 if failed else 0
 
     def in_turn(self, kind, words, codes, given=b"", ends_of=no_ends, short=None, limit=20000):
         """Refuses each call of a kind in turn until a run meets no refusal; how many there were, or why it fails."""
@@ -706,18 +689,5 @@ def trials_in(folder, path, is_short):
     return Trials(Program(os.path.abspath(path), shim, folder), is_short)
 
 
-def main():
-    asks = argparse.ArgumentParser(description=__doc__, formatter_class=argparse.RawDescriptionHelpFormatter)
-    asks.add_argument("--program")
-    asks.add_argument("--short", action="store_true", help="the short form")
-    asks.add_argument("--library", action="store_true", help="calls of the library alone")
-    asks.add_argument("--only", default="", help="only the trials whose name has this word")
-    given = asks.parse_args()
-    with tempfile.TemporaryDirectory(prefix="hostile-") as folder:
-        trials = trials_in(folder, given.program or programs.datacube(), given.short)
-        growths_in_turn(trials) if given.library else all_of(trials)
-        return trials.run(given.only)
-
-
 if __name__ == "__main__":
-    sys.exit(main())
+    sys.exit(programs.by_pytest(__doc__, "tests/test_hostile.py"))

@@ -22,7 +22,6 @@ import shlex
 import shutil
 import subprocess
 import sys
-import tempfile
 import time
 
 sys.dont_write_bytecode = True
@@ -881,35 +880,6 @@ def pictures(page, room):
     page.driver.set_window_size(1280, 800)
 
 
-def chromium(room):
-    """A headless Chromium that keeps a log of what it asks, or None with a line that says why there is none."""
-    try:
-        from selenium import webdriver
-        from selenium.common.exceptions import WebDriverException
-        from selenium.webdriver.chrome.service import Service
-    except ImportError:
-        print("own_page: Debian's package python3-selenium isn't installed")
-        return None
-    driver, browser = shutil.which("chromedriver"), shutil.which("chromium")
-    if not driver or not browser:
-        print("own_page: Debian's package chromium-driver isn't installed")
-        return None
-    options = webdriver.ChromeOptions()
-    options.binary_location = browser
-    options.set_capability("goog:loggingPrefs", {"performance": "ALL", "browser": "ALL"})
-    for word in ("--headless=new", "--window-size=1280,800", "--disable-dev-shm-usage", "--hide-scrollbars=false"):
-        options.add_argument(word)
-    if os.geteuid() == 0:
-        options.add_argument("--no-sandbox")
-    try:
-        made = webdriver.Chrome(service=Service(driver, env={**os.environ, "TMPDIR": room}), options=options)
-    except WebDriverException as why:
-        print(f"own_page: the browser can't be driven here: {why.msg}")
-        return None
-    made.set_script_timeout(600)
-    return made
-
-
 def try_all(trials, page, room, given):
     """Runs every trial."""
     trials.run(examples, page, room)
@@ -936,18 +906,12 @@ def main():
     asks.add_argument("--screenshots", action="store_true")
     given = asks.parse_args()
     trials = Trials(given.loud, given.only)
-    room_of = lambda name: tempfile.TemporaryDirectory(prefix=f"datacube-{name}-", ignore_cleanup_errors=True)
-    with room_of("browser") as browsers, room_of("page") as room:
+    with explorer_page.browser_and_room("own_page", performance="ALL", browser="ALL") as (driver, room):
         trials.run(parts)
         trials.run(allocator, room)
-        driver = chromium(browsers)
         if driver:
-            try:
-                try_all(trials, Page(driver), room, given)
-            finally:
-                driver.quit()
-    print(f"{trials.passed} passed, {trials.failed} failed")
-    return 1 if trials.failed or not trials.passed else 0 if driver else 77
+            try_all(trials, Page(driver), room, given)
+    return trials.end(driver)
 
 
 if __name__ == "__main__":

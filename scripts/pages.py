@@ -62,12 +62,13 @@ PAGES = {
 TABLED, CASES = "cases/files", "cases/own_files.case"
 COPIED = ("examples", "scripts", TABLED, "crates/cube_ledger")
 # What isn't run, by the start of its line, and why.
+INSTALLS = "tests/test_installing.py tries it"
 MACHINES = "it is for machines of one's own: scripts/cluster.sh tries it"
 SERVES = "it begins a server of its own, and is a part of the gate by itself"
 LEFT_OUT = {
     "scripts/test.sh": "it is the gate, which runs this script",
-    "scripts/install.sh": "scripts/installing.py tries it",
-    "scripts/deb.sh": "scripts/installing.py tries it",
+    "scripts/install.sh": INSTALLS,
+    "scripts/deb.sh": INSTALLS,
     "scripts/explorer.sh": "it is a part of the gate by itself, or takes pictures",
     "scripts/own_page.sh": "it is a part of the gate by itself, or takes pictures",
     "scripts/page.py": "it is a part of the gate by itself",
@@ -312,7 +313,7 @@ def cased():
 
 
 def lay_out(room, program):
-    """Makes a page's folder. Which program there is to run is known there: scripts/installing.py tries how it is found."""
+    """Makes a page's folder. Which program there is to run is known there: tests/test_installing.py tries how it is found."""
     os.mkdir(room)
     for name in COPIED:
         shutil.copytree(f"{ROOT}/{name}", f"{room}/{name}", ignore=shutil.ignore_patterns("__pycache__", "out"))

@@ -1,4 +1,6 @@
 """Where the program stands that the scripts run, by what Python its tests are, and a folder in which it is run."""
+import argparse
+import functools
 import os
 import shutil
 import subprocess
@@ -21,6 +23,7 @@ def datacube():
     return found() or sys.exit("no program is there to run: scripts/build.sh builds it")
 
 
+@functools.cache
 def python_with(package):
     """Debian's Python, or the one that runs this, whichever has a package, or None."""
     has = lambda it: shutil.which(it) and not subprocess.run([it, "-c", f"import {package}"], stderr=subprocess.DEVNULL).returncode
@@ -28,12 +31,33 @@ def python_with(package):
 
 
 def pytest(program, *words, shares=1):
-    """The command by which pytest runs tests of the folder tests/ on a program, and tells what passed, or None where it isn't there.
-    The tests are shared among so many processes, where Python can do that."""
+    """The command by which pytest runs tests on a program, and tells what passed, or None where it isn't there. The tests are
+    shared among so many processes, where Python can do that."""
     python = python_with("pytest")
     quiet = ["-q", "--tb=short", "--no-header", "-p", "no:cacheprovider", "--tally"]
     quiet += ["-n", str(shares)] if shares > 1 and python_with("xdist") == python else []
     return python and [python, "-B", "-m", "pytest", *quiet, "--program", program, *words]
+
+
+def python_package(program, *words):
+    """The same for the tests of the Python package, which mostly wait."""
+    return pytest(program, "python/tests", *words, shares=2 * len(os.sched_getaffinity(0)))
+
+
+def by_pytest(about, file):
+    """What a script does whose trials are tests: runs those of a file that its words say, and gives the status. Words that it
+    doesn't know are for pytest."""
+    asks = argparse.ArgumentParser(description=about, formatter_class=argparse.RawDescriptionHelpFormatter)
+    asks.add_argument("--program")
+    asks.add_argument("--short", action="store_true", help="the short form")
+    asks.add_argument("--only", default="", help="only the trials whose name has these words")
+    given, more = asks.parse_known_args()
+    form, only = [] if given.short else ["--long"], ["-k", " and ".join(given.only.split())] if given.only else []
+    command = pytest(os.path.abspath(given.program or datacube()), file, "-vv", *form, *only, *more)
+    if not command:
+        print("Debian's package python3-pytest isn't installed\n0 passed, 0 failed")
+        return 77
+    return subprocess.run(command, cwd=ROOT).returncode
 
 
 class Room:

@@ -2,19 +2,18 @@
 """Tries what `live --store` promises on the built program: kills, calls and memory refused in turn, what a crash of the
 machine may leave, a second process, a full disk, files that were spoiled, other feeds, and what SQLite reads of the file.
 
-    scripts/store_trials.py [--program PATH] [--short | --each] [--only WORD] [--seed N]
+    scripts/store_trials.py [--program PATH] [--short | --each] [--only WORDS] [--seed N]
 
 The program is the one given, else the one that `./datacube` would run. The short form, which is part of the gate, has a
 few of the kills, of the calls and of the crashes, and turns a byte a page; the long one refuses one allocation of eleven,
 and with --each it refuses each. What an answer has to be is computed by scripts/oracle.py, never by the program: which first part of the
-changes a store kept is told by the numbers of changes that are refused on purpose, one a source. Each trial is a line;
-the last line is `N passed, M failed`, and the status is 1 where one failed. The full disk is a tmpfs, which takes root;
+changes a store kept is told by the numbers of changes that are refused on purpose, one a source. Each trial is a test
+of tests/test_store_trials.py; the last line is `N passed, M failed`, and the status is 1 where one failed. The full disk is a tmpfs, which takes root;
 what Python's SQLite reads takes one that knows STRICT tables; refusals (store_calls.py) and crashes (store_crashes.py) take
 cc. A trial that can't be made here is left out, by its name.
 The stores lie in TMPDIR, else in /dev/shm where that is there: a kill leaves what was written, on whatever disk, and so the
 trials don't wait for one.
 """
-import argparse
 import collections
 import contextlib
 import functools
@@ -764,35 +763,10 @@ def room_of(program, is_short, is_each=False):
         yield Room(os.path.abspath(program), folder, is_short, is_each)
 
 
-def tried(room, name, seed=1):
+def tried(room, name, seed):
     """Makes a trial, and gives what it tells."""
     return TRIALS[name](room, random.Random(f"{seed} {name}"))
 
 
-def main():
-    asks = argparse.ArgumentParser(description=__doc__, formatter_class=argparse.RawDescriptionHelpFormatter)
-    asks.add_argument("--program")
-    asks.add_argument("--short", action="store_true", help="the short form")
-    asks.add_argument("--each", action="store_true", help="refuse each allocation, and not one of eleven")
-    asks.add_argument("--only", default="", help="only the trials whose name has this word")
-    asks.add_argument("--seed", type=int, default=1)
-    given = asks.parse_args()
-    passed = failed = 0
-    with room_of(given.program or programs.datacube(), given.short, given.each) as room:
-        for name in (it for it in TRIALS if given.only in it):
-            begun = time.monotonic()
-            try:
-                told, is_right = tried(room, name, given.seed), True
-            except LeftOut as why:
-                print(f"        left out: {name}, since {why}", flush=True)
-                continue
-            except Exception as error:
-                told, is_right = error if isinstance(error, Wrong) else f"the trial itself failed: {error!r}", False
-            passed, failed = passed + is_right, failed + (not is_right)
-            print(f"{'ok     ' if is_right else 'FAILED '} {name}{f': {told}' if told else ''} ({time.monotonic() - begun:.1f} s)", flush=True)
-    print(f"{passed} passed, {failed} failed")
-    return 1 if failed or not passed else 0
-
-
 if __name__ == "__main__":
-    sys.exit(main())
+    sys.exit(programs.by_pytest(__doc__, "tests/test_store_trials.py"))

@@ -1,6 +1,7 @@
 """A private PostgreSQL for tests, writers on it, what SQL says of a table's cube, and a way to it that can be cut."""
 from __future__ import annotations
 
+import atexit
 import contextlib
 import importlib
 import json
@@ -140,6 +141,23 @@ def aggregate(schema: jackraisin.Schema, text: str) -> Any:
     """An aggregate as the oracle has it."""
     kind, _, rest = text.partition("(")
     return kind, None if rest == "*)" else schema.measures.index(rest[:-1])
+
+
+SHARED: List[Private] = []
+
+
+def shared() -> Private:
+    """The server that all tests of a process share; what a test makes in it goes with the test."""
+    if not SHARED:
+        SHARED.append(Private())
+        # (unittest has no end of its own)
+        atexit.register(end_shared)
+    return SHARED[0]
+
+
+def end_shared() -> None:
+    while SHARED:
+        SHARED.pop().close()
 
 
 class Writers:

@@ -47,13 +47,7 @@ def setUpModule():
     global PRIVATE
     if WHY:
         raise unittest.SkipTest(f"following a table: {WHY}")
-    PRIVATE = private_server.Private()
-
-
-def tearDownModule():
-    # (pytest calls no cleanups of a module)
-    if PRIVATE:
-        PRIVATE.close()
+    PRIVATE = private_server.shared()
 
 
 def publications():

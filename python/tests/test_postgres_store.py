@@ -32,7 +32,7 @@ PAIRS = [
     "UPDATE {table} SET cents = -cents, city = 'b', id = id + 1000000000 WHERE id BETWEEN {at} AND {at} + 5",
     "DELETE FROM {table} WHERE id BETWEEN {at} + 6 AND {at} + 7 OR id BETWEEN 1000000000 + {at} AND 1000000001 + {at}",
 ]
-setUpModule, tearDownModule = test_postgres.setUpModule, test_postgres.tearDownModule
+setUpModule = test_postgres.setUpModule
 
 
 class Stored:

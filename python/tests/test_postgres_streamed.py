@@ -19,15 +19,18 @@ if private_server.missing() is None:
 
 MANY = 2000
 INSERT = "INSERT INTO {table} (id, city, product, cents) SELECT n, 'city ' || n % 5, 'tea', n FROM generate_series({first}, {first} + {count} - 1) AS n"
-tearDownModule = test_postgres.tearDownModule
 
 
 def setUpModule():
     test_postgres.setUpModule()
     if test_postgres.PRIVATE.ask("SELECT current_setting('server_version_num')::int")[0][0] < 140000:
-        test_postgres.tearDownModule()
         raise unittest.SkipTest("following a table in blocks: the server is older than PostgreSQL 14")
     test_postgres.PRIVATE.run("ALTER SYSTEM SET logical_decoding_work_mem = '64kB'", "SELECT pg_reload_conf()")
+
+
+def tearDownModule():
+    if test_postgres.PRIVATE:
+        test_postgres.PRIVATE.run("ALTER SYSTEM RESET logical_decoding_work_mem", "SELECT pg_reload_conf()")
 
 
 class Counted:

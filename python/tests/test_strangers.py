@@ -300,11 +300,11 @@ class OfAFollower(Strangers, unittest.TestCase):
 
     @classmethod
     def begun(cls):
-        private = private_server.Private()
-        cls.addClassCleanup(private.close)
+        private = private_server.shared()
         name = '"' + cls.TABLE.replace('"', '""') + '"'
         private.run(f"CREATE TABLE {name} (id int PRIMARY KEY, city text, product text, cents bigint)",
         f"INSERT INTO {name} VALUES (1, 'York', 'tea', 5)")
+        cls.addClassCleanup(private.run, f"DROP TABLE {name}")
         return Served("jackraisin.postgres", "--dsn", private.dsn, "--table", name, "--schema", f"{FOLDER.name}/schema.toml")
 
     def test_a_name_that_would_end_a_header(self):

@@ -1,13 +1,8 @@
-#!/usr/bin/env python3
-"""Tries what starts, installs and packs the program: ./datacube, scripts/install.sh and scripts/deb.sh, and the manual page.
+"""What starts, installs and packs the program: ./datacube, scripts/install.sh and scripts/deb.sh, and the manual page.
 
-    scripts/installing.py [--program PATH] [--only WORD]
-
-All is tried in a copy of the repository whose released program is the one at PATH, else the one that `./datacube` would
-run, with a record that fits. The kit's command `rt` is a script there that says that it was called. Where there is no
-dpkg-deb, or no man, what needs it is left out. Each trial is a line; the last line is `N passed, M failed`.
+All is tried in a copy of the repository whose released program is the one that is tried, with a record that fits. The kit's
+command `rt` is a script there that says that it was called.
 """
-import argparse
 import concurrent.futures
 import glob
 import gzip
@@ -20,9 +15,9 @@ import sys
 import tempfile
 import time
 
-sys.dont_write_bytecode = True
 import links
 import programs
+import pytest
 
 ROOT = programs.ROOT
 # (what of the repository the copy lacks: what was built, and what has no part in this)
@@ -73,14 +68,11 @@ class Copy:
         return f"{self.root}/crates/cube_core/src/lib.rt"
 
 
-def expect(got, wanted, what):
-    if got != wanted:
-        raise AssertionError(f"{what}: {got!r}, and not {wanted!r}")
-
-
-def holds(is_so, what):
-    if not is_so:
-        raise AssertionError(what)
+@pytest.fixture(scope="session")
+def copy(program):
+    """A trial that passes leaves the copy as it was."""
+    with tempfile.TemporaryDirectory(prefix="datacube-installing-") as folder:
+        yield Copy(folder, program)
 
 
 def content(path):
@@ -101,101 +93,100 @@ def said_by_program(copy):
     return 0, ran.stdout, ""
 
 
-def builds_nothing(copy):
+def test_it_builds_nothing_and_says_what_does(copy):
     """Where the release is older than the sources, it says what to run, and runs nothing."""
-    expect(copy.version(), said_by_program(copy), "before the edit")
+    assert copy.version() == said_by_program(copy), "before the edit"
     was = content(copy.source())
     put(copy.source(), was + b"// later\n")
     status, out, err, called = copy.run("datacube", "--version")
     put(copy.source(), was)
-    expect((status, out), (1, ""), "the status and the output")
-    holds("built from other sources" in err and "scripts/build.sh" in err, f"it says {err!r}")
-    holds("rt" not in called, "the kit was called")
-    expect(copy.version(), said_by_program(copy), "after the edit was undone")
+    assert (status, out) == (1, ""), "the status and the output"
+    assert "built from other sources" in err and "scripts/build.sh" in err, f"it says {err!r}"
+    assert "rt" not in called, "the kit was called"
+    assert copy.version() == said_by_program(copy), "after the edit was undone"
 
 
 def rested(copy):
     """Lets the files rest, and has the program found and kept."""
     time.sleep(3.2)
-    expect(copy.version(), said_by_program(copy), "the program")
-    holds(os.path.exists(f"{copy.root}/out/program.txt"), "what was found isn't kept")
+    assert copy.version() == said_by_program(copy), "the program"
+    assert os.path.exists(f"{copy.root}/out/program.txt"), "what was found isn't kept"
 
 
-def is_kept(copy):
+def test_it_keeps_which_program_it_found(copy):
     """The second call computes no checksum, whoever makes it, and nothing else lies beside what is kept."""
     rested(copy)
-    expect(copy.run("datacube", "--version"), (*said_by_program(copy), []), "the next call")
-    expect(os.listdir(f"{copy.root}/out"), ["program.txt"], "the files of out/")
-    expect(stat.S_IMODE(os.stat(f"{copy.root}/out/program.txt").st_mode), 0o644, "the rights of what is kept")
+    assert copy.run("datacube", "--version") == (*said_by_program(copy), []), "the next call"
+    assert os.listdir(f"{copy.root}/out") == ["program.txt"], "the files of out/"
+    assert stat.S_IMODE(os.stat(f"{copy.root}/out/program.txt").st_mode) == 0o644, "the rights of what is kept"
 
 
-def notices_changes(copy):
+def test_it_notices_each_change_of_a_source_or_of_the_program(copy):
     """A change is noticed at the next call, though its size and its date are as before; so is a file more or less."""
     rested(copy)
     source = copy.source()
     was, times = content(source), os.stat(source)
-    refused = lambda what: expect(copy.version()[0], 1, what)
     put(source, was.replace(b"//", b"/*", 1))
     os.utime(source, ns=(times.st_atime_ns, times.st_mtime_ns))
-    refused("of the same size and date")
+    assert copy.version()[0] == 1, "of the same size and date"
     put(source, was)
     os.utime(source, ns=(times.st_atime_ns, times.st_mtime_ns))
-    expect(copy.version(), said_by_program(copy), "undone")
+    assert copy.version() == said_by_program(copy), "undone"
     more = f"{copy.root}/crates/cube_core/proofs/More.antt"
     put(more, b"")
-    refused("a file more")
+    assert copy.version()[0] == 1, "a file more"
     os.rename(more, source + ".other")
-    refused("under another name")
+    assert copy.version()[0] == 1, "under another name"
     os.unlink(source + ".other")
     rested(copy)
     os.rename(source, f"{copy.root}/kept.rt")
-    refused("a file less")
+    assert copy.version()[0] == 1, "a file less"
     os.rename(f"{copy.root}/kept.rt", source)
     rested(copy)
     put(copy.program, content(copy.program) + b"\0")
     status, out, err = copy.version()
-    holds((status, out) == (1, "") and "isn't whole" in err, f"another program: {status}, {err!r}")
+    assert (status, out) == (1, "") and "isn't whole" in err, f"another program: {status}, {err!r}"
     put(copy.program, content(copy.program)[:-1])
-    expect(copy.version(), said_by_program(copy), "the program once more")
+    assert copy.version() == said_by_program(copy), "the program once more"
 
 
-def changed_at_once(copy):
+def test_it_notices_a_change_that_is_made_at_once(copy):
     """A change right after a call is noticed, whatever the clock of the files shows."""
     source = copy.source()
     was = content(source)
     for _ in range(10):
         put(source, was)
-        expect(copy.version(), said_by_program(copy), "the program")
+        assert copy.version() == said_by_program(copy), "the program"
         put(source, was.replace(b"//", b"/*", 1))
-        expect(copy.version()[0], 1, "changed at once")
+        assert copy.version()[0] == 1, "changed at once"
     put(source, was)
 
 
-def side_by_side(copy):
+def test_many_at_once(copy):
     """Many calls at once, of which each may keep what it found."""
     time.sleep(3.2)
     shutil.rmtree(f"{copy.root}/out", ignore_errors=True)
     begin = lambda _: subprocess.run([f"{copy.root}/datacube", "--version"], env=copy.env, stdout=subprocess.PIPE, stderr=subprocess.PIPE, text=True)
     with concurrent.futures.ThreadPoolExecutor(16) as pool:
         found = {(it.returncode, it.stdout, it.stderr) for it in pool.map(begin, range(32))}
-    expect(found, {said_by_program(copy)}, "what they say")
-    expect(os.listdir(f"{copy.root}/out"), ["program.txt"], "the files of out/")
+    assert found == {said_by_program(copy)}, "what they say"
+    assert os.listdir(f"{copy.root}/out") == ["program.txt"], "the files of out/"
 
 
-def not_writable(copy):
+def test_where_nothing_may_be_written(copy):
     """Where nothing can be kept, it runs all the same, and says nothing of it."""
     shutil.rmtree(f"{copy.root}/out", ignore_errors=True)
     put(f"{copy.root}/out", b"")
     for _ in range(2):
-        expect(copy.version(), said_by_program(copy), "the program")
+        assert copy.version() == said_by_program(copy), "the program"
     os.unlink(f"{copy.root}/out")
     if os.geteuid():
         os.mkdir(f"{copy.root}/out", 0o555)
-        expect(copy.version(), said_by_program(copy), "without leave to write")
+        assert copy.version() == said_by_program(copy), "without leave to write"
         os.rmdir(f"{copy.root}/out")
 
 
-def takes_little_time(copy):
+def test_it_takes_little_more_time_than_the_program(copy):
     """It takes a few milliseconds more than the program itself: the best of many calls, in turn."""
     rested(copy)
     least = {f"{copy.root}/datacube": float("inf"), copy.program: float("inf")}
@@ -207,8 +198,7 @@ def takes_little_time(copy):
             least[program] = min(least[program], time.perf_counter() - start)
         if turn >= 19 and more() <= MOST:
             break
-    holds(more() <= MOST, f"{more():.1f} ms more than the program, and not {MOST}")
-    return f"{more():.1f} ms more"
+    assert more() <= MOST, f"{more():.1f} ms more than the program, and not {MOST}"
 
 
 # ---- install.sh
@@ -224,7 +214,7 @@ def tree(folder):
     return found
 
 
-def installs(copy):
+def test_install_and_take_away(copy):
     """A relative PREFIX is the caller's, whatever the umask; taking away leaves what was there before, and no more."""
     caller = f"{copy.folder}/caller"
     os.makedirs(f"{caller}/there/share/man/man1")
@@ -236,40 +226,40 @@ def installs(copy):
         for prefix in ("there", "new/prefix/"):
             for _ in range(2):
                 status, _, err, called = copy.run("scripts/install.sh", prefix, folder=caller)
-                expect((status, err, "rt" in called), (0, "", False), "installing")
+                assert (status, err, "rt" in called) == (0, "", False), "installing"
     finally:
         os.umask(mask)
     installed = tree(caller)
     for path, rights in installed.items():
         wanted = before.get(path) or {"d": "drwxr-xr-x", "l": "lrwxrwxrwx"}.get(rights[0]) or (
             "-rwxr-xr-x" if path.endswith(("bin/datacube", ".py")) else "-rw-r--r--")
-        expect(rights, wanted, path)
-    expect(content(f"{caller}/new/prefix/bin/datacube"), content(copy.program), "the program")
+        assert rights == wanted, path
+    assert content(f"{caller}/new/prefix/bin/datacube") == content(copy.program), "the program"
     documents = f"{caller}/new/prefix/share/doc/datacube"
     for path in examples():
-        holds(os.path.exists(f"{documents}/{path}"), f"{path} isn't installed")
+        assert os.path.exists(f"{documents}/{path}"), f"{path} isn't installed"
     ran = subprocess.run(["../../datacube", "print", *SHOP], cwd=f"{documents}/examples/shop", stdout=subprocess.PIPE)
-    expect(ran.stdout, content(f"{ROOT}/examples/shop/cube.csv"), "the shop's cube, as the tutorial has it")
+    assert ran.stdout == content(f"{ROOT}/examples/shop/cube.csv"), "the shop's cube, as the tutorial has it"
     lead_somewhere(documents)
     put(f"{caller}/new/prefix/share/doc/datacube/mine", b"")
     for prefix in ("there", "new/prefix"):
-        expect(copy.run("scripts/install.sh", "--uninstall", prefix, folder=caller)[0], 0, "taking away")
+        assert copy.run("scripts/install.sh", "--uninstall", prefix, folder=caller)[0] == 0, "taking away"
     mine = [f"new{it}" for it in ("", "/prefix", "/prefix/share", "/prefix/share/doc", "/prefix/share/doc/datacube")]
-    expect(set(tree(caller)), {*before, *mine, f"{mine[-1]}/mine"}, "what is left")
+    assert set(tree(caller)) == {*before, *mine, f"{mine[-1]}/mine"}, "what is left"
     stage = {"DESTDIR": "stage/below", "folder": copy.folder}
     copy.run("scripts/install.sh", "/usr", **stage)
-    holds(os.path.exists(f"{copy.folder}/stage/below/usr/bin/datacube"), "nothing is below DESTDIR")
+    assert os.path.exists(f"{copy.folder}/stage/below/usr/bin/datacube"), "nothing is below DESTDIR"
     copy.run("scripts/install.sh", "--uninstall", "/usr", **stage)
-    holds(not os.path.exists(f"{copy.folder}/stage"), "folders are left below DESTDIR")
+    assert not os.path.exists(f"{copy.folder}/stage"), "folders are left below DESTDIR"
 
 
 def lead_somewhere(documents):
     """What installed documents link to, and the documents that they name, are there; one that isn't is noticed."""
-    expect(links.lost_where_installed(documents), [], "links of installed documents that lead nowhere")
+    assert links.lost_where_installed(documents) == [], "links of installed documents that lead nowhere"
     os.rename(f"{documents}/docs/PROMISES.md", f"{documents}/kept")
     lost = links.lost_where_installed(documents)
     os.rename(f"{documents}/kept", f"{documents}/docs/PROMISES.md")
-    holds(any(it.startswith("README.md: ") for it in lost), f"a document that isn't there isn't noticed: {lost}")
+    assert any(it.startswith("README.md: ") for it in lost), f"a document that isn't there isn't noticed: {lost}"
 
 
 def examples():
@@ -281,23 +271,23 @@ def examples():
     return found or ["examples/first/feed.csv", *(f"examples/shop/{it}" for it in SHOP)]
 
 
-def installs_nothing_older(copy):
+def test_install_builds_nothing(copy):
     """A release that is older than the sources isn't installed, and nothing is built for it."""
     was = content(copy.source())
     put(copy.source(), was + b"// later\n")
     status, _, err, called = copy.run("scripts/install.sh", f"{copy.folder}/none")
     put(copy.source(), was)
-    expect((status, "rt" in called, os.path.exists(f"{copy.folder}/none")), (1, False, False), "its status, the kit, a folder")
-    holds("scripts/build.sh" in err, f"it says {err!r}")
+    assert (status, "rt" in called, os.path.exists(f"{copy.folder}/none")) == (1, False, False), "its status, the kit, a folder"
+    assert "scripts/build.sh" in err, f"it says {err!r}"
 
 
 # ---- deb.sh
 
 
-def packs(copy):
+def test_a_package(copy):
     """The package has what a newcomer looks for, and it works where it is unpacked."""
     if not shutil.which("dpkg-deb"):
-        return "left out, since there is no dpkg-deb"
+        pytest.skip("dpkg-deb isn't installed")
     room = f"{copy.folder}/package"
     os.makedirs(f"{room}/packed")
     mask = os.umask(0o077)
@@ -305,92 +295,48 @@ def packs(copy):
         status, _, err, _ = copy.run("scripts/deb.sh", "packed", folder=room)
     finally:
         os.umask(mask)
-    expect(status, 0, err)
+    assert status == 0, err
     (package,) = glob.glob(f"{room}/packed/*.deb")
     files = f"{room}/files"
     subprocess.run(["dpkg-deb", "-x", package, files], check=True)
     usr = f"{files}/usr"
     for path, rights in tree(files).items():
         is_program = path.endswith("bin/datacube") or "/examples/" in path and path.endswith(".py")
-        expect(rights, {"d": "drwxr-xr-x", "l": "lrwxrwxrwx"}.get(rights[0]) or ("-rwxr-xr-x" if is_program else "-rw-r--r--"), path)
+        assert rights == {"d": "drwxr-xr-x", "l": "lrwxrwxrwx"}.get(rights[0]) or ("-rwxr-xr-x" if is_program else "-rw-r--r--"), path
     documents = f"{usr}/share/doc/datacube"
     for path in ("docs/FORMATS.md", "explorer/index.html", "explorer/datacube.html", "README.md", "changelog.gz", "copyright", *examples()):
-        holds(os.path.exists(f"{documents}/{path}"), f"{path} isn't in the package")
-    expect(links.lost_where_installed(documents), [], "links of the package's documents that lead nowhere")
-    holds(not os.path.exists(f"{documents}/folders"), "the package has notes of an installation")
+        assert os.path.exists(f"{documents}/{path}"), f"{path} isn't in the package"
+    assert links.lost_where_installed(documents) == [], "links of the package's documents that lead nowhere"
+    assert not os.path.exists(f"{documents}/folders"), "the package has notes of an installation"
     with gzip.open(f"{usr}/share/man/man1/datacube.1.gz") as page:
-        expect(page.read(), content(f"{copy.root}/docs/datacube.1"), "the manual page")
+        assert page.read() == content(f"{copy.root}/docs/datacube.1"), "the manual page"
     packages = f"{usr}/lib/python3/dist-packages"
-    expect(content(f"{packages}/jackraisin/postgres/explorer.html"), content(f"{copy.root}/explorer/index.html"), "the page that it serves")
+    assert content(f"{packages}/jackraisin/postgres/explorer.html") == content(f"{copy.root}/explorer/index.html"), "the page that it serves"
     call = "import jackraisin, sys; print(jackraisin.__file__, len(jackraisin.cube(sys.argv[1], sys.argv[2:])))"
     env = {"PATH": f"{usr}/bin:/usr/bin:/bin", "PYTHONPATH": packages}
     # (three lines of the shop are refused, which is warned of)
     ran = subprocess.run([sys.executable, "-B", "-W", "ignore::UserWarning", "-c", call, *SHOP], cwd=f"{documents}/examples/shop", env=env, stdout=subprocess.PIPE, stderr=subprocess.PIPE, text=True)
-    expect((ran.returncode, ran.stdout, ran.stderr), (0, f"{packages}/jackraisin/__init__.py 35\n", ""), "the Python package")
+    assert (ran.returncode, ran.stdout, ran.stderr) == (0, f"{packages}/jackraisin/__init__.py 35\n", ""), "the Python package"
     control = subprocess.run(["dpkg-deb", "-f", package], stdout=subprocess.PIPE, text=True).stdout
-    holds("Python package" in control, "the description doesn't name the Python package")
+    assert "Python package" in control, "the description doesn't name the Python package"
 
 
 # ---- the manual page
 
 
-def manual(copy):
+def test_the_manual_page(copy):
     """It has sections on schemas, feeds and printed cubes with examples, and reads without a warning."""
     page = content(f"{copy.root}/docs/datacube.1").decode()
     titles = re.findall(r"^\.SH (.*)$", page, re.MULTILINE)
     for title in ("SCHEMAS", "FEEDS", "THE PRINTED CUBE", "EXAMPLES", "EXIT STATUS", "CODES"):
-        holds(title in titles, f"it has no section {title}")
+        assert title in titles, f"it has no section {title}"
     part = lambda title: page.partition(f".SH {title}\n")[2].partition("\n.SH ")[0]
     for title, example in (("SCHEMAS", "dimensions = ["), ("FEEDS", "op,id,region,kind,amount"), ("THE PRINTED CUBE", "west,a,0,0,1,5,5,5,5/1")):
-        holds(example in part(title), f"{title} has no example")
+        assert example in part(title), f"{title} has no example"
     if not shutil.which("man"):
-        return "not shown, since there is no man"
+        pytest.skip("man isn't installed")
     ran = subprocess.run(["man", "--warnings", "-l", f"{copy.root}/docs/datacube.1"], env={**copy.env, "MANWIDTH": "200"}, stdout=subprocess.PIPE, stderr=subprocess.PIPE, text=True)
-    expect((ran.returncode, ran.stderr), (0, ""), "man")
+    assert (ran.returncode, ran.stderr) == (0, ""), "man"
     shown = ran.stdout
     for line in content(f"{ROOT}/examples/first/cube.csv").decode().splitlines():
-        holds(line in shown, f"man doesn't show {line!r}")
-    return None
-
-
-TRIALS = {
-    "./datacube builds nothing, and says what does": builds_nothing,
-    "./datacube keeps which program it found": is_kept,
-    "./datacube notices each change of a source or of the program": notices_changes,
-    "./datacube notices a change that is made at once": changed_at_once,
-    "./datacube, many at once": side_by_side,
-    "./datacube where nothing may be written": not_writable,
-    "./datacube takes little more time than the program": takes_little_time,
-    "install.sh installs, and takes away what it made": installs,
-    "install.sh builds nothing": installs_nothing_older,
-    "deb.sh packs the program, its documents, the examples, the page and the Python package": packs,
-    "the manual page": manual,
-}
-
-
-def main():
-    asks = argparse.ArgumentParser(description=__doc__, formatter_class=argparse.RawDescriptionHelpFormatter)
-    asks.add_argument("--program")
-    asks.add_argument("--only", default="", help="only the trials whose name has this word")
-    given = asks.parse_args()
-    program = os.path.abspath(given.program or programs.datacube())
-    passed = failed = 0
-    left = [it for it in TRIALS.items() if given.only in it[0]]
-    while left:
-        # (a trial leaves the copy as it was, but for one that failed)
-        with tempfile.TemporaryDirectory(prefix="datacube-installing-") as folder:
-            copy, is_right = Copy(folder, program), True
-            while left and is_right:
-                name, trial = left.pop(0)
-                try:
-                    told, is_right = trial(copy), True
-                except Exception as why:
-                    told, is_right = str(why) if isinstance(why, AssertionError) else repr(why), False
-                passed, failed = passed + is_right, failed + (not is_right)
-                print(f"{'ok     ' if is_right else 'FAILED '} {name}{f': {told}' if told else ''}", flush=True)
-    print(f"{passed} passed, {failed} failed")
-    return 1 if failed or not passed else 0
-
-
-if __name__ == "__main__":
-    sys.exit(main())
+        assert line in shown, f"man doesn't show {line!r}"
