@@ -71,6 +71,7 @@ LEFT_OUT = {
     "scripts/explorer.sh": "it is a part of the gate by itself, or takes pictures",
     "scripts/own_page.sh": "it is a part of the gate by itself, or takes pictures",
     "scripts/page.py": "it is a part of the gate by itself",
+    "scripts/page.sh": "it takes the kit",
     "../../scripts/sql.py  ": SERVES,
     "../../scripts/sql.py schema": SERVES,
     "rt ": "proving takes the kit, and is the gate's",

@@ -1,4 +1,4 @@
-"""Where the program stands that the scripts run, by what Python its tests are, and a folder in which it is run."""
+"""Where the program stands that the scripts run, by what Python its tests are, a folder in which it is run, and files as bytes."""
 import os
 import shutil
 import subprocess
@@ -34,6 +34,18 @@ def pytest(program, *words, shares=1):
     quiet = ["-q", "--tb=short", "--no-header", "-p", "no:cacheprovider", "--tally"]
     quiet += ["-n", str(shares)] if shares > 1 and python_with("xdist") == python else []
     return python and [python, "-B", "-m", "pytest", *quiet, "--program", program, *words]
+
+
+def read(path):
+    """The bytes of a file."""
+    with open(path, "rb") as file:
+        return file.read()
+
+
+def write(path, data):
+    """Writes a file of bytes."""
+    with open(path, "wb") as file:
+        file.write(data)
 
 
 class Room:
