@@ -22,17 +22,7 @@ fi
 work=$(mktemp -d)
 trap 'rm -rf "$work"' EXIT
 trap 'exit 1' HUP INT TERM
-mkdir "$work/crates"
-program_lines "$root" >"$work/crates.txt"
-cp "$root/HANDLES" "$work"
-for crate in $(program_crates "$root"); do
-    mkdir "$work/crates/$crate"
-    for part in src specs proofs stdin stdout args status data; do
-        if [ -e "$root/crates/$crate/$part" ]; then
-            cp -R "$root/crates/$crate/$part" "$work/crates/$crate"
-        fi
-    done
-done
+copy_crates "$root" "$work"
 
 if ! (cd "$work" && rt ci </dev/null >"$work/log" 2>&1); then
     tail -n 20 "$work/log"

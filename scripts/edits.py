@@ -29,7 +29,7 @@ PARTS = ("src", "specs", "proofs")
 # (what the folders of tries are named)
 ROOM = "/must-fail-"
 KEPT = os.path.expanduser(f"{os.environ.get('XDG_CACHE_HOME') or '~/.cache'}/datacube/edits")
-FUNCTION = re.compile(r"^( *)(?:pub(?:\(\w+\))? )?(?:const )?fn (\w+)", re.M)
+FUNCTION = re.compile(r'^( *)(?:pub(?:\(\w+\))? )?(?:const )?(?:extern "C" )?fn (\w+)', re.M)
 IMPL = re.compile(r"^impl\b([^{]*)\{", re.M)
 PROVED = re.compile(r"rt: (\w+) (?:proved|is kept:)")
 # What a check says of a function whose own body it refuses: of one that calls it, or that it can't read, it says otherwise.

@@ -33,6 +33,7 @@ import programs
 from explorer import pause_for, screenshot
 from explorer_page import Trials
 from generated import random_case, written
+from programs import read, write
 from workloads import WORKLOADS, make
 
 ROOT = programs.ROOT
@@ -57,7 +58,7 @@ const packed = async (it) => {
   for (const it of questions) {
     const files = it.files.map((text, at) => new File([bytes(text)], `${at}.csv`));
     const asked = it.kind === "schema" ? { start: bytes(it.files[0]).buffer, isWhole: true, by: it.by, of: it.of }
-      : { schema: bytes(it.schema), files, delimiter: it.delimiter };
+      : it.kind === "explain" ? { code: it.code } : { schema: bytes(it.schema), files, delimiter: it.delimiter };
     const { kind, text = "", cube = new Blob(), refusals = "", refused = [] } = await ownData.ask({ kind: it.kind, ...asked });
     answers.push([kind, await packed(new Blob([text])), await packed(cube), await packed(new Blob([refusals])), refused]);
   }
@@ -162,11 +163,6 @@ def packed(data):
     return base64.b64encode(data).decode()
 
 
-def read(path):
-    with open(path, "rb") as file:
-        return file.read()
-
-
 def ran(folder, *words):
     """The status of the program in a folder, its output, and the line of its failure or nothing."""
     how = {"cwd": folder, "stdin": subprocess.DEVNULL, "stdout": subprocess.PIPE, "stderr": subprocess.PIPE, "timeout": 300}
@@ -213,7 +209,7 @@ class Question:
 
     def see(self, trials, answer):
         kind, text, cube, refusals, _ = answer
-        got = (text,) if kind == "schema" else (cube, refusals) if kind == "cube" else (kind, text)
+        got = (text,) if kind in ("schema", "explained") else (cube, refusals) if kind == "cube" else (kind, text)
         trials.see(self.name, got, self.wanted)
 
 
@@ -229,16 +225,11 @@ def cube_question(name, folder, words, schema, files):
 
 def refusals_words(folder, schema, words, files):
     """The words that print the refusals of the same feeds."""
-    write_file(f"{folder}/asked.toml", schema)
+    write(f"{folder}/asked.toml", schema)
     names = [f"asked{at}.csv" for at in range(len(files))]
     for name, data in zip(names, files):
-        write_file(f"{folder}/{name}", data)
+        write(f"{folder}/{name}", data)
     return ["refusals", "asked.toml", *names]
-
-
-def write_file(path, data):
-    with open(path, "wb") as file:
-        file.write(data)
 
 
 def schema_question(name, folder, file, by=None, of=None):
@@ -247,6 +238,12 @@ def schema_question(name, folder, file, by=None, of=None):
     status, out, line = ran(folder, "schema", *options, os.path.abspath(f"{folder}/{file}"))
     wanted = ("fault", line) if status else (out,)
     return Question(name, "schema", wanted, files=[packed(read(f"{folder}/{file}"))], by=by or "", of=of or "")
+
+
+def explain_question(room, code):
+    """A question for what is said of a code, or of all."""
+    status, out, line = ran(room, "explain", code)
+    return Question(f"what is said of {code}", "explain", ("fault", line) if status else (out,), files=[], code=code)
 
 
 def see_answers(trials, page, questions, width, batch=20):
@@ -271,6 +268,19 @@ def examples(trials, page, room):
     ]
     for width in ("64", "32"):
         see_answers(trials, page, questions, width)
+
+
+def explanations(trials, page, room):
+    """What the page says of each code that concerns it, of all of them, and of words that are none."""
+    (_, told, *_), *_ = page.ask([{"kind": "explain", "code": "", "files": []}])
+    everything = ran(room, "explain")[1]
+    trials.see("what is said of all codes stands first in what the program says", everything[: len(told)], told)
+    codes, others = (list(dict.fromkeys(re.findall(r"^(\S.*?): ", it, re.M))) for it in (told.decode(), everything[len(told) :].decode()))
+    trials.see("the page's codes", (codes[0], codes[-1], len(codes)), ("S1", "too many cubes", 65))
+    trials.see("those that don't concern it", others, [*(f"D{at}" for at in range(1, 10)), "no columns"])
+    questions = [explain_question(room, it) for it in [*codes, "L", "s1", "é"]]
+    see_answers(trials, page, questions, "64")
+    see_answers(trials, page, questions[::8], "32")
 
 
 # Options of `print` and `table` that change no byte of the output.
@@ -323,16 +333,16 @@ def generated_question(folder, at):
     os.mkdir(folder)
     if at % 3 == 2:
         names, _, data = generated_files.file_of(rng)
-        write_file(f"{folder}/f.csv", data)
+        write(f"{folder}/f.csv", data)
         texts = [generated_files.columns_asked(rng, names, most) for most in (8, 4)]
         by, of = (it.decode() if it is not None else None for it in texts)
         return schema_question(f"generated file {at}", folder, "f.csv", by or None, of or None)
     schema, feeds = random_case(rng, at % 2 == 0)
     pairs = [written(rng, schema, it[:300], rng.random() < 0.9)[0] for it in feeds]
     data = [damaged(rng, it) if rng.random() < 0.15 else it for it in pairs]
-    write_file(f"{folder}/s.toml", schema.toml())
+    write(f"{folder}/s.toml", schema.toml())
     for place, it in enumerate(data):
-        write_file(f"{folder}/f{place}.csv", it)
+        write(f"{folder}/f{place}.csv", it)
     words = ["print", "s.toml", *(f"f{place}.csv" for place in range(len(data)))]
     return cube_question(f"generated {at}", folder, words, schema.toml(), data)
 
@@ -366,7 +376,7 @@ York,2026-03-05T09:30,coffee,1.70,4
 
 def drop_sales(page, room):
     """Drops the file on a fresh page, and waits for its cube."""
-    write_file(f"{room}/sales.csv", SALES)
+    write(f"{room}/sales.csv", SALES)
     page.fresh()
     page.drop({"sales.csv": SALES})
     page.shows_cube("sales")
@@ -430,7 +440,7 @@ def counts_alone(trials, page, room):
     page.set("use 4", "none")
     page.wait("return document.querySelector('#own .own-command').textContent.includes('print sales.toml')")
     page.count("sales")
-    write_file(f"{room}/sales.toml", page.js("return document.getElementById('own-schema').value").encode())
+    write(f"{room}/sales.toml", page.js("return document.getElementById('own-schema').value").encode())
     trials.see("a cube of counts", page.cube(), by_command(page, room))
     trials.see("its aggregates", page.cube().split(b"\n")[0].endswith(b"grouping(order no),count(*)"))
     page.change_columns()
@@ -452,7 +462,7 @@ def nulls(trials, page, room):
     trials.see("what null is at first", page.js("return document.getElementById('own-nulls').value"), '"",NA,N/A,NaN,nan,NULL,null,\\N')
     page.js("const it = document.getElementById('own-nulls'); it.value = arguments[0]; it.dispatchEvent(new Event('change'))", '"",York,"a ""b"""')
     page.wait("return document.querySelector('#own .own-command').textContent.includes('print')")
-    write_file(f"{room}/sales.toml", page.js("return document.getElementById('own-schema').value").encode())
+    write(f"{room}/sales.toml", page.js("return document.getElementById('own-schema').value").encode())
     trials.see("the schema says it", b'null = ["", "York", "a \\"b\\""]' in read(f"{room}/sales.toml"))
     page.count("sales")
     trials.see("the cube with other nulls", page.cube(), by_command(page, room))
@@ -466,7 +476,7 @@ b,b,"c,d",d,e,f,U,h,2
 
 def strange_names(trials, page, room):
     """Columns whose names are hard to quote; each is left out once and taken again."""
-    write_file(f"{room}/it's strange.csv", STRANGE)
+    write(f"{room}/it's strange.csv", STRANGE)
     page.fresh()
     page.drop({"it's strange.csv": STRANGE})
     page.shows_cube("it's strange")
@@ -497,7 +507,7 @@ def schema_text(trials, page, room):
     text = page.js("return document.getElementById('own-schema').value").replace('"NA", ', "").replace('["city", ', '["city", "flavour", ')
     edit = ("const it = document.getElementById('own-schema'); it.value = arguments[0]; it.dispatchEvent(new Event('input'))")
     page.js(edit, text.replace('"flavour", ', ""))
-    write_file(f"{room}/sales.toml", text.replace('"flavour", ', "").encode())
+    write(f"{room}/sales.toml", text.replace('"flavour", ', "").encode())
     page.count("sales")
     trials.see("the command of a schema of one's own", page.shell_words(), ["datacube", "print", "sales.toml", "sales.csv"])
     trials.see("the cube of a schema of one's own", page.cube(), by_command(page, room))
@@ -533,8 +543,8 @@ def refused_lines(trials, page, room):
 def several_files(trials, page, room):
     """Several files, and feeds with their schema."""
     other = SALES.replace(b"York", b"Hull")
-    write_file(f"{room}/more sales.csv", other)
-    write_file(f"{room}/sales.csv", SALES)
+    write(f"{room}/more sales.csv", other)
+    write(f"{room}/sales.csv", SALES)
     page.fresh()
     page.choose_files(f"{room}/sales.csv", f"{room}/more sales.csv")
     page.shows_cube("sales")
@@ -581,6 +591,7 @@ def wrong_files(trials, page, room):
     together = [({"cube.csv": read(f"{ROOT}/examples/shop/cube.csv"), "sales.csv": SALES}, "One of these files is a printed cube."),
                 ({"a.toml": b"x", "b.toml": b"x"}, "These are several schemas."),
                 ({f"{at}.csv": SALES for at in range(65)}, "These are 65 feeds; 64 can be read at once."),
+                ({"long.toml": b"#" * 1048577, "sales.csv": SALES}, "long.toml: The schema file isn't there, can't be read, is a folder, or has more than"),
                 ({"open.csv": b'city,qty\nYork,1\n"Leeds,2\n'}, "open.csv ends within a text in quotes that is never closed (G3 1 F5 2).")]
     for files, start in together:
         page.drop(files)
@@ -600,14 +611,7 @@ def faults_of_module(trials, page, room):
     for how, start in (("throw new WebAssembly.RuntimeError('unreachable')", "The module stopped (RuntimeError: unreachable)."),
                        ("throw new RangeError('no memory')", "There isn't enough memory"),
                        ("calls.page_alloc = () => 0n", "There isn't enough memory")):
-        # a worker whose instance is spoiled: the text of the worker is the page's own, with one line before it
-        page.js("""
-            const own = document.getElementById("own-worker"), line = "WebAssembly.instantiate(module, {})";
-            window.kept ??= own.textContent;
-            own.textContent = window.kept.replace("(await " + line + ").instance.exports",
-              "((it) => { const calls = { ...it.instance.exports }; " + arguments[0] + "; return calls; })(await " + line + ")");
-            ownData.anew();
-        """, how)
+        spoil(page, how)
         page.at("#own-count").click()
         trials.see(f"told: {how[:30]}", page.shows_problem(start).startswith(start))
     page.js("document.getElementById('own-worker').textContent = window.kept; ownData.anew()")
@@ -615,10 +619,34 @@ def faults_of_module(trials, page, room):
     trials.see("the page goes on after a trap", page.cube(), by_command(page, room))
 
 
+def spoil(page, how):
+    """Has each worker spoil its instance of the module: its text is the page's own, with one line before it."""
+    page.js("""
+        const own = document.getElementById("own-worker"), line = "WebAssembly.instantiate(module, {})";
+        window.kept ??= own.textContent;
+        own.textContent = window.kept.replace("(await " + line + ").instance.exports",
+          "((it) => { const calls = { ...it.instance.exports }; " + arguments[0] + "; return calls; })(await " + line + ")");
+        ownData.anew();
+    """, how)
+
+
+def without_meanings(trials, page, room):
+    """Where the module doesn't say what codes mean, or isn't there at all, there is a sentence all the same."""
+    page.fresh()
+    spoil(page, "calls.page_explain = () => { throw new WebAssembly.RuntimeError('unreachable'); }")
+    page.drop({"sales.csv": SALES, "s.toml": b"dimensions = 7\n"})
+    told = "s.toml wasn't taken (S4); `datacube explain S4` says why."
+    trials.see("a code without its meaning", page.shows_problem(told), told)
+    page.js("for (const it of document.querySelectorAll('[id^=own-module]')) it.textContent = ''; ownData.anew()")
+    page.drop({"sales.csv": SALES})
+    told = "The module stopped (this browser can't unpack the module)."
+    trials.see("a page without its module", page.shows_problem(told).startswith(told))
+
+
 def too_large(trials, page, room):
     """A file that doesn't fit a memory of 32 bits."""
     path = f"{room}/huge.csv"
-    write_file(path, large_feed(20_000).encode())
+    write(path, large_feed(20_000).encode())
     os.truncate(path, 5_000_000_000)  # (it takes no room on the disk)
     page.fresh()
     page.driver.execute_async_script("ownData.useModule('32').then(arguments[0])")
@@ -639,7 +667,7 @@ def large_feed(lines):
 
 def stopped(trials, page, room):
     """The work is stopped, by the button."""
-    write_file(f"{room}/long.csv", large_feed(400_000).encode())
+    write(f"{room}/long.csv", large_feed(400_000).encode())
     page.fresh()
     page.choose_files(f"{room}/long.csv")
     page.wait("return !document.getElementById('own-work').hidden")
@@ -824,7 +852,7 @@ def use_of(driver):
 def large(trials, page, room):
     """A million lines: from dropping the file to the table, and the memory of the browser above what it has without."""
     path = f"{room}/million.csv"
-    write_file(path, large_feed(1_000_000).encode())
+    write(path, large_feed(1_000_000).encode())
     page.fresh()
     time.sleep(1)
     before, spent = use_of(page.driver)
@@ -862,7 +890,7 @@ def shop_sales():
 
 def pictures(page, room):
     """The pictures of docs/explorer/ whose names begin with `own-`."""
-    write_file(f"{room}/sales.csv", shop_sales().encode())
+    write(f"{room}/sales.csv", shop_sales().encode())
     page.colours("light")
     page.driver.set_window_size(1080, 780)
     page.fresh()
@@ -883,10 +911,11 @@ def pictures(page, room):
 def try_all(trials, page, room, given):
     """Runs every trial."""
     trials.run(examples, page, room)
+    trials.run(explanations, page, room)
     trials.run(of_cases, page, room, given.all_cases)
     trials.run(generated, page, room, given.cases)
     for trial in (first_minute, drawn, other_columns, counts_alone, nulls, strange_names, schema_text, refused_lines, several_files, wrong_files,
-                  faults_of_module, too_large, stopped, saved, by_keyboard, names_and_contrast):
+                  faults_of_module, without_meanings, too_large, stopped, saved, by_keyboard, names_and_contrast):
         trials.run(trial, page, room)
     trials.run(asks_nobody, page)
     if given.large:

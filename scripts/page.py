@@ -29,6 +29,7 @@ import tempfile
 
 sys.dont_write_bytecode = True
 import programs
+from programs import read, write
 
 ROOT = programs.ROOT
 EXPLORER, OWN, PAGE = (f"{ROOT}/explorer/{it}" for it in ("index.html", "own", "datacube.html"))
@@ -39,7 +40,7 @@ FLAGS = [f"--target={TARGET}", "-mcpu=lime1", "-mllvm", "-expand-div-rem-bits=64
          "-ffunction-sections", "-fdata-sections", "--no-default-config", "-no-canonical-prefixes", "-O3"]
 FEATURES = ["--enable-memory64", "--enable-bulk-memory", "--enable-multivalue", "--enable-sign-ext", "--enable-mutable-globals",
             "--enable-nontrapping-float-to-int"]
-EXPORTS = ["page_schema", "page_run"]
+EXPORTS = ["page_schema", "page_run", "page_explain"]
 CUSTOM, TABLE = 0, 4  # kinds of sections of a module
 
 
@@ -170,36 +171,20 @@ def number_at(module, at):
 # The page.
 
 
-def read(path):
-    with open(path, "rb") as file:
-        return file.read()
-
-
-def write(path, data):
-    with open(path, "wb") as file:
-        file.write(data)
-
-
 def page_of(packed64, packed32):
     """The page's text, with two modules that are packed."""
     part = lambda name: read(f"{OWN}/{name}").decode()
-    text, codes = read(EXPLORER).decode(), explained()
-    if any("</script" in it for it in (part("own.js"), part("worker.js"), codes)):
-        sys.exit("a script of explorer/own/, or what the program explains, has the end of a script in it")
+    text = read(EXPLORER).decode()
+    if any("</script" in part(it) for it in ("own.js", "worker.js")):
+        sys.exit("a script of explorer/own/ has the end of a script in it")
     head, body = part("style.css"), part("parts.html")
     for name, packed in (("64", packed64), ("32", packed32)):
         body += f'<script type="text/plain" id="own-module-{name}">{packed}</script>\n'
-    body += f'<script type="text/plain" id="own-explained">\n{codes}</script>\n'
     body += f'<script type="text/plain" id="own-worker">\n{part("worker.js")}</script>\n<script>\n{part("own.js")}</script>\n'
     # (the head is closed before any script, and the body behind the last one: neither mark is in a script)
     text = put_before(text.partition("</head>"), f"<style>\n{head}</style>\n")
     text = put_before(text.rpartition("</body>"), body)
     return with_policy(text)
-
-
-def explained():
-    """What the program says of each of its codes."""
-    return subprocess.run([programs.datacube(), "explain"], stdout=subprocess.PIPE, text=True, check=True).stdout
 
 
 def put_before(parts, more):

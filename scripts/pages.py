@@ -73,6 +73,7 @@ LEFT_OUT = {
     "scripts/own_page.sh": "it is a part of the gate by itself, or takes pictures",
     "scripts/page.py": "it is a part of the gate by itself",
     "scripts/d3.py": "it is a part of the gate by itself, or takes packages",
+    "scripts/page.sh": "it takes the kit",
     "../../scripts/sql.py  ": SERVES,
     "../../scripts/sql.py schema": SERVES,
     "rt ": "proving takes the kit, and is the gate's",

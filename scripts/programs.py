@@ -1,6 +1,5 @@
-"""Where the program stands that the scripts run, by what Python its tests are, and a folder in which it is run."""
+"""Where the program stands that the scripts run, by what Python its tests are, a folder in which it is run, and files as bytes."""
 import argparse
-import functools
 import os
 import shutil
 import subprocess
@@ -58,6 +57,18 @@ def by_pytest(about, file):
         print("Debian's package python3-pytest isn't installed\n0 passed, 0 failed")
         return 77
     return subprocess.run(command, cwd=ROOT).returncode
+
+
+def read(path):
+    """The bytes of a file."""
+    with open(path, "rb") as file:
+        return file.read()
+
+
+def write(path, data):
+    """Writes a file of bytes."""
+    with open(path, "wb") as file:
+        file.write(data)
 
 
 class Room:

@@ -1,10 +1,10 @@
-# What scripts ask of programs that were built: of which sources they are, and whether their bytes are those that were
+# What scripts ask of programs: of which sources they are, a copy of these to prove, and whether their bytes are those that were
 # recorded. Beside a program `datacube` lies its record `datacube.txt`, with a line each: `program: SHA-256`,
 # `kit: LINE` (what `rt version` says) and `sources: SHA-256`. Read by a shell (`. scripts/programs.sh`).
 
-# The lines of crates.txt in a folder for the crates that the program stands on, itself among them.
+# The lines of crates.txt in a folder for the crates that the program, or another crate, stands on, itself among them.
 program_lines() {
-    awk '
+    awk -v top="${2-datacube}" '
         /^[a-z]/ {
             name = $1
             sub(/:.*/, "", name)
@@ -12,8 +12,8 @@ program_lines() {
             needs[name] = substr($0, index($0, ":") + 1)
         }
         END {
-            asked[count = 1] = "datacube"
-            seen["datacube"] = 1
+            asked[count = 1] = top
+            seen[top] = 1
             for (at = 1; at <= count; at++) {
                 print line[asked[at]]
                 below = split(needs[asked[at]], names, " ")
@@ -26,9 +26,24 @@ program_lines() {
         }' "$1/crates.txt" | LC_ALL=C sort
 }
 
-# The names of the crates that the program stands on, itself among them.
+# The names of these crates.
 program_crates() {
-    program_lines "$1" | sed 's/[ :].*//'
+    program_lines "$@" | sed 's/[ :].*//'
+}
+
+# Copies what of a folder is needed to prove these crates, to another folder: copy_crates FOLDER OTHER [CRATE].
+copy_crates() {
+    mkdir "$2/crates"
+    program_lines "$1" "${3-datacube}" >"$2/crates.txt"
+    cp "$1/HANDLES" "$2"
+    for crate in $(program_crates "$1" "${3-datacube}"); do
+        mkdir "$2/crates/$crate"
+        for part in src specs proofs stdin stdout args status data; do
+            if [ -e "$1/crates/$crate/$part" ]; then
+                cp -R "$1/crates/$crate/$part" "$2/crates/$crate"
+            fi
+        done
+    done
 }
 
 # One checksum over what the program in a folder is built from: the lines of crates.txt for its crates, HANDLES, and

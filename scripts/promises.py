@@ -21,7 +21,7 @@ LONGEST = 120
 PLACE = re.compile(r"(<!-- promises -->\n).*?(<!-- end of promises -->)", re.DOTALL)
 
 OWNER = re.compile(r"(impl|pub trait|trait)(?:<.*?>)? (\w+)")
-FUNCTION = re.compile(r"( *)(pub )?(?:const |unsafe )*fn (\w+)")
+FUNCTION = re.compile(r'( *)(pub )?(?:const |unsafe |extern "C" )*fn (\w+)')
 CLAUSE = re.compile(r" *(requires|ensures)(?: (\w+))? \{")
 TYPE = re.compile(r"pub (enum|struct) (\w+)")
 VARIANT = re.compile(r"    (\w+)\b.*,$")

@@ -18,6 +18,7 @@ import time
 import links
 import programs
 import pytest
+from programs import read, write
 
 ROOT = programs.ROOT
 # (what of the repository the copy lacks: what was built, and what has no part in this)
@@ -75,16 +76,6 @@ def copy(program):
         yield Copy(folder, program)
 
 
-def content(path):
-    with open(path, "rb") as file:
-        return file.read()
-
-
-def put(path, data):
-    with open(path, "wb") as file:
-        file.write(data)
-
-
 # ---- ./datacube
 
 
@@ -96,10 +87,10 @@ def said_by_program(copy):
 def test_it_builds_nothing_and_says_what_does(copy):
     """Where the release is older than the sources, it says what to run, and runs nothing."""
     assert copy.version() == said_by_program(copy), "before the edit"
-    was = content(copy.source())
-    put(copy.source(), was + b"// later\n")
+    was = read(copy.source())
+    write(copy.source(), was + b"// later\n")
     status, out, err, called = copy.run("datacube", "--version")
-    put(copy.source(), was)
+    write(copy.source(), was)
     assert (status, out) == (1, ""), "the status and the output"
     assert "built from other sources" in err and "scripts/build.sh" in err, f"it says {err!r}"
     assert "rt" not in called, "the kit was called"
@@ -125,15 +116,15 @@ def test_it_notices_each_change_of_a_source_or_of_the_program(copy):
     """A change is noticed at the next call, though its size and its date are as before; so is a file more or less."""
     rested(copy)
     source = copy.source()
-    was, times = content(source), os.stat(source)
-    put(source, was.replace(b"//", b"/*", 1))
+    was, times = read(source), os.stat(source)
+    write(source, was.replace(b"//", b"/*", 1))
     os.utime(source, ns=(times.st_atime_ns, times.st_mtime_ns))
     assert copy.version()[0] == 1, "of the same size and date"
-    put(source, was)
+    write(source, was)
     os.utime(source, ns=(times.st_atime_ns, times.st_mtime_ns))
     assert copy.version() == said_by_program(copy), "undone"
     more = f"{copy.root}/crates/cube_core/proofs/More.antt"
-    put(more, b"")
+    write(more, b"")
     assert copy.version()[0] == 1, "a file more"
     os.rename(more, source + ".other")
     assert copy.version()[0] == 1, "under another name"
@@ -143,23 +134,23 @@ def test_it_notices_each_change_of_a_source_or_of_the_program(copy):
     assert copy.version()[0] == 1, "a file less"
     os.rename(f"{copy.root}/kept.rt", source)
     rested(copy)
-    put(copy.program, content(copy.program) + b"\0")
+    write(copy.program, read(copy.program) + b"\0")
     status, out, err = copy.version()
     assert (status, out) == (1, "") and "isn't whole" in err, f"another program: {status}, {err!r}"
-    put(copy.program, content(copy.program)[:-1])
+    write(copy.program, read(copy.program)[:-1])
     assert copy.version() == said_by_program(copy), "the program once more"
 
 
 def test_it_notices_a_change_that_is_made_at_once(copy):
     """A change right after a call is noticed, whatever the clock of the files shows."""
     source = copy.source()
-    was = content(source)
+    was = read(source)
     for _ in range(10):
-        put(source, was)
+        write(source, was)
         assert copy.version() == said_by_program(copy), "the program"
-        put(source, was.replace(b"//", b"/*", 1))
+        write(source, was.replace(b"//", b"/*", 1))
         assert copy.version()[0] == 1, "changed at once"
-    put(source, was)
+    write(source, was)
 
 
 def test_many_at_once(copy):
@@ -176,7 +167,7 @@ def test_many_at_once(copy):
 def test_where_nothing_may_be_written(copy):
     """Where nothing can be kept, it runs all the same, and says nothing of it."""
     shutil.rmtree(f"{copy.root}/out", ignore_errors=True)
-    put(f"{copy.root}/out", b"")
+    write(f"{copy.root}/out", b"")
     for _ in range(2):
         assert copy.version() == said_by_program(copy), "the program"
     os.unlink(f"{copy.root}/out")
@@ -219,7 +210,7 @@ def test_install_and_take_away(copy):
     caller = f"{copy.folder}/caller"
     os.makedirs(f"{caller}/there/share/man/man1")
     os.makedirs(f"{caller}/there/share/zsh")
-    put(f"{caller}/there/share/zsh/other", b"")
+    write(f"{caller}/there/share/zsh/other", b"")
     before = tree(caller)
     mask = os.umask(0o077)
     try:
@@ -234,14 +225,14 @@ def test_install_and_take_away(copy):
         wanted = before.get(path) or {"d": "drwxr-xr-x", "l": "lrwxrwxrwx"}.get(rights[0]) or (
             "-rwxr-xr-x" if path.endswith(("bin/datacube", ".py")) else "-rw-r--r--")
         assert rights == wanted, path
-    assert content(f"{caller}/new/prefix/bin/datacube") == content(copy.program), "the program"
+    assert read(f"{caller}/new/prefix/bin/datacube") == read(copy.program), "the program"
     documents = f"{caller}/new/prefix/share/doc/datacube"
     for path in examples():
         assert os.path.exists(f"{documents}/{path}"), f"{path} isn't installed"
     ran = subprocess.run(["../../datacube", "print", *SHOP], cwd=f"{documents}/examples/shop", stdout=subprocess.PIPE)
-    assert ran.stdout == content(f"{ROOT}/examples/shop/cube.csv"), "the shop's cube, as the tutorial has it"
+    assert ran.stdout == read(f"{ROOT}/examples/shop/cube.csv"), "the shop's cube, as the tutorial has it"
     lead_somewhere(documents)
-    put(f"{caller}/new/prefix/share/doc/datacube/mine", b"")
+    write(f"{caller}/new/prefix/share/doc/datacube/mine", b"")
     for prefix in ("there", "new/prefix"):
         assert copy.run("scripts/install.sh", "--uninstall", prefix, folder=caller)[0] == 0, "taking away"
     mine = [f"new{it}" for it in ("", "/prefix", "/prefix/share", "/prefix/share/doc", "/prefix/share/doc/datacube")]
@@ -273,10 +264,10 @@ def examples():
 
 def test_install_builds_nothing(copy):
     """A release that is older than the sources isn't installed, and nothing is built for it."""
-    was = content(copy.source())
-    put(copy.source(), was + b"// later\n")
+    was = read(copy.source())
+    write(copy.source(), was + b"// later\n")
     status, _, err, called = copy.run("scripts/install.sh", f"{copy.folder}/none")
-    put(copy.source(), was)
+    write(copy.source(), was)
     assert (status, "rt" in called, os.path.exists(f"{copy.folder}/none")) == (1, False, False), "its status, the kit, a folder"
     assert "scripts/build.sh" in err, f"it says {err!r}"
 
@@ -309,9 +300,9 @@ def test_a_package(copy):
     assert links.lost_where_installed(documents) == [], "links of the package's documents that lead nowhere"
     assert not os.path.exists(f"{documents}/folders"), "the package has notes of an installation"
     with gzip.open(f"{usr}/share/man/man1/datacube.1.gz") as page:
-        assert page.read() == content(f"{copy.root}/docs/datacube.1"), "the manual page"
+        assert page.read() == read(f"{copy.root}/docs/datacube.1"), "the manual page"
     packages = f"{usr}/lib/python3/dist-packages"
-    assert content(f"{packages}/jackraisin/postgres/explorer.html") == content(f"{copy.root}/explorer/index.html"), "the page that it serves"
+    assert read(f"{packages}/jackraisin/postgres/explorer.html") == read(f"{copy.root}/explorer/index.html"), "the page that it serves"
     call = "import jackraisin, sys; print(jackraisin.__file__, len(jackraisin.cube(sys.argv[1], sys.argv[2:])))"
     env = {"PATH": f"{usr}/bin:/usr/bin:/bin", "PYTHONPATH": packages}
     # (three lines of the shop are refused, which is warned of)
@@ -326,7 +317,7 @@ def test_a_package(copy):
 
 def test_the_manual_page(copy):
     """It has sections on schemas, feeds and printed cubes with examples, and reads without a warning."""
-    page = content(f"{copy.root}/docs/datacube.1").decode()
+    page = read(f"{copy.root}/docs/datacube.1").decode()
     titles = re.findall(r"^\.SH (.*)$", page, re.MULTILINE)
     for title in ("SCHEMAS", "FEEDS", "THE PRINTED CUBE", "EXAMPLES", "EXIT STATUS", "CODES"):
         assert title in titles, f"it has no section {title}"
@@ -338,5 +329,5 @@ def test_the_manual_page(copy):
     ran = subprocess.run(["man", "--warnings", "-l", f"{copy.root}/docs/datacube.1"], env={**copy.env, "MANWIDTH": "200"}, stdout=subprocess.PIPE, stderr=subprocess.PIPE, text=True)
     assert (ran.returncode, ran.stderr) == (0, ""), "man"
     shown = ran.stdout
-    for line in content(f"{ROOT}/examples/first/cube.csv").decode().splitlines():
+    for line in read(f"{ROOT}/examples/first/cube.csv").decode().splitlines():
         assert line in shown, f"man doesn't show {line!r}"

@@ -316,7 +316,7 @@ async function guess(byText, ofText) {
   const answer = start && await ask({ kind: "schema", start, isWhole: file.size <= LOOKED_AT, by: byText, of: ofText });
   if (mine !== own || (start && !answer)) return false;
   if (!answer || answer.kind !== "schema") {
-    own.fault = answer?.kind === "fault" ? faultText(answer.text) : sentenceOf(answer ?? { kind: "unreadable", name: file.name });
+    own.fault = answer?.kind === "fault" ? faultText(answer) : sentenceOf(answer ?? { kind: "unreadable", name: file.name });
     if (own.isGuess) readColumns(null);
     tell(own.fault);
     showChoices();
@@ -489,7 +489,7 @@ async function count() {
   stopTicking();
   showWork(false);
   if (answer.kind !== "cube") {
-    tell(answer.kind === "fault" ? faultText(answer.text) : sentenceOf(answer));
+    tell(answer.kind === "fault" ? faultText(answer) : sentenceOf(answer));
     by("own-count").focus();
     return;
   }
@@ -575,11 +575,11 @@ function showRefused(counted) {
   if (!count) return;
   by("own-refused-count").textContent = `${number(count)} line${count > 1 ? "s were" : " was"} refused`
     + (count > refused.length ? `, the first ${refused.length} of which are` : "") + (count > refused.length ? " here." : ".");
-  const isSecond = /^\s*version\s*=\s*2/m.test(schema);
+  const isSecond = /^\s*version\s*=\s*2/m.test(schema), explained = explanations(counted.explained);
   const cause = causes(counted);
   by("own-refused-rows").replaceChildren(...refused.map((it) => make("tr", {},
     make("td", {}, own.files[it.source - 1].name), make("td", {}, it.line ? number(it.line) : "—"), make("td", {}, number(it.record)),
-    make("td", {}, it.code), make("td", {}, meaning(String(it.code), isSecond), ...cause(it)),
+    make("td", {}, it.code), make("td", {}, meaning(explained, String(it.code), isSecond), ...cause(it)),
     make("td", { class: "text" }, textNode(it.text ?? "")))));
 }
 
@@ -617,10 +617,10 @@ function measuresOf(text) {
 
 // Sentences.
 
-/** What `datacube explain` says of each code: its meaning and how to mend it. Some codes differ by the version of the feed. */
-function explanations() {
+/** What the module says of each code: its meaning and how to mend it. Some codes differ by the version of the feed. */
+function explanations(text) {
   const found = new Map();
-  for (const block of by("own-explained").textContent.split(/\n(?=\S)/)) {
+  for (const block of text.split(/\n(?=\S)/)) {
     const [, word, kind] = /^([A-Z]?\d+|[a-z ]+): (.*)/.exec(block.trim()) ?? [];
     const part = (name) => new RegExp(`^  ${name}: (.*)$`, "m").exec(block)?.[1] ?? "";
     const version = /feed version (\d)/.exec(kind)?.[1] ?? "";
@@ -629,23 +629,21 @@ function explanations() {
   return found;
 }
 
-const explained = explanations();
-
 /** The meaning of a code of refused lines. */
-function meaning(code, isSecond) {
+function meaning(explained, code, isSecond) {
   const { means = "" } = explained.get(code) ?? explained.get(`${code}/${isSecond ? 2 : 1}`) ?? {};
   return means.replace(/^The line fault /, "");
 }
 
 /** A fault of the module as a sentence: what the program would say, and what that means. */
-function faultText(text) {
+function faultText({ text, explained }) {
   if (text === "no columns: no column is a dimension; --by takes one") return "No column was taken for a dimension: choose one to group by.";
   if (text.startsWith("no columns: ")) return `No schema was made: ${text.slice("no columns: ".length)}.`;
   if (!text || text === "G4" || text === "S1") return sentenceOf({ kind: "memory" });
   const [word, source, code] = text.split(" "), file = word === "G3" ? own.files[source - 1]?.name : own.given?.name ?? "The schema";
-  const { means = "", mend = "" } = explained.get(code ?? word) ?? {};
+  const known = explanations(explained), { means, mend } = known.get(text) ?? known.get(code ?? word) ?? {};
   if (code === "F5") return `${file} ends within a text in quotes that is never closed (${text}).`;
-  return `${file}: ${means} ${mend} (${text})`;
+  return means ? `${file}: ${means} ${mend} (${text})` : `${file} wasn't taken (${text}); \`datacube explain ${text}\` says why.`;
 }
 
 function sentenceOf({ kind, name, text }) {

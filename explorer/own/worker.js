@@ -3,7 +3,7 @@
 // `page_alloc`; addresses and sizes are whole numbers of 64 bits (BigInt) at its calls.
 
 const PIECE = 4 << 20; // bytes of a file that are read at once
-const FIRST_ROOM = 256 << 20, LEAST_ROOM = 1 << 20, REFUSALS_ROOM = 1 << 20, SCHEMA_ROOM = 2 << 20;
+const FIRST_ROOM = 256 << 20, LEAST_ROOM = 1 << 20, REFUSALS_ROOM = 1 << 20, SCHEMA_ROOM = 2 << 20, EXPLAINED_ROOM = 1 << 18;
 const MOST_REFUSED = 100, MOST_SHOWN = 300; // refused lines that are told of one by one, and how many bytes of each
 const MOST_HEADER = 1 << 16; // and of the header of their file
 const LF = 10, CR = 13, QUOTE = 34;
@@ -76,7 +76,23 @@ async function schemaOf({ module, start, isWhole, by, of }) {
   const [first, ...options] = asked;
   const ended = engine.calls.page_schema(...places(first), isWhole ? 1 : 0, ...places(...options, out), BigInt(size.at));
   const text = engine.text(out, engine.numbers(size)[0]);
-  return ended === 0 ? { kind: "schema", text } : { kind: "fault", text };
+  return ended === 0 ? { kind: "schema", text } : withExplained(module, { kind: "fault", text });
+}
+
+/** What a code means, or all codes where it is empty, or that there is no such code. */
+async function explanationOf({ module, code }) {
+  const engine = await Engine.start(module);
+  const asked = engine.put(new TextEncoder().encode(code)), out = engine.room(EXPLAINED_ROOM), size = engine.room(8);
+  const ended = engine.calls.page_explain(...places(asked, out), BigInt(size.at)), [length] = engine.numbers(size);
+  if (length === 0) throw new NoMemory();
+  return { kind: ended === 0 ? "explained" : "fault", text: engine.text(out, length) };
+}
+
+/** An answer with what all codes mean, by an instance of its own: one that failed may have no memory left. Where that can't be
+ * told, nothing is said of codes. */
+async function withExplained(module, answer) {
+  const { text } = await explanationOf({ module, code: "" }).catch(() => ({ text: "" }));
+  return { ...answer, explained: text };
 }
 
 /** The printed cube of some files, and the lines that are refused. */
@@ -92,11 +108,14 @@ async function cubeOf(asked) {
     const ended = engine.calls.page_run(...places(schema, feeds), BigInt(lengths.at), BigInt(asked.files.length),
       ...places(cube, refusals), BigInt(said.at));
     const needed = engine.numbers(said);
-    if (ended !== 0) return { kind: "fault", text: engine.text(cube, needed[0]).replace(/^datacube: /, "").trimEnd() };
+    if (ended !== 0) {
+      const text = engine.text(cube, needed[0]).replace(/^datacube: /, "").trimEnd();
+      return withExplained(asked.module, { kind: "fault", text });
+    }
     if (needed[0] <= cube.size && needed[1] <= refusals.size) {
-      const text = engine.text(refusals, needed[1]);
-      return { kind: "cube", cube: new Blob([engine.bytes(cube, needed[0])]), refusals: text,
-        ...refusedIn(text, engine, feeds, asked) };
+      const text = engine.text(refusals, needed[1]), refused = refusedIn(text, engine, feeds, asked);
+      const answer = { kind: "cube", cube: new Blob([engine.bytes(cube, needed[0])]), refusals: text, ...refused };
+      return refused.count ? withExplained(asked.module, answer) : answer;
     }
     sizes = needed;
   }
@@ -197,7 +216,8 @@ function told(fault) {
 
 onmessage = async ({ data }) => {
   try {
-    postMessage(await (data.kind === "schema" ? schemaOf(data) : cubeOf(data)));
+    const answered = { schema: schemaOf, cube: cubeOf, explain: explanationOf }[data.kind];
+    postMessage(await answered(data));
   } catch (fault) {
     postMessage(told(fault));
   }

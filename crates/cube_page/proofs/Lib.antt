@@ -1,1 +1,3 @@
 mod ShownLaws
+mod ExplainedLaws
+mod ReasonLaws

@@ -1,15 +1,24 @@
--- What a web page is handed: the cube of feeds that it holds, and the schema of a file (this project's choice).
-use Rattle.std.specs.Prelude.{◌≡◌, ℕ, List, [], ◌∷◌, length, map, take, drop, min, Some, Ok}
+-- What a web page is handed: the cube of feeds that it holds, the schema of a file, and what a code means (this project's
+-- choice).
+use Rattle.std.specs.Prelude.{◌≡◌, ◌≢◌, ℕ, List, [], ◌∷◌, length, map, take, drop, min, Option, None, Some, Ok, IsUtf8}
 use Rattle.cube_core.specs.Layout.{Layout}
 use Rattle.cube_files.specs.SchemaGuess.{IsSchemaText}
 use Rattle.cube_tool.specs.Command.{AnswersFile}
+use Rattle.cube_tool.specs.Explain.{explained}
 use Rattle.cube_tool.specs.Run.{IsTextOf, OfFeeds}
+use Rattle.cube_tool.specs.declared.command.notes.Note.{Note}
 use Rattle.cube_tool.specs.declared.question.Question.TheVariants.{Cube, Refusals}
 
 -- a text was handed over in a room: its size was told, and as much of it as fits stands at the room's start
 pub record IsHanded (text room : List ℕ) (size : ℕ) : Type 0 where
   pub told : size ≡ length text
   pub stands : take (min (length text) (length room)) room ≡ take (min (length text) (length room)) text
+
+-- why there is no answer was handed over, as UTF-8
+pub record HandsReason (room : List ℕ) (size : ℕ) : Type 0 where
+  pub reason : List ℕ
+  pub is_text : IsUtf8 reason
+  pub handed : IsHanded reason room size
 
 -- the feeds that stand one behind another in some bytes, by their lengths; where there are too few bytes, the last feeds
 -- have fewer
@@ -42,3 +51,20 @@ pub record HandsShown (schema : List ℕ) (feeds : List (List ℕ)) (cube_room :
   pub shown : IsShown schema feeds cube refusals
   pub cube_handed : IsHanded cube cube_room cube_size
   pub refusals_handed : IsHanded refusals refusals_room refusals_size
+
+-- the code that some bytes ask for; where there is no byte, all codes are asked for
+abbrev pub code_in : List ℕ → Option (List ℕ)
+code_in [] = None
+code_in (b ∷ rest) = Some (b ∷ rest)
+
+-- a text is what some notes say of a code, or of all codes where none is asked for
+pub record IsSaid (code : Option (List ℕ)) (text : List ℕ) : Type 0 where
+  pub notes : List Note
+  pub says : text ≡ explained notes code
+
+-- what notes say of the code that some bytes ask for was handed over, and one of them has it
+pub record HandsExplained (code room : List ℕ) (size : ℕ) : Type 0 where
+  pub text : List ℕ
+  pub is_said : IsSaid (code_in code) text
+  pub is_known : text ≢ []
+  pub handed : IsHanded text room size

@@ -6,13 +6,15 @@
 #![tactic(auto)]
 
 ghost use Rattle.std.specs.Prelude.{◌≡◌};
-ghost use Rattle.cube_page.specs.Page.{HandsSchema, HandsShown, feeds_in};
+ghost use Rattle.cube_page.specs.Page.{HandsExplained, HandsReason, HandsSchema, HandsShown, feeds_in};
 
+mod explained;
 mod feeds;
 mod room;
 mod schema;
 mod shown;
 
+use explained::explained;
 use room::hand;
 use schema::{made_schema, told_of_guess};
 use shown::{show, told};
@@ -23,6 +25,9 @@ const ANSWERED: u32 = 0;
 
 /// There is none, and what was written says why.
 const REFUSED: u32 = 1;
+
+/// What is written of a code that no note has.
+const UNKNOWN: &str = "unknown code";
 
 /// How long the two texts are that a page is shown of feeds, in bytes.
 #[repr(C)]
@@ -45,7 +50,8 @@ pub extern "C" fn page_schema(
     room: &mut [u8],
     size: &mut usize,
 ) -> u32
-    ensures { result ≡ 0 → HandsSchema room.new size.new }
+    ensures answered { result ≡ 0 → HandsSchema room.new size.new }
+    ensures refused { result ≡ 1 → HandsReason room.new size.new }
 {
     match made_schema(alloc, start, is_whole, by, of) {
         Ok(text) => {
@@ -73,8 +79,9 @@ pub extern "C" fn page_run(
     refusals: &mut [u8],
     sizes: &mut Sizes,
 ) -> u32
-    ensures { result ≡ 0 → HandsShown schema.now (feeds_in lengths.now feeds.now)
+    ensures answered { result ≡ 0 → HandsShown schema.now (feeds_in lengths.now feeds.now)
         cube.new sizes.new.cube refusals.new sizes.new.refusals }
+    ensures refused { result ≡ 1 → HandsReason cube.new sizes.new.cube × (sizes.new.refusals ≡ 0) }
 {
     match show(alloc, schema, feeds, lengths) {
         Ok(shown) => {
@@ -85,6 +92,29 @@ pub extern "C" fn page_run(
         Err(failure) => {
             hand(told(alloc, failure).as_bytes(), cube, &mut sizes.cube);
             sizes.refusals = 0;
+            REFUSED
+        }
+    }
+}
+
+/// Says what a code means, or all codes where it is empty, of those that concern a page, as `datacube explain` does. The text
+/// goes to the room, and its size is told. Where there was no memory for it the answer is 1, and the size is 0.
+#[unsafe(no_mangle)]
+pub extern "C" fn page_explain(alloc: Global, code: &[u8], room: &mut [u8], size: &mut usize) -> u32
+    ensures answered { result ≡ 0 → HandsExplained code.now room.new size.new }
+    ensures refused { result ≡ 1 → HandsReason room.new size.new }
+{
+    match explained(alloc, code) {
+        Ok(Some(text)) => {
+            hand(&text, room, size);
+            ANSWERED
+        }
+        Ok(None) => {
+            hand(UNKNOWN.as_bytes(), room, size);
+            REFUSED
+        }
+        Err(_) => {
+            hand("".as_bytes(), room, size);
             REFUSED
         }
     }
