@@ -482,10 +482,20 @@ class Decimals(unittest.TestCase):
                 cube = jackraisin.Cube(f"a.b,grouping(a.b),sum(m),min(m),avg(m)\n{lines}")
                 got = list(cube.to_pandas().itertuples(index=False, name=None))
                 self.assertEqual([repr(it) for it in got], [repr(it.answers) for it in cube])
-        for number in ("NaN", "Infinity", "1e5", "1.5.0"):
+        for texts in (["1.50", "a.25,b", 'q.75"'], ['"a.25\nb"', "1.50", "b.125"]):
+            fields = [f'"{it.strip(chr(34)).replace(chr(34), chr(34) * 2)}"' if set(it) & set(',"\n') else it for it in texts]
+            for numbers in ([("0.25", "1.125"), ("-0.01", "-0.001"), ("\\N", "\\N")], [("0.25", "1.125"), ("1.5", "0.125"), ("12", "0.25")]):
+                lines = "".join(f"{name},0,{a},{b},{a},1\n" for name, (a, b) in zip(fields, numbers))
+                cube = jackraisin.Cube(f"t,grouping(t),sum(m),sum(k),max(m),count(*)\n{lines}")
+                got = list(cube.to_pandas().itertuples(index=False, name=None))
+                self.assertEqual([repr(it) for it in got], [repr(it.answers) for it in cube])
+        for number in ("NaN", "Infinity", "1e5", "1.5.0", "1 .50", ".50.", "1..5", "--1.50", "0x.50"):
             cube = jackraisin.Cube(f"a,grouping(a),sum(m)\nx,0,0.50\ny,0,{number}\n")
             self.assertRaises(jackraisin.Unreadable, cube.to_pandas)
             self.assertRaises(jackraisin.Unreadable, list, cube)
+        for number in ("1.5 ", " 1.50", "+1.50", "0.5", "1.500"):
+            cube = jackraisin.Cube(f"a,grouping(a),sum(m)\nx,0,0.50\ny,0,{number}\n")
+            self.assertEqual(repr(cube.to_pandas()["sum(m)"].tolist()), repr([it.answers[0] for it in cube]))
 
 
 class ByNames(unittest.TestCase):

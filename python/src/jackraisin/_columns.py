@@ -1,15 +1,18 @@
 """Printed cubes as columns, made straight from their text: frames of pandas and polars, and tables of Arrow."""
 from __future__ import annotations
 
+import contextlib
 import csv
+import gc
 import io
+import re
 from collections import deque
 from decimal import Decimal
 from fractions import Fraction
 from itertools import repeat
 from math import gcd
 from operator import is_not
-from typing import TYPE_CHECKING, Any, Callable, Dict, List, Optional, Sequence, TypeVar, Union
+from typing import TYPE_CHECKING, Any, Callable, Dict, Iterator, List, Optional, Sequence, TypeVar, Union
 
 from ._cells import ALL
 from ._numbers import Number, number_of, whole_of
@@ -66,6 +69,8 @@ def each_once(texts: Sequence[str], read: Callable[[List[str]], List[T]]) -> Lis
     them are nearly all different, one by one, which is quicker then."""
     first = texts[:SAMPLE]
     if 10 * len(set(first)) > 9 * len(first):
+        if NULL not in texts:
+            return [*read(list(texts))]
         each = iter(read([it for it in texts if it != NULL]))
         return [None if it == NULL else next(each) for it in texts]
     known = [it for it in dict.fromkeys(texts) if it != NULL]
@@ -87,10 +92,25 @@ def fractions_of(texts: Sequence[str]) -> List[Fraction]:
     if not set(map(gcd, above, below)) <= {1} or min(below, default=1) < 1:
         return list(map(Fraction, above, below))
     kind: Any = Fraction
-    made = [object.__new__(kind) for _ in texts]
+    make: Callable[[Any], Fraction] = object.__new__
+    with no_collection():
+        made = list(map(make, repeat(kind, len(texts))))
     deque(map(kind._numerator.__set__, made, above), 0)
     deque(map(kind._denominator.__set__, made, below), 0)
     return made
+
+
+@contextlib.contextmanager
+def no_collection() -> Iterator[None]:
+    """For as long as it is entered, Python doesn't look for objects that can be thrown away, which it would do again and again while
+    very many are made."""
+    was = gc.isenabled()
+    gc.disable()
+    try:
+        yield
+    finally:
+        if was:
+            gc.enable()
 
 
 def is_mean(aggregate: str) -> bool:
@@ -113,18 +133,18 @@ def fit(answers: Sequence[Optional[Number]]) -> bool:
     return all(it is None or not isinstance(it, Decimal) and LEAST <= it <= GREATEST for it in answers)
 
 
-def with_decimals(text: str, columns: Columns) -> List[bool]:
-    """Which aggregates are printed with decimals: those whose first number that isn't null has a point."""
-    found: List[Optional[bool]] = [False if is_mean(it) or is_count(it) else None for it in columns.aggregates]
+def places_of(text: str, columns: Columns) -> List[int]:
+    """How many digits each aggregate is printed with behind the point: as many as its first number that isn't null has there."""
+    found: List[Optional[int]] = [0 if is_mean(it) or is_count(it) else None for it in columns.aggregates]
     if "." not in text:
-        return [False] * len(found)
+        return [0] * len(found)
     with long_fields():
         for record in csv.reader(lines_behind(text, [head_of(text)[1]])):
             if None not in found:
                 break
             answers = columns.checked(record)[2 * len(columns.dimensions) :]
-            found = ["." in it if was is None and it != NULL else was for was, it in zip(found, answers)]
-    return [bool(it) for it in found]
+            found = [len(it.partition(".")[2]) if was is None and it != NULL else was for was, it in zip(found, answers)]
+    return [it or 0 for it in found]
 
 
 def frame_of(text: str, columns: Columns) -> "pandas.DataFrame":
@@ -146,11 +166,12 @@ def fields_of(text: str, columns: Columns) -> List[Any]:
     import pandas
 
     count = 2 * len(columns.dimensions)
-    points = with_decimals(text, columns)
     kinds: List[Any] = ["category"] * count
-    kinds += [str if is_mean(it) else Decimal if has_point else None for it, has_point in zip(columns.aggregates, points)]
+    kinds += [str if is_mean(it) else places or None for it, places in zip(columns.aggregates, places_of(text, columns))]
     if not any(it in text for it in NOT_FOR_PANDAS):
-        for at_once in (kinds, [it or str for it in kinds]):
+        # (units at once, else decimals one by one, else texts)
+        by_one = [Decimal if isinstance(it, int) else it for it in kinds]
+        for at_once in (kinds, by_one, [it or str for it in by_one]):
             try:
                 return read_by_pandas(text, at_once)
             except (ValueError, ArithmeticError):
@@ -160,40 +181,107 @@ def fields_of(text: str, columns: Columns) -> List[Any]:
 
 
 def read_by_pandas(text: str, kinds: Sequence[Any]) -> List[Any]:
-    """The columns below the header, of some kinds; where none is given it is one of whole numbers. Where a text says anything
-    else it is a `ValueError`, or an `ArithmeticError`."""
+    """The columns below the header, of some kinds: texts, categories, decimals, a number of decimals, of which each has so many
+    digits behind its point, or where none is given whole numbers. Where a text says anything else it is a `ValueError`, or an
+    `ArithmeticError`."""
     import pandas
 
-    body = io.BytesIO(text[head_of(text)[1] :].encode("utf-8"))
+    body = text[head_of(text)[1] :].encode("utf-8")
     how: Dict[str, Any] = {"header": None, "index_col": False, "skip_blank_lines": False, "low_memory": False, "engine": "c"}
     how["dtype"] = {at: it for at, it in enumerate(kinds) if it == "category"}
     # (texts too, of which pandas would look each up among those before it)
     how["converters"] = {at: DECIMALS.__getitem__ if it is Decimal else it for at, it in enumerate(kinds) if it in (str, Decimal)}
-    nulls = {at: [NULL] for at, it in enumerate(kinds) if not it}
-    frame = pandas.read_csv(body, keep_default_na=False, na_values=nulls, na_filter=bool(nulls), **how)
+    nulls = {at: [NULL] for at, it in enumerate(kinds) if it is None or isinstance(it, int)}
+    # (a number with decimals is read as one of units: its point is passed over as others are between thousands)
+    frame = pandas.read_csv(
+        io.BytesIO(body), keep_default_na=False, na_values=nulls, na_filter=bool(nulls), thousands=".", decimal="\1", **how
+    )
     if frame.shape[1] != len(kinds):
         raise ValueError(f"lines of {frame.shape[1]} fields")
-    if Decimal in kinds and body.getvalue().count(b".") != sum(points_in(frame[at], it) for at, it in enumerate(kinds)):
-        raise ValueError("not numbers with decimals alone")
-    return [column_of(frame[at], it) for at, it in enumerate(kinds)]
+    columns = [wholes_in(frame[at]) if at in nulls else frame[at] for at in range(len(kinds))]
+    see_points(body, columns, kinds)
+    for places in {it for it in kinds if isinstance(it, int)}:
+        give_points(columns, [at for at, it in enumerate(kinds) if it == places], places)
+    return [it.array if kind == "category" else it.to_numpy() if kind is Decimal else it for it, kind in zip(columns, kinds)]
 
 
-def column_of(column: Any, kind: Any) -> Any:
-    """A column that pandas has read, in the form of its kind."""
-    if kind is None:
-        return wholes_in(column)
-    return column if kind is str else column.to_numpy() if kind is Decimal else column.array
-
-
-def points_in(column: Any, kind: Any) -> int:
-    """How many points a column has, where each number with decimals has one, and other numbers have none."""
+def see_points(body: bytes, columns: Sequence[Any], kinds: Sequence[Any]) -> None:
+    """Sees that each number with decimals has one point with as many digits behind it as the others, and that no other number has a
+    point; else it is a `ValueError`."""
     import numpy
 
-    if kind is Decimal:
-        # (pandas takes a NaN among them for missing, too)
-        return sum(map(is_not, column.tolist(), repeat(None)))
-    points = [it.count(".") for it in column.cat.categories] if kind == "category" else []
-    return int(numpy.array(points)[column.cat.codes.to_numpy()].sum()) if any(points) else 0
+    if b"." not in body:
+        return
+    bytes_of = numpy.frombuffer(body + b"\n", dtype=numpy.uint8)
+    points = numpy.flatnonzero(bytes_of == ord("."))
+    wanted = len(points)
+    for places in sorted({it for it in kinds if isinstance(it, int)}):
+        ends = points[points + places + 1 < len(bytes_of)] + places + 1
+        found = numpy.isin(bytes_of[ends], (ord(","), ord("\n")))
+        for back in range(1, places + 1):
+            found &= (bytes_of[ends - back] >= ord("0")) & (bytes_of[ends - back] <= ord("9"))
+        theirs = sum(len(it) - int(it.isna().sum()) for it, kind in zip(columns, kinds) if isinstance(kind, int) and kind == places)
+        mark = re.compile(rf"\.[0-9]{{{places}}}(?:(?=[,\n])|\Z)")
+        if int(found.sum()) != theirs + sum_over(columns, kinds, lambda it: ends_in(mark, it)):
+            raise ValueError(f"not numbers with {places} decimals alone")
+        wanted -= theirs
+    # (pandas takes a NaN among them for missing, too)
+    wanted -= sum(sum(map(is_not, it.tolist(), repeat(None))) for it, kind in zip(columns, kinds) if kind is Decimal)
+    if wanted != sum_over(columns, kinds, lambda it: it.count(".")):
+        raise ValueError("not numbers with decimals alone")
+
+
+def ends_in(mark: "re.Pattern[str]", text: str) -> int:
+    """How often a mark stands in the printed field of a text, which ends with a quote where it is in quotes."""
+    found = len(mark.findall(text))
+    is_quoted = any(it in text for it in ',"\r\n')
+    return found - bool(is_quoted and re.search(mark.pattern.replace("(?:(?=[,\\n])|\\Z)", "\\Z"), text))
+
+
+def sum_over(columns: Sequence[Any], kinds: Sequence[Any], count: Callable[[str], int]) -> int:
+    """What is counted in the texts of categories, each as often as it stands in its column."""
+    import numpy
+
+    total = 0
+    for column, kind in zip(columns, kinds):
+        if kind == "category":
+            counts = [count(it) for it in column.cat.categories]
+            total += int(numpy.array(counts)[column.cat.codes.to_numpy()].sum()) if any(counts) else 0
+    return total
+
+
+def give_points(columns: List[Any], which: Sequence[int], places: int) -> None:
+    """Makes columns of units columns of decimals with so many places. Where a column has the number of the one before it, as the
+    least and the greatest of one value are, it is made once."""
+    import numpy
+
+    before, made = None, None
+    for at in which:
+        units, is_null = columns[at].to_numpy(dtype="int64", na_value=0), columns[at].isna()
+        if before is None:
+            answers = decimals_of(units, places)
+        else:
+            answers, apart = made.copy(), before != units
+            answers[apart] = decimals_of(units[apart], places)
+        before, made = units, answers
+        if is_null.any():
+            answers = answers.copy()
+            answers[is_null] = None
+        columns[at] = answers
+
+
+def decimals_of(units: Any, places: int) -> Any:
+    """Units as decimals with so many places; each number is made once, where the first of them are not nearly all different."""
+    import numpy
+    import pandas
+
+    codes, known = None, units
+    if 10 * len(numpy.unique(units[:SAMPLE])) < 9 * len(units[:SAMPLE]):
+        codes, known = pandas.factorize(units)
+    power = f"e-{places}"
+    texts = (f"{power} ".join(map(str, known.tolist())) + power).split() if len(known) else []
+    made = objects(list(map(Decimal, texts)))
+    return made if codes is None else made[codes]
 
 
 def wholes_in(column: Any) -> Any:
@@ -244,7 +332,11 @@ def objects(answers: Sequence[object]) -> Any:
     """A column of objects as they are, which numpy doesn't look into one by one."""
     import numpy
 
-    column = numpy.empty(len(answers), dtype=object)
-    for at, it in enumerate(answers):
-        column[at] = it
-    return column
+    try:
+        return numpy.fromiter(answers, dtype=object, count=len(answers))
+    except ValueError:
+        # (as numpy before 1.23)
+        column = numpy.empty(len(answers), dtype=object)
+        for at, it in enumerate(answers):
+            column[at] = it
+        return column
