@@ -1,5 +1,6 @@
 """Where the program stands that the scripts run, by what Python its tests are, a folder in which it is run, and files as bytes."""
 import argparse
+import functools
 import os
 import shutil
 import subprocess
