@@ -9,3 +9,4 @@ mod DraftLaws
 mod PartLaws
 mod ShareLaws
 mod InterestLaws
+mod SameLaws

@@ -1,12 +1,12 @@
 //! The books of all sources, and the cube of the facts in them.
-ghost use Rattle.std.specs.Prelude.{◌≡◌, ◌≤◌, ◌<◌, ◌+◌, ◌^◌, ◌++◌, ◌∷◌, [], None, Option, Some, false, true, length, IfOk, OnOk, OnErr};
+ghost use Rattle.std.specs.Prelude.{ℕ, ◌≡◌, ◌≤◌, ◌<◌, ◌+◌, ◌^◌, ◌++◌, ◌∷◌, [], None, Option, Some, false, true, length, IfOk, OnOk, OnErr};
 ghost use Rattle.cube_core.specs.Arrival.{Arrivals};
 ghost use Rattle.cube_core.specs.GroupingSet.{sets_of_part};
 ghost use Rattle.cube_core.specs.Takes.{fits};
 ghost use Rattle.cube_core.specs.declared.fact.Fact.{Fact as TheFact};
 ghost use Rattle.cube_cells.specs.Cube.{SameSets};
 ghost use Rattle.cube_build.specs.Builder.{HasFacts, SameBuilder, StandsAt};
-ghost use Rattle.cube_ledger.specs.Ledger.{AllFit, AtSource, Enters, Exchanges, IsRemoval, account_of, all_facts};
+ghost use Rattle.cube_ledger.specs.Ledger.{AllFit, AtSource, Enters, Exchanges, IsRemoval, account_of, all_facts, code_in};
 
 use crate::fill::{fill_cube, fill_cube_with};
 use crate::joined::HoldsCube;
@@ -94,8 +94,8 @@ impl Builder {
         Ok(Builder { ledger, cube })
     }
 
-    /// Takes an item of a source: a refused one is noted with its code, and any other changes the book of the source
-    /// and the cells.
+    /// Takes an item of a source: a refused one is noted with its code and changes no cell, and any other changes the
+    /// book of the source and the cells.
     ///
     /// The only error is that memory ran out; then books and refusals are as they were, the cells count what they counted,
     /// and the item is given up. A delete that isn't refused never answers it.
@@ -110,6 +110,8 @@ impl Builder {
         ensures sources { OnOk result
             (length self.new.ledger.accounts ≡ length self.old.ledger.accounts) }
         ensures same { OnOk result (SameSets self.old.cube self.new.cube) }
+        ensures refused { (code : ℕ) → code_in self.old.ledger.schema
+            (account_of self.old.ledger source).book item.what ≡ Some code → self.new.cube ≡ self.old.cube }
         ensures err { OnErr result (SameBuilder self.old self.new) }
         ensures removal { OnErr result (IsRemoval self.old.ledger.schema
             (account_of self.old.ledger source).book item.what → ⊥) }

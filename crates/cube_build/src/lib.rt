@@ -12,6 +12,7 @@ mod built;
 mod draft;
 mod fill;
 mod joined;
+pub mod laws;
 mod making;
 mod parted;
 mod plain;

@@ -5,3 +5,4 @@ pub mod KeyLaws
 pub mod GrowthLaws
 pub mod RankLaws
 pub mod TextLaws
+pub mod WordLaws

@@ -1,5 +1,5 @@
 -- Ranks of the texts of a dimension: their places in the order of texts (this project's choice).
-use Rattle.std.specs.Prelude.{◌≡◌, ◌<◌, ◌≤◌, ℕ, false, nat_lt, List, [], ◌∷◌, length, get_or, if◌then◌else◌}
+use Rattle.std.specs.Prelude.{◌≡◌, ◌<◌, ◌≤◌, ◌/◌, ◌%◌, ℕ, false, nat_lt, List, [], ◌∷◌, length, get_or, if◌then◌else◌}
 use Rattle.std.specs.Cmp.Lexicographic.{slice_cmp}
 use Rattle.std.specs.List.{AllZip}
 use Rattle.std.specs.Ordering.{nat_cmp, is_lt}
@@ -38,3 +38,8 @@ pub record LeadBack (count : ℕ) (places ranks : List ℕ) : Type 0 where
   pub same_length : length ranks ≡ length places
   pub back : (j : ℕ) → j < count → get_or places (get_or ranks (get_or places j 0) 0) 0 ≡ get_or places j 0
   pub below : (j : ℕ) → j < count → get_or ranks (get_or places j 0) 0 < count
+
+-- the numbers of 32 bits in words of 64, two in each, the higher half first
+abbrev pub halves : List ℕ → List ℕ
+halves [] = []
+halves (word ∷ words) = word / 4294967296 ∷ word % 4294967296 ∷ halves words

@@ -20,7 +20,7 @@ use crate::rests::Rests;
 use csv::ByteRecord;
 use cube_core::{Change, LineFault};
 use cube_feed::{FeedFault, RecordReader, change_of_record, is_read, put_rest};
-use cube_writing::write_whole;
+use cube_lines::write_whole;
 use std::alloc::{AllocError, Global};
 use std::io::{Read, Write};
 use std::thread::Threads;

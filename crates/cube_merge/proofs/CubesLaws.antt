@@ -108,7 +108,7 @@ module _ {R : Type 0} (remaining : R → Option (List ℕ)) (header : List ℕ) 
   taken-header (r ∷ rs) (i ∷ is) all zero = all.0.0
   taken-header (r ∷ rs) (i ∷ is) all (suc k) = taken-header rs is all.1 k
 
-Consumes-same : (a : Option (List ℕ)) → Consumes a a []
+pub Consumes-same : (a : Option (List ℕ)) → Consumes a a []
 Consumes-same None = tt
 Consumes-same (Some x) = refl
 
@@ -129,7 +129,7 @@ taken-TookHeaders remaining header readers inputs taken = record {
 }
 
 -- what an input held that has ended
-text-of_ended : (s : Layout) (text start : Option (List ℕ)) (input : InputView) (rows : List Row)
+pub text-of_ended : (s : Layout) (text start : Option (List ℕ)) (input : InputView) (rows : List Row)
     → Consumes text start (line (header_fields s)) → Gave s start input rows → IsEnded start input → input.row ≡ None
     → IsToldTextOf s text rows
 text-of_ended s None start input rows head gave ended none = tt

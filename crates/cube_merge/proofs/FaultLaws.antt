@@ -1,7 +1,7 @@
 -- Why a merge can't go on, by the texts of its inputs, and what it leaves written.
 use Rattle.std.proofs.Common.{◌≡◌, ◌++◌, ◌<◌, ◌+◌, ◌∷◌, [], ℕ, zero, suc, Bool, true, false, List, Option, Some, None}
-use Rattle.std.proofs.Common.{IfSome, Contains, length, map, get_or, take, drop, refl, sym, ap, ap₂, ◌∙◌, subst, arith}
-use Rattle.std.proofs.Common.{lit<, length-append, append_assoc, flat_map, option_to_list, inl, inr, is_eq}
+use Rattle.std.proofs.Common.{IfSome, Contains, length, map, get_or, take, drop, refl, sym, ap, ◌∙◌, subst, arith}
+use Rattle.std.proofs.Common.{length-append, append_assoc, flat_map, option_to_list, inl, inr}
 use Rattle.std.specs.Prelude.{◌≢◌, ◌-◌}
 use Rattle.std.specs.declared.cmp.Ordering.TheVariants.{Less}
 use Rattle.std.specs.List.{AllByRecursion, AllZip}
@@ -11,60 +11,38 @@ use Rattle.std.proofs.KnownBytes.{Appends-trans}
 use Rattle.std.proofs.Math.Seq.{take-append-add, take-append_seam}
 use Rattle.std.proofs.lemmas.Grind.{flat_map-append}
 use Rattle.std.proofs.lemmas.List.{append-nil, length-map, map-append}
-use Rattle.std.proofs.lemmas.List.Elements.{Contains-append_left, Contains-append_right, filter-append}
-use Rattle.std.proofs.lemmas.List.Sorted.{Contains-permutation}
+use Rattle.std.proofs.lemmas.List.Elements.{Contains-append_left, Contains-append_right}
 use Rattle.std.proofs.lemmas.Option.{IfSome_then}
 use Rattle.cube_core.specs.Cube.{is_total, key_of}
 use Rattle.cube_core.specs.Layout.{Layout}
-use Rattle.cube_core.specs.Merged.{rows_at}
 use Rattle.cube_core.specs.Order.{key_cmp}
 use Rattle.cube_core.specs.Text.{header_fields, line, row_line, text_of_rows}
 use Rattle.cube_core.specs.declared.aggregate.Agg.{Agg}
-use Rattle.cube_core.specs.declared.aggregate.Agg.TheVariants.{CountAll, Count, Sum, Min, Max, Avg}
 use Rattle.cube_core.specs.declared.key.Key.{Key}
 use Rattle.cube_core.specs.declared.key.Row.{Row}
-use Rattle.cube_core.proofs.ListLaws.{AllZip-length, Contains-AllByRecursion, map-Contains}
-use Rattle.cube_merge.specs.Faults.{BeginsWith, ExplainsFault, FailsToJoin, FailsToMake, FailsToMerge, FailsToMove}
+use Rattle.cube_core.proofs.ListLaws.{AllByRecursion-Contains, AllZip-length, Contains-head}
+use Rattle.cube_merge.specs.Faults.{CanMove, ExplainsFault, FailsToJoin, FailsToMake, FailsToMerge, FailsToMove}
 use Rattle.cube_merge.specs.Faults.{FailsToMoveAll, FailsToOpen, FailsToOpenAll, FailsToSend, FailsAtFirstLine}
 use Rattle.cube_merge.specs.Faults.{FailsToTakeHeader, GoesWrong, HasFault, HasNoHeader, HasRowAt, HasRowBelow}
-use Rattle.cube_merge.specs.Faults.{InputsFail, IsFaultAt, IsOutOfOrder, IsTooLarge, JoinTooLarge, SplitsAt, StepFails}
-use Rattle.cube_merge.specs.Faults.{FailsAfter, TellsOverflow, WroteFirstRows}
-use Rattle.cube_merge.specs.Joint.{HasRow, rows_of}
+use Rattle.cube_merge.specs.Faults.{InputsFail, IsFaultAt, IsMetFirst, IsOutOfOrder, IsTooLarge, IsTooLargeAt, SplitsAt}
+use Rattle.cube_merge.specs.Faults.{FailsAfter, StepFails, TellsOverflow, WroteFirstRows}
+use Rattle.cube_merge.specs.Joint.{rows_of}
 use Rattle.cube_merge.specs.Lawful.{IsLawfulRow}
 use Rattle.cube_merge.specs.Merging.{InputView, AreInKeyOrder, AreOfSchema, AreUses, Gave, TookHeader, IsAbove}
 use Rattle.cube_merge.specs.Merging.{IsCounted}
-use Rattle.cube_merge.specs.Merging.{IsMerging, IsUse, all_rows, nothing_left, used_row, used_rows}
+use Rattle.cube_merge.specs.Merging.{IsMerging, IsUse, nothing_left, used_rows}
 use Rattle.cube_merge.specs.NextLine.{next_line}
-use Rattle.cube_merge.specs.Range.{AreTooLarge, IsInRange}
+use Rattle.cube_merge.specs.Range.{AreInRange, AreTooLarge}
 use Rattle.cube_merge.specs.declared.fault.InputFault.{InputFault}
 use Rattle.cube_merge.specs.declared.fault.InputFault.TheVariants as why
 use Rattle.cube_merge.specs.declared.fault.MergeFault.{MergeFault}
 use Rattle.cube_merge.specs.declared.fault.MergeFault.TheVariants.{Memory, Aggregates, Input, Write}
 use Rattle.cube_merge.proofs.CubesLaws.{Gave-none, lefts-at, taken-TookHeaders}
 use Rattle.cube_merge.proofs.CubesLaws.{taken-header, taken-lines, taken-row}
+use Rattle.cube_merge.proofs.FirstLaws.{AreTooLarge-some, BeginsWith-header, CanBeReadTo-first, IsReadNext-read}
+use Rattle.cube_merge.proofs.FirstLaws.{IsTooLarge-read, stands-at}
 use Rattle.cube_merge.proofs.LineLaws.{next_line-line}
-use Rattle.cube_merge.proofs.MergedLaws.{is_eq-above, rows_at-all, rows_at-none}
-use Rattle.cube_merge.proofs.StepLaws.{AreInKeyOrder-none, AreOfSchema-none, below-used}
-
--- a text behind the lines of rows
-stands-at : (s : Layout) (text start left : Option (List ℕ)) (rows : List Row) (number : ℕ)
-    → Consumes text start (line (header_fields s)) → Consumes start left (flat_map (row_line s) rows)
-    → AllByRecursion (IsLawfulRow s) rows → IsStrictlySortedBy key_cmp (map key_of rows) → number ≡ length rows + 2
-    → IfSome text (λ t. (rest : List ℕ) × (left ≡ Some rest) × SplitsAt s t rows rest number)
-stands-at s None start left rows number head gave are sorted is = tt
-stands-at s (Some t) None left rows number head gave are sorted is = absurd head
-stands-at s (Some t) (Some x) None rows number head gave are sorted is = absurd gave
-stands-at s (Some t) (Some x) (Some y) rows number head gave are sorted is = (
-  y,
-  refl,
-  record {
-    text_is = head ∙ ap (λ l. line (header_fields s) ++ l) gave
-        ∙ sym (append_assoc (line (header_fields s)) (flat_map (row_line s) rows) y);
-    of_schema = are;
-    ordered = sorted;
-    number_is = is;
-  },
-)
+use Rattle.cube_merge.proofs.StepLaws.{AreInKeyOrder-none, AreOfSchema-none, used_rows-key}
 
 rest-of : (rest : List ℕ) (after : Option (List ℕ)) (bs : List ℕ) → Consumes (Some rest) after bs
     → (more : List ℕ) × (rest ≡ bs ++ more)
@@ -218,17 +196,20 @@ module _ (s : Layout) (input : InputView) (rows : List Row) where
 -- the fault of an input that couldn't move on, as a merge tells it
 pub HasFault-told : (s : Layout) (used : List Bool) (inputs : List InputView) (fault : InputFault) (place number : ℕ)
     (told : MergeFault) → IsFaultAt fault place number told → place < length inputs → get_or used place false ≡ true
-    → FailsToMove s (get_or inputs place nothing_left) fault number → FailsToMoveAll s used inputs told
-HasFault-told s used inputs fault place number Memory is inside used_is fails = tt
-HasFault-told s used inputs fault place number Aggregates is inside used_is fails = absurd is
-HasFault-told s used inputs fault place number (Write sent) is inside used_is fails = absurd is
-HasFault-told s used inputs fault place number (Input told input at) is inside used_is fails = record {
+    → FailsToMove s (get_or inputs place nothing_left) fault number
+    → ((k : ℕ) → k < place → CanMove s (get_or used k false) (get_or inputs k nothing_left))
+    → FailsToMoveAll s used inputs told
+HasFault-told s used inputs fault place number Memory is inside used_is fails before = tt
+HasFault-told s used inputs fault place number Aggregates is inside used_is fails before = absurd is
+HasFault-told s used inputs fault place number (Write sent) is inside used_is fails before = absurd is
+HasFault-told s used inputs fault place number (Input told input at) is inside used_is fails before = record {
   place = place;
   input_is = is.1;
   inside = inside;
   used_is = used_is;
   has_fault = subst (λ f. HasFault s (get_or inputs place nothing_left) f at) (sym is.0)
       (subst (HasFault s (get_or inputs place nothing_left) fault) (sym is.2) (other fault is.3 fails));
+  before = before;
 } where
   other : (f : InputFault) → f ≢ why.Memory → FailsToMove s (get_or inputs place nothing_left) f number
       → HasFault s (get_or inputs place nothing_left) f number
@@ -242,29 +223,39 @@ HasFault-told s used inputs fault place number (Input told input at) is inside u
 
 -- the same of the first lines
 pub FailsAtFirstLine-moves : (s : Layout) (used : List Bool) (inputs : List InputView) (fault : MergeFault)
-    → FailsToMoveAll s used inputs fault → FailsAtFirstLine s inputs fault
-FailsAtFirstLine-moves s used inputs Memory fails = tt
-FailsAtFirstLine-moves s used inputs Aggregates fails = absurd fails
-FailsAtFirstLine-moves s used inputs (Input fault input number) fails = (used, fails)
-FailsAtFirstLine-moves s used inputs (Write sent) fails = absurd fails
+    → ((k : ℕ) → k < length inputs → get_or used k false ≡ true) → FailsToMoveAll s used inputs fault
+    → FailsAtFirstLine s inputs fault
+FailsAtFirstLine-moves s used inputs Memory all_used fails = tt
+FailsAtFirstLine-moves s used inputs Aggregates all_used fails = absurd fails
+FailsAtFirstLine-moves s used inputs (Input fault input number) all_used fails =
+    record { used = used; all_used = all_used; at = fails }
+FailsAtFirstLine-moves s used inputs (Write sent) all_used fails = absurd fails
 
 -- the same of the lines behind those that were used
 pub StepFails-moves : (s : Layout) (used : List Bool) (inputs : List InputView) (key : Key) (fault : MergeFault)
-    → AreUses key used inputs → FailsToMoveAll s used inputs fault → StepFails s inputs fault
-StepFails-moves s used inputs key Memory uses fails = tt
-StepFails-moves s used inputs key Aggregates uses fails = absurd fails
-StepFails-moves s used inputs key (Write sent) uses fails = absurd fails
-StepFails-moves s used inputs key (Input fault input number) uses fails =
+    → length used ≡ length inputs → AreUses key used inputs → 0 < length (used_rows used inputs)
+    → AreInRange s.aggregates (used_rows used inputs) → FailsToMoveAll s used inputs fault → StepFails s inputs fault
+StepFails-moves s used inputs key Memory wide uses some fit fails = tt
+StepFails-moves s used inputs key Aggregates wide uses some fit fails = absurd fails
+StepFails-moves s used inputs key (Write sent) wide uses some fit fails = absurd fails
+StepFails-moves s used inputs key (Input fault input number) wide uses some fit fails =
     let is_use = subst (λ u. IsUse key u (get_or inputs fails.place nothing_left)) fails.used_is (uses fails.place) in
     record {
+      key = key;
+      used = used;
+      wide = wide;
+      uses = uses;
+      some = some;
       place = fails.place;
       row = is_use.0;
       input_is = fails.input_is;
       inside = fails.inside;
       row_is = is_use.1;
+      key_is = is_use.2;
       goes_wrong = wrong fault fails.has_fault;
       too_large =
           λ is. absurd (subst (λ f. HasFault s (get_or inputs fails.place nothing_left) f number) is fails.has_fault);
+      came = λ _. record { fit = fit; before = fails.before };
     } where
       wrong : (f : InputFault) → HasFault s (get_or inputs fails.place nothing_left) f number
           → GoesWrong s (get_or inputs fails.place nothing_left) f number
@@ -276,18 +267,39 @@ StepFails-moves s used inputs key (Input fault input number) uses fails =
       wrong why.Overflow h = absurd h
       wrong why.Incomplete h = h
 
+-- the row of one of these places
+pub rows_of-among : (inputs : List InputView) (places : List ℕ) (k : ℕ) (row : Row) → k < length places
+    → (get_or inputs (get_or places k 0) nothing_left).row ≡ Some row → Contains (rows_of inputs places) row
+rows_of-among inputs [] k row inside is = absurd (omega (arith, inside))
+rows_of-among inputs (p ∷ ps) zero row inside is =
+    Contains-append_left (option_to_list (get_or inputs p nothing_left).row) (rows_of inputs ps) row
+    (subst (λ o. Contains (option_to_list o) row) (sym is) (Contains-head row []))
+rows_of-among inputs (p ∷ ps) (suc k) row inside is =
+    Contains-append_right (option_to_list (get_or inputs p nothing_left).row) (rows_of inputs ps) row
+    (rows_of-among inputs ps k row (omega (arith, inside)) is)
+
 -- a count or a sum that is too large, as a merge tells it
-pub TellsOverflow-told : (inputs : List InputView) (place number : ℕ) (told : MergeFault)
-    → IsFaultAt why.Overflow place number told → place < length inputs → HasRow (get_or inputs place nothing_left)
-    → number ≡ (get_or inputs place nothing_left).lines → TellsOverflow inputs told
-TellsOverflow-told inputs place number Memory is inside has lines = tt
-TellsOverflow-told inputs place number Aggregates is inside has lines = absurd is
-TellsOverflow-told inputs place number (Write sent) is inside has lines = absurd is
-TellsOverflow-told inputs place number (Input told input at) is inside has lines =
-    record { place = place; fault_is = is.0; input_is = is.1; inside = inside; has_row = has; number_is = is.2 ∙ lines }
+pub TellsOverflow-told : (inputs : List InputView) (rows : List Row) (place number : ℕ) (row : Row) (told : MergeFault)
+    → IsFaultAt why.Overflow place number told → place < length inputs
+    → (get_or inputs place nothing_left).row ≡ Some row → Contains rows row
+    → number ≡ (get_or inputs place nothing_left).lines → TellsOverflow inputs rows told
+TellsOverflow-told inputs rows place number row Memory is inside row_is among lines = tt
+TellsOverflow-told inputs rows place number row Aggregates is inside row_is among lines = absurd is
+TellsOverflow-told inputs rows place number row (Write sent) is inside row_is among lines = absurd is
+TellsOverflow-told inputs rows place number row (Input told input at) is inside row_is among lines = record {
+  place = place;
+  row = row;
+  fault_is = is.0;
+  input_is = is.1;
+  inside = inside;
+  row_is = row_is;
+  among = among;
+  number_is = is.2 ∙ lines;
+}
 
 pub FailsToMake-told : (given : List Agg) (inputs : List InputView) (places : List ℕ) (told : MergeFault)
-    → TellsOverflow inputs told → AreTooLarge given (rows_of inputs places) → FailsToMake given inputs places told
+    → TellsOverflow inputs (rows_of inputs places) told → AreTooLarge given (rows_of inputs places)
+    → FailsToMake given inputs places told
 FailsToMake-told given inputs places Memory tells large = tt
 FailsToMake-told given inputs places Aggregates tells large = absurd tells
 FailsToMake-told given inputs places (Write sent) tells large = absurd tells
@@ -300,10 +312,14 @@ pub FailsToJoin-made : (given : List Agg) (inputs : List InputView) (key : Key) 
 FailsToJoin-made given inputs key used places Memory wide uses rows fails = tt
 FailsToJoin-made given inputs key used places Aggregates wide uses rows fails = absurd fails
 FailsToJoin-made given inputs key used places (Write sent) wide uses rows fails = absurd fails
-FailsToJoin-made given inputs key used places (Input fault input number) wide uses rows fails = (
-  fails.0,
-  record { key = key; used = used; wide = wide; uses = uses; too_large = subst (AreTooLarge given) rows fails.1 },
-)
+FailsToJoin-made given inputs key used places (Input fault input number) wide uses rows fails = record {
+  key = key;
+  used = used;
+  wide = wide;
+  uses = uses;
+  at = subst (λ rs. IsTooLargeAt inputs rs fault input number) rows fails.0;
+  too_large = subst (AreTooLarge given) rows fails.1;
+}
 
 pub StepFails-join : (s : Layout) (inputs : List InputView) (fault : MergeFault) → FailsToJoin s.aggregates inputs fault
     → StepFails s inputs fault
@@ -311,16 +327,24 @@ StepFails-join s inputs Memory fails = tt
 StepFails-join s inputs Aggregates fails = absurd fails
 StepFails-join s inputs (Write sent) fails = absurd fails
 StepFails-join s inputs (Input fault input number) fails =
-    let at = fails.0 in
+    let at = fails.at in
     record {
+      key = fails.key;
+      used = fails.used;
+      wide = fails.wide;
+      uses = fails.uses;
+      some = AreTooLarge-some s.aggregates (used_rows fails.used inputs) fails.too_large;
       place = at.place;
-      row = at.has_row.0;
+      row = at.row;
       input_is = at.input_is;
       inside = at.inside;
-      row_is = at.has_row.1;
+      row_is = at.row_is;
+      key_is = AllByRecursion-Contains (λ (row : Row). row.key ≡ fails.key) (used_rows fails.used inputs) at.row
+          (used_rows-key fails.key fails.used inputs fails.wide fails.uses) at.among;
       goes_wrong =
           subst (λ f. GoesWrong s (get_or inputs at.place nothing_left) f number) (sym at.fault_is) at.number_is;
-      too_large = λ _. fails.1;
+      too_large = λ _. fails.too_large;
+      came = λ other. absurd (other at.fault_is);
     }
 
 -- a header that couldn't be taken, as a merge tells it
@@ -352,17 +376,40 @@ map-at f d (y ∷ xs) (suc k) x inside is = map-at f d xs k x (omega (arith, ins
 -- the same of one of many readers
 pub FailsToOpenAll-at : {R : Type 0} (remaining : R → Option (List ℕ)) (header : List ℕ) (readers : List R) (place : ℕ)
     (reader : R) (fault : MergeFault) → place < length readers → reader ≡ get_or readers place reader
+    → ((k : ℕ) → k < place
+    → (left : Option (List ℕ)) × Consumes (get_or (map remaining readers) k None) left header)
     → FailsToOpen header place (remaining reader) fault → FailsToOpenAll header (map remaining readers) fault
-FailsToOpenAll-at remaining header readers place reader Memory inside is fails = tt
-FailsToOpenAll-at remaining header readers place reader Aggregates inside is fails = absurd fails
-FailsToOpenAll-at remaining header readers place reader (Write sent) inside is fails = absurd fails
-FailsToOpenAll-at remaining header readers place reader (Input fault input number) inside is fails = record {
+FailsToOpenAll-at remaining header readers place reader Memory inside is before fails = tt
+FailsToOpenAll-at remaining header readers place reader Aggregates inside is before fails = absurd fails
+FailsToOpenAll-at remaining header readers place reader (Write sent) inside is before fails = absurd fails
+FailsToOpenAll-at remaining header readers place reader (Input fault input number) inside is before fails = record {
   place = place;
   input_is = fails.0;
   inside = omega (arith, inside, length-map readers remaining);
   no_header = subst (λ t. HasNoHeader header t fault number)
       (sym (map-at remaining None readers place reader inside is)) fails.1;
+  before = before;
 }
+
+-- the first readers of many, which were opened
+first-same : {X Y : Type 0} (f : X → Y) (d : Y) (xs all : List X) (k : ℕ) → map (λ x. x) xs ≡ take (length xs) all
+    → k < length xs → get_or (map f xs) k d ≡ get_or (map f all) k d
+first-same f d [] all k same inside = absurd (omega (arith, inside))
+first-same f d (x ∷ xs) [] k same inside = absurd (omega (arith, ap length same))
+first-same f d (x ∷ xs) (y ∷ all) zero same inside = ap f (ap (λ l. get_or l 0 x) same)
+first-same f d (x ∷ xs) (y ∷ all) (suc k) same inside =
+    first-same f d xs all k (ap (drop 1) same) (omega (arith, inside))
+
+pub opened-headers : {R : Type 0} (remaining : R → Option (List ℕ)) (header : List ℕ) (readers opened : List R)
+    (inputs : List InputView) → map (λ r. r) opened ≡ take (length opened) readers
+    → AllZip (TookHeader remaining header) opened inputs → (k : ℕ) → k < length opened
+    → (left : Option (List ℕ)) × Consumes (get_or (map remaining readers) k None) left header
+opened-headers remaining header readers opened inputs same taken k inside = (
+  get_or (map (λ (i : InputView). i.left) inputs) k None,
+  subst (λ text. Consumes text (get_or (map (λ (i : InputView). i.left) inputs) k None) header)
+      (first-same remaining None opened readers k same inside)
+      (taken-header remaining header opened inputs taken k),
+)
 
 -- a merge that sent the first bytes of the text of its rows, and has the others yet
 module _ (given wanted : Layout) (starts : List (Option (List ℕ))) (count : ℕ) (inputs : List InputView)
@@ -415,100 +462,36 @@ module _ (given wanted : Layout) (starts : List (Option (List ℕ))) (count : �
     why = fails.2;
   }
 
--- the rows of cubes, and after each cube's the row of its input
-abbrev with_rows : List (List Row) → List InputView → List (List Row)
-with_rows [] inputs = []
-with_rows (c ∷ cs) [] = []
-with_rows (c ∷ cs) (i ∷ is) = (c ++ option_to_list i.row) ∷ with_rows cs is
+-- the number of the line that is read next
+fault-number : (s : Layout) (input : InputView) (fault : InputFault) (number : ℕ) → HasFault s input fault number
+    → number ≡ input.lines + 1
+fault-number s input why.Memory number h = absurd h
+fault-number s input why.Read number h = h
+fault-number s input why.Header number h = absurd h
+fault-number s input why.Line number h = h.0
+fault-number s input why.Order number h = h.0
+fault-number s input why.Overflow number h = absurd h
+fault-number s input why.Incomplete number h = h.0
 
-with_rows-at : (cubes : List (List Row)) (inputs : List InputView) (k : ℕ) → length cubes ≡ length inputs
-    → get_or (with_rows cubes inputs) k [] ≡ get_or cubes k [] ++ option_to_list (get_or inputs k nothing_left).row
-with_rows-at [] [] k same = refl
-with_rows-at [] (i ∷ is) k same = absurd (omega (arith, same))
-with_rows-at (c ∷ cs) [] k same = absurd (omega (arith, same))
-with_rows-at (c ∷ cs) (i ∷ is) zero same = refl
-with_rows-at (c ∷ cs) (i ∷ is) (suc k) same = with_rows-at cs is k (omega (arith, same))
+next-number : (s : Layout) (input : InputView) (fault : InputFault) (number : ℕ) → fault ≢ why.Overflow
+    → GoesWrong s input fault number → number ≡ input.lines + 1
+next-number s input why.Memory number other h = absurd h
+next-number s input why.Read number other h = h
+next-number s input why.Header number other h = absurd h
+next-number s input why.Line number other h = h.0
+next-number s input why.Order number other h = h.0
+next-number s input why.Overflow number other h = absurd (other refl)
+next-number s input why.Incomplete number other h = h.0
 
-with_rows-length : (cubes : List (List Row)) (inputs : List InputView) → length cubes ≡ length inputs
-    → length (with_rows cubes inputs) ≡ length inputs
-with_rows-length [] [] same = refl
-with_rows-length [] (i ∷ is) same = absurd (omega (arith, same))
-with_rows-length (c ∷ cs) [] same = absurd (omega (arith, same))
-with_rows-length (c ∷ cs) (i ∷ is) same = ap suc (with_rows-length cs is (omega (arith, same)))
-
--- the row of an input has the key where its line is used
-rows_at-used : (key : Key) (u : Bool) (input : InputView) → IsUse key u input
-    → rows_at key (option_to_list input.row) ≡ used_row u input
-rows_at-used key true input is_use =
-    let one : rows_at key (is_use.0 ∷ []) ≡ is_use.0 ∷ [] = rows_at-all key (is_use.0 ∷ []) (is_use.2, tt) in
-    subst (λ o. rows_at key (option_to_list o) ≡ option_to_list o) (sym is_use.1) one
-rows_at-used key false input is_use = by_row input.row is_use where
-  by_row : (o : Option Row) → IfSome o (λ (r : Row). key_cmp key r.key ≡ Less) → rows_at key (option_to_list o) ≡ []
-  by_row None above = refl
-  by_row (Some r) above = rows_at-none key (r ∷ []) (ap is_eq above, tt)
-
--- the rows with the key that is used are those that are used, where none of the others has it
-rows_at-with_rows : (key : Key) (us : List Bool) (inputs : List InputView) (cubes : List (List Row))
-    → length us ≡ length inputs → length cubes ≡ length inputs → AreUses key us inputs
-    → ((r : Row) → Contains (all_rows cubes) r → is_eq (key_cmp key r.key) ≡ false)
-    → rows_at key (all_rows (with_rows cubes inputs)) ≡ used_rows us inputs
-rows_at-with_rows key [] [] [] same wide uses others = refl
-rows_at-with_rows key [] [] (c ∷ cs) same wide uses others = absurd (omega (arith, wide))
-rows_at-with_rows key [] (i ∷ is) cubes same wide uses others = absurd (omega (arith, same))
-rows_at-with_rows key (u ∷ us) [] cubes same wide uses others = absurd (omega (arith, same))
-rows_at-with_rows key (u ∷ us) (i ∷ is) [] same wide uses others = absurd (omega (arith, wide))
-rows_at-with_rows key (u ∷ us) (i ∷ is) (c ∷ cs) same wide uses others =
-    let has : Row → Bool = λ (r : Row). is_eq (key_cmp key r.key) in
-    let none : rows_at key c ≡ [] = rows_at-none key c
-    (Contains-AllByRecursion (λ (r : Row). is_eq (key_cmp key r.key) ≡ false) c
-    (λ r among. others r (Contains-append_left c (all_rows cs) r among))) in
-    let first : rows_at key (c ++ option_to_list i.row) ≡ used_row u i
-    = filter-append has c (option_to_list i.row) ∙ ap (λ t. t ++ rows_at key (option_to_list i.row)) none
-    ∙ rows_at-used key u i (uses 0) in
-    let rest : rows_at key (all_rows (with_rows cs is)) ≡ used_rows us is
-    = rows_at-with_rows key us is cs (omega (arith, same)) (omega (arith, wide)) (λ k. uses (suc k))
-    (λ r among. others r (Contains-append_right c (all_rows cs) r among)) in
-    filter-append has (c ++ option_to_list i.row) (all_rows (with_rows cs is)) ∙ ap₂ (λ a b. a ++ b) first rest
-
--- of no row nothing is too large
-AreTooLarge-some : (given : List Agg) (rows : List Row) → AreTooLarge given rows → 0 < length rows
-AreTooLarge-some given [] large = absurd (large.too_large (none large.agg)) where
-  none : (agg : Agg) → IsInRange agg []
-  none CountAll = lit< tt
-  none (Count m) = lit< tt
-  none (Sum m) = record { sfits = lit< tt }
-  none (Min m) = tt
-  none (Max m) = tt
-  none (Avg m) = tt
-AreTooLarge-some given (row ∷ rows) large = omega arith
-
--- where the rows that are used are too large together, so are those of the texts that have their key
-IsTooLarge-read : (given : Layout) (wanted : List Agg) (texts starts : List (Option (List ℕ))) (inputs : List InputView)
-    (rows : List Row) → length inputs ≡ length texts
-    → ((k : ℕ) → Consumes (get_or texts k None) (get_or starts k None) (line (header_fields given)))
-    → IsMerging given wanted starts inputs rows → JoinTooLarge given.aggregates inputs → IsTooLarge given texts
-IsTooLarge-read given wanted texts starts inputs rows as_many headed m join =
-    let some = AreTooLarge-some given.aggregates (used_rows join.used inputs) join.too_large in
-    let others : (r : Row) → Contains (all_rows m.cubes) r → is_eq (key_cmp join.key r.key) ≡ false
-    = λ r among. is_eq-above join.key r.key
-    (below-used join.key r.key join.used inputs join.wide join.uses some
-    (m.below r.key ((m.merged.cells r.key).1
-    (map-Contains key_of m.parts r (Contains-permutation (all_rows m.cubes) m.parts r m.drawn among))))) in
-    record {
-      cubes = with_rows m.cubes inputs;
-      as_many = with_rows-length m.cubes inputs m.width ∙ as_many;
-      read = λ k. subst (λ (rs : List Row). BeginsWith given (get_or texts k None) rs)
-          (sym (with_rows-at m.cubes inputs k m.width))
-          (IfSome_then (get_or texts k None)
-          (stands-at given (get_or texts k None) (get_or starts k None) (get_or inputs k nothing_left).left
-          (get_or m.cubes k [] ++ option_to_list (get_or inputs k nothing_left).row)
-          (length (get_or m.cubes k [] ++ option_to_list (get_or inputs k nothing_left).row) + 2) (headed k) (m.gave k)
-          (m.of_schema k) (m.ordered k) refl)
-          (λ t at. (at.0, at.2)));
-      key = join.key;
-      too_large = subst (AreTooLarge given.aggregates)
-          (sym (rows_at-with_rows join.key join.used inputs m.cubes join.wide m.width join.uses others)) join.too_large;
-    }
+header-number : (header : List ℕ) (text : Option (List ℕ)) (fault : InputFault) (number : ℕ)
+    → HasNoHeader header text fault number → number ≡ 1
+header-number header text why.Memory number h = absurd h
+header-number header text why.Read number h = h
+header-number header text why.Header number h = h.0
+header-number header text why.Line number h = absurd h
+header-number header text why.Order number h = absurd h
+header-number header text why.Overflow number h = absurd h
+header-number header text why.Incomplete number h = absurd h
 
 -- what a merge of readers that failed leaves
 module _ {R : Type 0} (remaining : R → Option (List ℕ)) (given wanted : Layout) (readers : List R) where
@@ -556,10 +539,20 @@ module _ {R : Type 0} (remaining : R → Option (List ℕ)) (given wanted : Layo
                 (taken-header remaining (line (header_fields given)) readers inputs taken at.place)
                 (stops.merging.gave at.place) (stops.merging.of_schema at.place) (stops.merging.ordered at.place)
                 at.row fault number at.row_is (stops.merging.counted at.place) at.goes_wrong);
-            too_large = λ is. IsTooLarge-read given wanted.aggregates (map remaining readers)
+            too_large = λ is. subst (λ k. IsTooLarge given (map remaining readers) k number) (sym place_is)
+                (IsTooLarge-read given wanted.aggregates (map remaining readers)
                 (map (λ (i : InputView). i.left) inputs) stops.inputs stops.rows (stops.as_many ∙ as-many inputs taken)
-                (taken-header remaining (line (header_fields given)) readers inputs taken) stops.merging
-                (at.too_large is);
+                (taken-header remaining (line (header_fields given)) readers inputs taken) stops.merging at.key at.used
+                at.wide at.uses at.some at.place at.row at.row_is at.key_is number
+                (subst (λ f. GoesWrong given (get_or stops.inputs at.place nothing_left) f number) is at.goes_wrong)
+                (at.too_large is));
+            first = λ other. subst (λ k. IsMetFirst given (map remaining readers) k number) (sym place_is)
+                (inr (inr (IsReadNext-read given wanted.aggregates (map remaining readers)
+                (map (λ (i : InputView). i.left) inputs) stops.inputs stops.rows (stops.as_many ∙ as-many inputs taken)
+                (taken-header remaining (line (header_fields given)) readers inputs taken) stops.merging at.key at.used
+                at.wide at.uses at.some at.place at.row at.row_is at.key_is number
+                (next-number given (get_or stops.inputs at.place nothing_left) fault number other at.goes_wrong)
+                at.inside (at.came other))));
           },
         )
 
@@ -570,7 +563,7 @@ module _ {R : Type 0} (remaining : R → Option (List ℕ)) (given wanted : Layo
     FailsToMerge-start Aggregates same fails = absurd fails
     FailsToMerge-start (Write total) same fails = absurd fails
     FailsToMerge-start (Input fault input number) same fails =
-        let at = fails.1 in
+        let at = fails.at in
         let header = line (header_fields given) in
         let there = get_or inputs at.place nothing_left in
         let start = get_or (map (λ (i : InputView). i.left) inputs) at.place None in
@@ -590,6 +583,20 @@ module _ {R : Type 0} (remaining : R → Option (List ℕ)) (given wanted : Layo
                 (Gave-none given start there (lefts-at inputs at.place) none) (AreOfSchema-none given there none)
                 (AreInKeyOrder-none there none) fault number lines_is (λ _. refl) at.has_fault);
             too_large = λ is. absurd (subst (λ f. HasFault given there f number) is at.has_fault);
+            first = λ _. subst (λ k. IsMetFirst given (map remaining readers) k number) (sym place_is)
+                (inr (inl (record {
+                  number_is = fault-number given there fault number at.has_fault
+                      ∙ ap (λ n. n + 1) (taken-lines remaining header readers inputs taken at.place);
+                  headers = λ k inside. BeginsWith-header given (get_or (map remaining readers) k None)
+                      (get_or (map (λ (i : InputView). i.left) inputs) k None)
+                      (taken-header remaining header readers inputs taken k);
+                  others = λ k before. CanBeReadTo-first given (get_or (map remaining readers) k None)
+                      (get_or (map (λ (i : InputView). i.left) inputs) k None) (get_or inputs k nothing_left)
+                      (taken-header remaining header readers inputs taken k) (lefts-at inputs k)
+                      (taken-row remaining header readers inputs taken k)
+                      (subst (λ u. CanMove given u (get_or inputs k nothing_left))
+                      (fails.all_used k (omega (arith, before, at.inside))) (at.before k before));
+                })));
           },
         )
 
@@ -632,5 +639,13 @@ module _ {R : Type 0} (remaining : R → Option (List ℕ)) (given wanted : Layo
           too_large = λ is. absurd (subst
               (λ f. HasNoHeader (line (header_fields given)) (get_or (map remaining readers) fails.place None) f number)
               is fails.no_header);
+          first = λ _. subst (λ k. IsMetFirst given (map remaining readers) k number) (sym place_is)
+              (inl (record {
+                number_is = header-number (line (header_fields given)) (get_or (map remaining readers) fails.place None)
+                    fault number fails.no_header;
+                others = λ k before.
+                    let taken = fails.before k before in
+                    BeginsWith-header given (get_or (map remaining readers) k None) taken.0 taken.1;
+              }));
         },
       )

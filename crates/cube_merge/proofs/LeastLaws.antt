@@ -63,7 +63,7 @@ not_below-row : (key : Key) (input : InputView) (row : Row) → input.row ≡ So
     → IsNotBelow key input
 not_below-row key input row is h = subst (λ o. IfSome o (λ (r : Row). key_cmp r.key key ≡ Less → ⊥)) (sym is) h
 
-not_less-self : (key : Key) → key_cmp key key ≡ Less → ⊥
+pub not_less-self : (key : Key) → key_cmp key key ≡ Less → ⊥
 not_less-self key less = let clash : Less ≡ Equal = sym less ∙ key_cmp-refl key in cc
 
 -- past the end of a list

@@ -1,4 +1,5 @@
 mod TotalLaws
+mod SourceLaws
 mod GatherLaws
 mod JointLaws
 pub mod MergedLaws
@@ -8,5 +9,6 @@ mod LineLaws
 mod LeastLaws
 mod LawfulLaws
 mod CubesLaws
+mod FirstLaws
 mod FaultLaws
 mod LackLaws

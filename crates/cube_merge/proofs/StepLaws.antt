@@ -44,7 +44,7 @@ TakesLine-line s old new moved = by_row new.row moved where
   by_row None m = m.0
   by_row (Some row) m = subst (Consumes old.left new.left) (sym (append-nil (row_line s row))) m.0
 
-Gave-Moves : (s : Layout) (start : Option (List ℕ)) (used : Bool) (old new : InputView) (rows : List Row)
+pub Gave-Moves : (s : Layout) (start : Option (List ℕ)) (used : Bool) (old new : InputView) (rows : List Row)
     → Gave s start old rows → Moves s used old new → Gave s start new (rows ++ used_row used old)
 Gave-Moves s start true old new rows gave moved =
     subst (Consumes start new.left)
@@ -66,7 +66,7 @@ last-above (k ∷ keys) last key sorted among = elim (Contains-cases k keys key 
 ]
 
 -- one more row of an input, above the one before
-AreInKeyOrder-Moves : (s : Layout) (used : Bool) (old new : InputView) (rows : List Row) → (old.row ≡ None → rows ≡ [])
+pub AreInKeyOrder-Moves : (s : Layout) (used : Bool) (old new : InputView) (rows : List Row) → (old.row ≡ None → rows ≡ [])
     → AreInKeyOrder old rows → Moves s used old new → AreInKeyOrder new (rows ++ used_row used old)
 AreInKeyOrder-Moves s false old new rows first ordered same =
     subst (λ (input : InputView). AreInKeyOrder input (rows ++ [])) (sym same)
@@ -97,7 +97,7 @@ AreInKeyOrder-Moves s true old new rows first ordered moved = by_row new.row mov
       (sorted-push (map key_of (rows ++ option_to_list old.row)) r.key ordered (under old.row r first ordered m.1))
 
 -- one more row of an input is one of the schema
-AreOfSchema-Moves : (s : Layout) (used : Bool) (old new : InputView) (rows : List Row) → AreOfSchema s old rows
+pub AreOfSchema-Moves : (s : Layout) (used : Bool) (old new : InputView) (rows : List Row) → AreOfSchema s old rows
     → Moves s used old new → AreOfSchema s new (rows ++ used_row used old)
 AreOfSchema-Moves s false old new rows are same =
     subst (λ (input : InputView). AreOfSchema s input (rows ++ [])) (sym same)
@@ -112,7 +112,7 @@ AreOfSchema-Moves s true old new rows are moved =
     by_row (Some r) m = (m.3, tt)
 
 -- an input whose line is used has a row
-used-first : (s : Layout) (key : Key) (used : Bool) (old new : InputView) (rows : List Row) → IsUse key used old
+pub used-first : (s : Layout) (key : Key) (used : Bool) (old new : InputView) (rows : List Row) → IsUse key used old
     → AreInKeyOrder old rows → Moves s used old new → AreInKeyOrder new (rows ++ used_row used old)
 used-first s key true old new rows is_use ordered moved =
     AreInKeyOrder-Moves s true old new rows
@@ -231,7 +231,7 @@ used_row-key key true input is_use =
     subst (λ o. AllByRecursion (λ (r : Row). r.key ≡ key) (option_to_list o)) (sym is_use.1) (is_use.2, tt)
 used_row-key key false input is_use = tt
 
-used_rows-key : (key : Key) (us : List Bool) (inputs : List InputView) → length us ≡ length inputs
+pub used_rows-key : (key : Key) (us : List Bool) (inputs : List InputView) → length us ≡ length inputs
     → AreUses key us inputs → AllByRecursion (λ (r : Row). r.key ≡ key) (used_rows us inputs)
 used_rows-key key [] inputs same uses = tt
 used_rows-key key (u ∷ us) [] same uses = absurd (omega (arith, same))
@@ -254,7 +254,7 @@ below-used key low (false ∷ us) (i ∷ is) same uses some below =
     below-used key low us is (omega (arith, same)) (λ k. uses (suc k)) some (λ k. below (suc k))
 
 -- what is below the key that is used, and that key, is below the rows that come
-below-Moves : (s : Layout) (key low : Key) (u : Bool) (old new : InputView) → (key_cmp low key ≡ Less) ⊎ (low ≡ key)
+pub below-Moves : (s : Layout) (key low : Key) (u : Bool) (old new : InputView) → (key_cmp low key ≡ Less) ⊎ (low ≡ key)
     → IsUse key u old → Moves s u old new → IsBelow low new
 below-Moves s key low false old new under is_use same = subst (IsBelow low) (sym same) (by_row old.row is_use) where
   by_row : (row : Option Row) → IfSome row (λ (r : Row). key_cmp key r.key ≡ Less)
@@ -297,7 +297,7 @@ AreWhole-end s rows (Some row) are may kept = (
 )
 
 -- an input that took no further line gave a whole cube's rows
-IsWhole-Moves : (s : Layout) (used : Bool) (old new : InputView) (rows : List Row) → AreOfSchema s old rows
+pub IsWhole-Moves : (s : Layout) (used : Bool) (old new : InputView) (rows : List Row) → AreOfSchema s old rows
     → (used ≡ false → IsWhole s old rows) → Moves s used old new → IsWhole s new (rows ++ used_row used old)
 IsWhole-Moves s false old new rows are whole same =
     subst (λ (input : InputView). IsWhole s input (rows ++ [])) (sym same)
@@ -314,7 +314,7 @@ told None old bs P c p = tt
 told (Some x) None bs P c p = absurd c
 told (Some x) (Some y) bs P c p = p
 
-ended-Moves : (s : Layout) (start : Option (List ℕ)) (rows : List Row) (u : Bool) (old new : InputView)
+pub ended-Moves : (s : Layout) (start : Option (List ℕ)) (rows : List Row) (u : Bool) (old new : InputView)
     → Gave s start old rows → (u ≡ false → IsEnded start old) → Moves s u old new → IsEnded start new
 ended-Moves s start rows false old new gave ended same = subst (IsEnded start) (sym same) (ended refl)
 ended-Moves s start rows true old new gave ended moved =

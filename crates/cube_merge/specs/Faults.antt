@@ -14,10 +14,10 @@ use Rattle.cube_core.specs.declared.aggregate.Agg.{Agg}
 use Rattle.cube_core.specs.declared.key.Key.{Key}
 use Rattle.cube_core.specs.declared.key.Row.{Row}
 use Rattle.cube_merge.specs.Lawful.{IsLawfulRow}
-use Rattle.cube_merge.specs.Joint.{HasRow, rows_of}
-use Rattle.cube_merge.specs.Merging.{InputView, TookHeaders, AreUses, IsAbove, IsMerging, all_rows, nothing_left}
-use Rattle.cube_merge.specs.Merging.{used_rows}
-use Rattle.cube_merge.specs.Range.{AreTooLarge}
+use Rattle.cube_merge.specs.Joint.{rows_of}
+use Rattle.cube_merge.specs.Merging.{InputView, TookHeaders, AreUses, AreWhole, IsAbove, IsMerging, IsToldTextOf, Moves}
+use Rattle.cube_merge.specs.Merging.{all_rows, nothing_left, used_rows}
+use Rattle.cube_merge.specs.Range.{AreInRange, AreTooLarge}
 use Rattle.cube_merge.specs.NextLine.{next_line}
 use Rattle.cube_merge.specs.declared.fault.InputFault.{InputFault}
 use Rattle.cube_merge.specs.declared.fault.InputFault.TheVariants as why
@@ -72,7 +72,11 @@ abbrev pub FailsToMove : Layout → InputView → InputFault → ℕ → Type 0
 FailsToMove s input why.Memory number = ⊤
 FailsToMove s input fault number = HasFault s input fault number
 
--- an input whose line was used can't take its next one
+-- an input can take its next line, where this one was used
+abbrev pub CanMove : Layout → Bool → InputView → Type 0
+CanMove s used old = (new : InputView) × Moves s used old new
+
+-- an input whose line was used can't take its next one, and those before it can
 pub record HasFaultAt (s : Layout) (used : List Bool) (inputs : List InputView) (fault : InputFault) (input number : ℕ)
     : Type 0 where
   pub place : ℕ
@@ -80,6 +84,7 @@ pub record HasFaultAt (s : Layout) (used : List Bool) (inputs : List InputView) 
   pub inside : place < length inputs
   pub used_is : get_or used place false ≡ true
   pub has_fault : HasFault s (get_or inputs place nothing_left) fault number
+  pub before : (k : ℕ) → k < place → CanMove s (get_or used k false) (get_or inputs k nothing_left)
 
 -- the same, or memory ran out
 abbrev pub FailsToMoveAll : Layout → List Bool → List InputView → MergeFault → Type 0
@@ -88,43 +93,48 @@ FailsToMoveAll s used inputs Aggregates = ⊥
 FailsToMoveAll s used inputs (Input fault input number) = HasFaultAt s used inputs fault input number
 FailsToMoveAll s used inputs (Write sent) = ⊥
 
--- the input of this number, counted from 1, has a row with which a count or a sum is too large
-pub record IsTooLargeAt (inputs : List InputView) (fault : InputFault) (input number : ℕ) : Type 0 where
+-- the input of this number, counted from 1, has one of the rows with which a count or a sum is too large
+pub record IsTooLargeAt (inputs : List InputView) (rows : List Row) (fault : InputFault) (input number : ℕ)
+    : Type 0 where
   pub place : ℕ
+  pub row : Row
   pub fault_is : fault ≡ why.Overflow
   pub input_is : input ≡ place + 1
   pub inside : place < length inputs
-  pub has_row : HasRow (get_or inputs place nothing_left)
+  pub row_is : (get_or inputs place nothing_left).row ≡ Some row
+  pub among : Contains rows row
   pub number_is : number ≡ (get_or inputs place nothing_left).lines
 
 -- the same, or memory ran out
-abbrev pub TellsOverflow : List InputView → MergeFault → Type 0
-TellsOverflow inputs Memory = ⊤
-TellsOverflow inputs Aggregates = ⊥
-TellsOverflow inputs (Input fault input number) = IsTooLargeAt inputs fault input number
-TellsOverflow inputs (Write sent) = ⊥
+abbrev pub TellsOverflow : List InputView → List Row → MergeFault → Type 0
+TellsOverflow inputs rows Memory = ⊤
+TellsOverflow inputs rows Aggregates = ⊥
+TellsOverflow inputs rows (Input fault input number) = IsTooLargeAt inputs rows fault input number
+TellsOverflow inputs rows (Write sent) = ⊥
 
 -- a count or a sum of the rows of the inputs at these places is too large, or memory ran out
 abbrev pub FailsToMake : List Agg → List InputView → List ℕ → MergeFault → Type 0
 FailsToMake given inputs places Memory = ⊤
 FailsToMake given inputs places Aggregates = ⊥
 FailsToMake given inputs places (Input fault input number) =
-    IsTooLargeAt inputs fault input number × AreTooLarge given (rows_of inputs places)
+    IsTooLargeAt inputs (rows_of inputs places) fault input number × AreTooLarge given (rows_of inputs places)
 FailsToMake given inputs places (Write sent) = ⊥
 
--- of the rows of inputs those with some key are too large together
-pub record JoinTooLarge (given : List Agg) (inputs : List InputView) : Type 0 where
+-- of the rows of inputs those with the least key are too large together, and the input of this number has one of them
+pub record JoinTooLarge (given : List Agg) (inputs : List InputView) (fault : InputFault) (input number : ℕ)
+    : Type 0 where
   pub key : Key
   pub used : List Bool
   pub wide : length used ≡ length inputs
   pub uses : AreUses key used inputs
+  pub at : IsTooLargeAt inputs (used_rows used inputs) fault input number
   pub too_large : AreTooLarge given (used_rows used inputs)
 
 -- the same, or memory ran out
 abbrev pub FailsToJoin : List Agg → List InputView → MergeFault → Type 0
 FailsToJoin given inputs Memory = ⊤
 FailsToJoin given inputs Aggregates = ⊥
-FailsToJoin given inputs (Input fault input number) = IsTooLargeAt inputs fault input number × JoinTooLarge given inputs
+FailsToJoin given inputs (Input fault input number) = JoinTooLarge given inputs fault input number
 FailsToJoin given inputs (Write sent) = ⊥
 
 -- an input with a row can't go on: a count or a sum of that row's key is too large, or the next line can't be taken
@@ -132,15 +142,28 @@ abbrev pub GoesWrong : Layout → InputView → InputFault → ℕ → Type 0
 GoesWrong s input why.Overflow number = number ≡ input.lines
 GoesWrong s input fault number = HasFault s input fault number
 
--- the fault of the input of this number, counted from 1, which has a row
+-- of inputs of which some are used the counts and sums are in range, and those before a place can take their next line
+pub record CameToPlace (s : Layout) (used : List Bool) (inputs : List InputView) (place : ℕ) : Type 0 where
+  pub fit : AreInRange s.aggregates (used_rows used inputs)
+  pub before : (k : ℕ) → k < place → CanMove s (get_or used k false) (get_or inputs k nothing_left)
+
+-- the fault of the input of this number, counted from 1, whose row has the least key: the rows with that key are too
+-- large together; or they aren't, the inputs before it can go on, and it can't
 pub record FailsWithRow (s : Layout) (inputs : List InputView) (fault : InputFault) (input number : ℕ) : Type 0 where
+  pub key : Key
+  pub used : List Bool
+  pub wide : length used ≡ length inputs
+  pub uses : AreUses key used inputs
+  pub some : 0 < length (used_rows used inputs)
   pub place : ℕ
   pub row : Row
   pub input_is : input ≡ place + 1
   pub inside : place < length inputs
   pub row_is : (get_or inputs place nothing_left).row ≡ Some row
+  pub key_is : row.key ≡ key
   pub goes_wrong : GoesWrong s (get_or inputs place nothing_left) fault number
-  pub too_large : fault ≡ why.Overflow → JoinTooLarge s.aggregates inputs
+  pub too_large : fault ≡ why.Overflow → AreTooLarge s.aggregates (used_rows used inputs)
+  pub came : fault ≢ why.Overflow → CameToPlace s used inputs place
 
 -- the next merged row couldn't be put, or an input that had a row couldn't take its next line
 abbrev pub StepFails : Layout → List InputView → MergeFault → Type 0
@@ -213,21 +236,78 @@ ExplainsFault s why.Incomplete number text = IsIncomplete s number text
 abbrev pub BeginsWith : Layout → Option (List ℕ) → List Row → Type 0
 BeginsWith s text rows = IfSome text (λ known. (rest : List ℕ) × SplitsAt s known rows rest (length rows + 2))
 
--- of the rows that were read of texts a count or a sum of those with some key is too large
-pub record IsTooLarge (s : Layout) (texts : List (Option (List ℕ))) : Type 0 where
-  pub cubes : List (List Row)
+-- a text is all of a whole cube: the header line and the lines of these rows, where it is told
+abbrev pub IsWholeText : Layout → Option (List ℕ) → List Row → Type 0
+IsWholeText s text rows = IsToldTextOf s text rows × AreWhole s rows
+
+-- the last of rows has such a key
+abbrev pub EndsWith : (Key → Type 0) → List Row → Type 0
+EndsWith Is rows = (before : List Row) × (last : Row) × (rows ≡ before ++ last ∷ []) × Is last.key
+
+-- a text begins with the lines of these rows, which are all that it has, or of which the last has such a key
+abbrev pub IsReadTo : Layout → (Key → Type 0) → Option (List ℕ) → List Row → Type 0
+IsReadTo s Is text rows = BeginsWith s text rows × (IsWholeText s text rows ⊎ EndsWith Is rows)
+
+-- a text could be read so far
+abbrev pub CanBeReadTo : Layout → (Key → Type 0) → Option (List ℕ) → Type 0
+CanBeReadTo s Is text = (rows : List Row) × IsReadTo s Is text rows
+
+-- no fault was met before the rows with this key were merged: these are the first rows of each text, at least to that
+-- key, and no count and no sum of those with a lesser key is too large
+pub record CameTo (s : Layout) (texts : List (Option (List ℕ))) (key : Key) (cubes : List (List Row)) : Type 0 where
   pub as_many : length cubes ≡ length texts
-  pub read : (k : ℕ) → BeginsWith s (get_or texts k None) (get_or cubes k [])
+  pub read : (k : ℕ) → k < length texts
+      → IsReadTo s (λ last. key_cmp last key ≢ Less) (get_or texts k None) (get_or cubes k [])
+  pub fit : (lesser : Key) → key_cmp lesser key ≡ Less → AreInRange s.aggregates (rows_at lesser (all_rows cubes))
+
+-- the last of rows has this key, and its line is the record of this number
+abbrev pub EndsAtRecord : Key → ℕ → List Row → Type 0
+EndsAtRecord key number rows =
+    (before : List Row) × (last : Row) × (rows ≡ before ++ last ∷ []) × (last.key ≡ key) × (number ≡ length before + 2)
+
+-- the rows of all texts with some key, the least of those that aren't merged, are too large together,
+-- and the record of this number of the text at a place has that key
+pub record IsTooLarge (s : Layout) (texts : List (Option (List ℕ))) (place number : ℕ) : Type 0 where
+  pub cubes : List (List Row)
   pub key : Key
+  pub came : CameTo s texts key cubes
+  pub record_is : EndsAtRecord key number (get_or cubes place [])
   pub too_large : AreTooLarge s.aggregates (rows_at key (all_rows cubes))
 
--- the input of this number, counted from 1, has a fault at a record
+-- the record of this number of the text at a place is read next: it is behind that of a row with some key,
+-- the rows with that key can be merged, and the texts before it can be read past it
+pub record IsReadNext (s : Layout) (texts : List (Option (List ℕ))) (place number : ℕ) : Type 0 where
+  pub cubes : List (List Row)
+  pub key : Key
+  pub came : CameTo s texts key cubes
+  pub row_before : (before : ℕ) × (number ≡ before + 1) × EndsAtRecord key before (get_or cubes place [])
+  pub fit : AreInRange s.aggregates (rows_at key (all_rows cubes))
+  pub others : (k : ℕ) → k < place → CanBeReadTo s (λ last. key_cmp key last ≡ Less) (get_or texts k None)
+
+-- the first row of the text at a place is read next: each text has the header, and those before it can be read on
+pub record IsFirstRowNext (s : Layout) (texts : List (Option (List ℕ))) (place number : ℕ) : Type 0 where
+  pub number_is : number ≡ 2
+  pub headers : (k : ℕ) → k < length texts → BeginsWith s (get_or texts k None) []
+  pub others : (k : ℕ) → k < place → CanBeReadTo s (λ _. ⊤) (get_or texts k None)
+
+-- the header of the text at a place is read next: those before it have theirs
+pub record IsHeaderNext (s : Layout) (texts : List (Option (List ℕ))) (place number : ℕ) : Type 0 where
+  pub number_is : number ≡ 1
+  pub others : (k : ℕ) → k < place → BeginsWith s (get_or texts k None) []
+
+-- no fault was met before the record of this number of the text at a place was read
+abbrev pub IsMetFirst : Layout → List (Option (List ℕ)) → ℕ → ℕ → Type 0
+IsMetFirst s texts place number =
+    IsHeaderNext s texts place number ⊎ (IsFirstRowNext s texts place number ⊎ IsReadNext s texts place number)
+
+-- the input of this number, counted from 1, has a fault at a record, and no fault was met before
 pub record InputFails (s : Layout) (texts : List (Option (List ℕ))) (fault : InputFault) (input number : ℕ)
     : Type 0 where
   pub from_one : 1 ≤ input
   pub within : input ≤ length texts
   pub explains : IfSome (get_or texts (input - 1) None) (ExplainsFault s fault number)
-  pub too_large : fault ≡ why.Overflow → IsTooLarge s texts
+  pub too_large : fault ≡ why.Overflow → IsTooLarge s texts (input - 1) number
+  pub first : fault ≢ why.Overflow → IsMetFirst s texts (input - 1) number
 
 -- what was written is the first bytes, so many, of the text of the rows that were merged of inputs so far;
 -- each input took the header of its text, and began with what was left
@@ -290,11 +370,17 @@ RestFails given wanted inputs fault old new =
     (starts : List (Option (List ℕ))) → IsMerging given wanted.aggregates starts inputs []
     → FailsAfter given wanted starts (length inputs) fault old new
 
--- an input whose header was taken couldn't take its first line, or memory ran out
+-- of inputs whose headers were taken one couldn't take its first line, and those before it could
+pub record FirstLineFails (s : Layout) (inputs : List InputView) (fault : InputFault) (input number : ℕ) : Type 0 where
+  pub used : List Bool
+  pub all_used : (k : ℕ) → k < length inputs → get_or used k false ≡ true
+  pub at : HasFaultAt s used inputs fault input number
+
+-- the same, or memory ran out
 abbrev pub FailsAtFirstLine : Layout → List InputView → MergeFault → Type 0
 FailsAtFirstLine s inputs Memory = ⊤
 FailsAtFirstLine s inputs Aggregates = ⊥
-FailsAtFirstLine s inputs (Input fault input number) = (used : List Bool) × HasFaultAt s used inputs fault input number
+FailsAtFirstLine s inputs (Input fault input number) = FirstLineFails s inputs fault input number
 FailsAtFirstLine s inputs (Write sent) = ⊥
 
 -- the same, from inputs that took the header alone; where the first lines couldn't be taken, nothing was written
@@ -321,13 +407,14 @@ FailsToOpen header place text Aggregates = ⊥
 FailsToOpen header place text (Input fault input number) = (input ≡ place + 1) × HasNoHeader header text fault number
 FailsToOpen header place text (Write sent) = ⊥
 
--- one of many texts has a header line that couldn't be taken
+-- one of many texts has a header line that couldn't be taken, and those before it begin with theirs
 pub record IsNotOpened (header : List ℕ) (texts : List (Option (List ℕ))) (fault : InputFault) (input number : ℕ)
     : Type 0 where
   pub place : ℕ
   pub input_is : input ≡ place + 1
   pub inside : place < length texts
   pub no_header : HasNoHeader header (get_or texts place None) fault number
+  pub before : (k : ℕ) → k < place → (left : Option (List ℕ)) × Consumes (get_or texts k None) left header
 
 -- the same, or memory ran out
 abbrev pub FailsToOpenAll : List ℕ → List (Option (List ℕ)) → MergeFault → Type 0

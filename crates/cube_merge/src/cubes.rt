@@ -1,21 +1,20 @@
 //! The merge of printed cubes from readers into a writer.
-ghost use Rattle.std.specs.Prelude.{◌≡◌, ◌<◌, ◌≤◌, ◌+◌, ◌++◌, [], ℕ, List, Some, true, false, IfErr, IfOk, IfSome, OnOk, length, map, get_or};
-ghost use Rattle.std.specs.List.{AllZip};
+ghost use Rattle.std.specs.Prelude.{◌≡◌, ◌<◌, ◌≤◌, ◌+◌, ◌++◌, [], ℕ, List, Err, Some, true, false, IfErr, IfOk, IfSome, OnOk, length, map, get_or};
+ghost use Rattle.std.specs.List.{AllZip, list_all};
 ghost use Rattle.std.specs.Io.KnownBytes.{Appends};
 ghost use Rattle.cube_core.specs.Text.{text_of_rows};
 ghost use Rattle.cube_merge.specs.Front.{AreAbove, AreUnused, IsInFront};
-ghost use Rattle.cube_merge.specs.Source.{IsSourceOf, TellsLack};
+ghost use Rattle.cube_merge.specs.Source.{IsSourceOf, TellsLack, can_be_made};
 ghost use Rattle.cube_merge.specs.Faults.{FailsToMerge, FailsToOpen, FailsToOpenAll, FailsToSend, InputsFail, RestFails, StepFails};
 ghost use Rattle.cube_merge.specs.Merging.{TookHeader, IsLeastSoFar, IsMergeOf, MergesInputs, MergesRest, PutsNext, PutsRow};
 
 use crate::fault::MergeFault;
 use crate::front::Front;
 use crate::input::Input;
-use crate::source::{Source, sources_of};
+use crate::source::{Source, can_all_be_made, sources_of};
 use crate::step::{Joint, fault_of, join_rows, move_inputs, put_answers};
 use cube_core::{Answer, Row, Schema};
-use cube_writing::write_whole;
-use merge_lines::{push_header, push_line};
+use cube_lines::{push_header, push_line, write_whole};
 use std::alloc::{AllocError, Global};
 use std::io::{Read, Write};
 
@@ -35,7 +34,7 @@ struct Desk {
 /// and the same digits behind the point of each measure.
 ///
 /// Each aggregate of the wanted schema is one of the given schema's, or a mean whose sum and count are; else the fault is
-/// `Aggregates`. One line of each input is in memory.
+/// `Aggregates`, whatever else is wrong. One line of each input is in memory.
 ///
 /// What was written before a fault was met stays written: it is the first bytes of the text of the rows that were merged
 /// so far, as many as the fault says where the writer failed. The fault that is told is the one met first, where each step
@@ -53,7 +52,12 @@ pub fn merge<R: Read + Drop, W: Write>(
     ensures err { IfErr result (λ fault. FailsToMerge given.now wanted.now (map R.remaining readers.items)
         fault (W.contents w.old) (W.contents w.new)) }
     ensures lacks { IfErr result (TellsLack given.now.aggregates wanted.now.aggregates) }
+    ensures refused { list_all (can_be_made given.now.aggregates) wanted.now.aggregates ≡ false →
+        result ≡ Err MergeFault.Aggregates }
 {
+    if !can_all_be_made(given.aggregates(), wanted.aggregates()) {
+        return Err(MergeFault::Aggregates);
+    }
     let Some(sources) = sources_of(alloc, given.aggregates(), wanted.aggregates())? else {
         return Err(MergeFault::Aggregates);
     };

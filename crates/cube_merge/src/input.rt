@@ -5,13 +5,13 @@ ghost use Rattle.std.specs.Io.KnownBytes.{Consumes};
 ghost use Rattle.cube_core.specs.GroupingSet.{is_all_coord};
 ghost use Rattle.cube_merge.specs.Faults.{FailsToMove, FailsToTakeHeader};
 ghost use Rattle.cube_merge.specs.Merging.{TakesLine, IsAbove, MayEnd, Moves};
-ghost use Rattle.merge_lines.specs.Parts.{key_parts};
+ghost use Rattle.cube_lines.specs.Parts.{key_parts};
 
 use crate::fault::InputFault;
 use crate::lawful::{Laws, is_total};
 use crate::read::{read_line, read_row};
 use cube_core::{Row, Schema};
-use merge_lines::empty_row;
+use cube_lines::empty_row;
 use std::alloc::Global;
 use std::cmp::Ordering;
 use std::io::{BufReader, Read};
@@ -35,7 +35,7 @@ impl<R: Read> Model for Input<R> {
     ghost use Rattle.std.specs.Prelude.{◌≡◌, IfSome, take};
     ghost use Rattle.std.specs.Io.Buffered.{reader_remaining};
     ghost use Rattle.cube_merge.specs.Merging.{InputView};
-    ghost use Rattle.merge_lines.specs.Parts.{key_parts};
+    ghost use Rattle.cube_lines.specs.Parts.{key_parts};
 
     ghost Value = { InputView };
 

@@ -1,17 +1,18 @@
 //! Lines of a printed cube, read strictly: a line is that of a row where the row's printed line is this very line.
-ghost use Rattle.std.specs.Prelude.{◌≡◌, ◌≤◌, ◌∷◌, [], ◌++◌, ℕ, List, drop, length, IfErr, IfOk, IfSome, OnOk, take, true};
+ghost use Rattle.std.specs.Prelude.{◌≡◌, ◌≢◌, ◌≤◌, ◌∷◌, [], ◌++◌, ℕ, List, drop, length, IfErr, IfOk, IfSome, OnOk, take, true};
+ghost use Rattle.std.specs.IoError.{error_kind};
 ghost use Rattle.std.specs.Io.KnownBytes.{Consumes, IsAtEnd};
 ghost use Rattle.std.specs.Io.Buffered.{reader_remaining};
 ghost use Rattle.cube_core.specs.Text.{row_line};
 ghost use Rattle.cube_merge.specs.Faults.{IsReadFault};
 ghost use Rattle.cube_merge.specs.Lawful.{IsLawfulRow};
-ghost use Rattle.merge_lines.specs.Parts.{key_parts};
+ghost use Rattle.cube_lines.specs.Parts.{key_parts};
 ghost use Rattle.cube_merge.specs.NextLine.{IsNextLine, is_quoted_after, is_quoted_behind};
 
 use crate::fault::InputFault;
 use crate::lawful::{Laws, is_lawful};
 use cube_core::{Row, Schema};
-use merge_lines::parse_row;
+use cube_lines::parse_row;
 use std::alloc::{AllocError, Global};
 use std::io;
 use std::io::{BufRead, BufReader, ErrorKind, Read};
@@ -107,8 +108,11 @@ fn is_quoted_behind(is_quoted: bool, byte: u8) -> bool
     is_quoted != (byte == b'"')
 }
 
+// What an error of a reader is told as.
 fn read_fault(error: &io::Error) -> InputFault
-    ensures { IsReadFault result }
+    ensures memory { error_kind error.now ≡ ErrorKind.OutOfMemory → result ≡ InputFault.Memory }
+    ensures other { error_kind error.now ≢ ErrorKind.OutOfMemory → result ≡ InputFault.Read }
+    ensures fault { IsReadFault result }
 {
     match error.kind() {
         ErrorKind::OutOfMemory => InputFault::Memory,

@@ -21,6 +21,27 @@ pub(crate) enum Source {
     Mean { sums: usize, counts: usize },
 }
 
+/// Whether answers to each wanted aggregate can be made of those to the given ones.
+pub(crate) fn can_all_be_made(given: &[Agg], wanted: &[Agg]) -> bool
+    ensures { result ≡ list_all (can_be_made given.now) wanted.now }
+{
+    for aggregate in wanted {
+        if !can_be_made(given, aggregate) {
+            return false;
+        }
+    }
+    true
+}
+
+fn can_be_made(given: &[Agg], wanted: &Agg) -> bool
+    ensures { result ≡ can_be_made given.now wanted.now }
+{
+    match source_of(given, wanted) {
+        Some(_) => true,
+        None => false,
+    }
+}
+
 /// The source of each wanted aggregate among the given ones; None where one has none.
 pub(crate) fn sources_of(
     alloc: Global,

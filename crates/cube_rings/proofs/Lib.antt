@@ -8,3 +8,4 @@ pub mod TakeLaws
 mod JoinedLaws
 mod ShareLaws
 mod KeepLaws
+mod DrainLaws

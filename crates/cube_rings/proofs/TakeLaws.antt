@@ -81,7 +81,7 @@ stops-fault s (Some bytes) items (OpenQuote number) stops =
 -- ---- what an end says of the links of its source
 
 -- the parcels of some items, where those of others follow, are the parcels of these items
-parcels_of-front : (xs ys : List Item) (rest : List Parcel) → parcels_of xs ++ rest ≡ parcels_of ys → xs ≡ ys
+pub parcels_of-front : (xs ys : List Item) (rest : List Parcel) → parcels_of xs ++ rest ≡ parcels_of ys → xs ≡ ys
 parcels_of-front [] [] rest e = refl
 parcels_of-front [] (y ∷ ys) rest e = cc
 parcels_of-front (x ∷ xs) [] rest e = cc

@@ -1,8 +1,10 @@
 -- The receipts of the feeders' links, held against what the builders received (this project's choice).
-use Rattle.std.specs.Prelude.{◌≡◌, ◌<◌, ℕ, Bool, false, List, [], ◌++◌, length, map, slice_index_or, Option, None}
-use Rattle.std.specs.Prelude.{IfSome}
+use Rattle.std.specs.Prelude.{◌≡◌, ◌<◌, ℕ, Bool, true, false, List, [], ◌++◌, length, map, slice_index_or, Option}
+use Rattle.std.specs.Prelude.{None, IfSome}
 use Rattle.std.specs.List.{All}
+use Rattle.cube_core.specs.declared.change.Item.{Item}
 use Rattle.cube_rings.specs.Link.{Sending, Receiving}
+use Rattle.cube_rings.specs.Parcels.{parcels_of}
 use Rattle.cube_rings.specs.declared.fault.FeedingFault.{FeedingFault}
 use Rattle.cube_rings.specs.declared.fault.FeedingFault.TheVariants as feeding_fault
 use Rattle.cube_rings.specs.Ends.{HasNoStop, IsFirstStop, IsSealed, IsFirstUnsealed}
@@ -59,14 +61,34 @@ AllFitLinks ends received = (j : ℕ) → j < length received → FitLinks j end
 abbrev pub AllBegin : List FeederEnd → List (List (Sending Parcel)) → Type 0
 AllBegin ends received = (j : ℕ) → j < length received → BeginReceipts j ends (slice_index_or received j [])
 
+-- where the receipt names a line for each of some items and then the end, and such an end was received, the link is
+-- drained: what was received is all that the receipt names
+abbrev pub IsDrainedBy : Sending Parcel → Sending Parcel → Type 0
+IsDrainedBy received receipt =
+    (came sent : List Item) → received.sent ≡ parcels_of came → receipt.sent ≡ parcels_of sent
+    → received.sent ≡ receipt.sent
+
+-- each link of every builder that gave its end is drained, by its receipt
+abbrev pub AllDrained : List FeederEnd → List (List (Sending Parcel)) → Type 0
+AllDrained ends received =
+    (j : ℕ) → j < length received → (k : ℕ) (e : FeederEnd) (d : Sending Parcel) → k < length ends
+    → IfSome (receipt_of (slice_index_or ends k e) j) (IsDrainedBy (slice_index_or (slice_index_or received j []) k d))
+
 -- no feeder stopped, no builder wanted memory, and every receipt was given;
--- what was received is how what they name begins
+-- what was received is how what they name begins, and all of it where the link gave its end
 pub record SettlesBuilders {B : Type 0} (ends : List FeederEnd) (old new : List (Gatherer B)) : Type 0 where
   pub good : All HasNoStop ends
   pub enough : All (λ gatherer. gatherer.wanting ≡ false) old
   pub sealed : All (IsSealed (length old)) ends
   pub begin : AllBegin ends (map received_by old)
+  pub drained : AllDrained ends (map received_by old)
   pub kept : map kept_of new ≡ map kept_of old
+
+-- memory ran out for one of these builders
+pub record IsOneWanting {B : Type 0} (gatherers : List (Gatherer B)) : Type 0 where
+  pub place : ℕ
+  pub within : place < length gatherers
+  pub is : (d : Gatherer B) → (slice_index_or gatherers place d).wanting ≡ true
 
 -- why builders aren't settled: the lowest stop, else that memory ran out, else the lowest source without a receipt
 abbrev pub StopsFeeding : ℕ → List FeederEnd → FeedingFault → Type 0

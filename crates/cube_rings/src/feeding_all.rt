@@ -22,10 +22,10 @@ use std::thread::Threads;
 /// links, in their order; `capacity` is the room of each link, 1 to 65536 parcels.
 ///
 /// Each feeder runs on a thread of its own, the first builder on the caller's, and each other on its own. On Ok every
-/// feed is good, the builders have all taken the same items of them, and of each link all that its receipt names was
-/// received. The first fault that holds is the answer: `Memory` or `NoThread`, where no record was read; `Feed` of the
-/// lowest source whose feed is at fault; `Full` where memory ran out for a builder; `Unsealed` of the lowest source
-/// that lacks a receipt.
+/// feed is good, the builders have all taken the same items of them, and from each link came a line for each item of its
+/// source's feed, and then the end. The first fault that holds is the answer: `Memory` or `NoThread`, where no record was
+/// read; `Feed` of the lowest source whose feed is at fault; `Full` where memory ran out for a builder; `Unsealed` of the
+/// lowest source that lacks a receipt.
 pub fn feed_all<
     T: Threads + Wait + Sync,
     R: Read + Drop + Send,

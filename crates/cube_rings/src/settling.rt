@@ -1,8 +1,8 @@
 //! Holding the receipts of the feeders' links against what the builders received.
-ghost use Rattle.std.specs.Prelude.{◌≡◌, ◌≤◌, ◌<◌, false, map, vec_len, length, IfOk, IfErr, IfSome, IsFalse};
+ghost use Rattle.std.specs.Prelude.{◌≡◌, ◌≤◌, ◌<◌, false, map, vec_len, length, IfOk, IfErr, IfSome, IsErrOf, IsFalse, IsTrue};
 ghost use Rattle.std.specs.List.{All};
 ghost use Rattle.cube_rings.specs.Ends.{HasNoStop};
-ghost use Rattle.cube_rings.specs.Settling.{received_on, received_by, kept_of, receipt_of, IsOfLink, Begins, FitLinks, BeginReceipts, AllFitLinks, AllBegin, SettlesBuilders, StopsFeeding};
+ghost use Rattle.cube_rings.specs.Settling.{received_on, received_by, kept_of, receipt_of, IsOfLink, Begins, FitLinks, IsOneWanting, BeginReceipts, AllFitLinks, AllBegin, SettlesBuilders, StopsFeeding};
 
 use crate::ends::first_unsealed;
 use crate::fault::FeedingFault;
@@ -53,7 +53,8 @@ fn hold_all<B: Drop>(ends: Vec<FeederEnd>, gatherers: Vec<Gatherer<B>>) -> Vec<G
 
 // Whether memory ran out for a builder.
 fn is_wanting<B: Drop>(gatherers: &[Gatherer<B>]) -> bool
-    ensures { IsFalse result → All (λ gatherer. gatherer.wanting ≡ false) gatherers.now }
+    ensures none { IsFalse result → All (λ gatherer. gatherer.wanting ≡ false) gatherers.now }
+    ensures some { IsTrue result → IsOneWanting gatherers.now }
 {
     for gatherer in gatherers {
         if gatherer.wanting {
@@ -78,6 +79,7 @@ pub fn settle<B: Drop>(
     requires good { All HasNoStop ends.items }
     ensures ok { IfOk result (λ settled. SettlesBuilders ends.items gatherers.items settled.items) }
     ensures err { IfErr result (StopsFeeding (vec_len gatherers) ends.items) }
+    ensures full { IsErrOf result FeedingFault.Full → IsOneWanting gatherers.items }
 {
     if is_wanting(&gatherers) {
         return Err(FeedingFault::Full);

@@ -1,5 +1,5 @@
 -- What a question over feeds and a store writes and leaves, from where the feeds and the store were taken.
-use Rattle.std.proofs.Common.{◌≡◌, ◌≢◌, inl, inr, ℕ, List, [], ◌++◌, take, refl, sym, ap, ◌∙◌, subst, arith}
+use Rattle.std.proofs.Common.{◌≡◌, ◌≢◌, inl, inr, ℕ, Bool, List, [], ◌++◌, take, refl, sym, ap, ◌∙◌, subst, arith}
 use Rattle.std.specs.Prelude.{Option, Some, None}
 use Rattle.std.proofs.lemmas.List.{append-nil, take_all}
 use Rattle.sqlite_trees.specs.Tree.{Trees}
@@ -9,6 +9,8 @@ use Rattle.cube_core.specs.Conditions.{of_interest}
 use Rattle.cube_core.specs.Layout.{Layout}
 use Rattle.cube_core.specs.Query.{drill_fault}
 use Rattle.cube_core.specs.Run.{SourceBytes}
+use Rattle.cube_core.specs.declared.fact.Fact.{Fact}
+use Rattle.cube_core.specs.declared.change.Refusal.{Refusal}
 use Rattle.cube_core.specs.declared.query.QueryFault.{QueryFault}
 use Rattle.cube_core.specs.declared.query.QueryFault.TheVariants.{Memory}
 use Rattle.cube_ledger.specs.Ledger.{LedgerView, all_facts, refusal}
@@ -22,10 +24,12 @@ use Rattle.cube_live.specs.Live.{IsLive, LiveStandsAt, LiveView}
 use Rattle.cube_live.specs.Opening.{OpensOver}
 use Rattle.cube_store.specs.Keeping.{Batch, HasKept}
 use Rattle.cube_store_commands.specs.Replay.{PassesLast, TakesStored, arrivals_from}
-use Rattle.cube_store_commands.specs.Serving.{ExplainsResume, stored_fault_of}
+use Rattle.cube_store.specs.Codes.{TellsFailedCall}
+use Rattle.cube_store.specs.declared.store_fault.StoreFault.{StoreFault}
+use Rattle.cube_store_commands.specs.Serving.{ExplainsResume, IfUntaken, stored_fault_of}
 use Rattle.cube_store_commands.specs.declared.session.ResumeFault.{ResumeFault}
 use Rattle.cube_store_commands.specs.declared.session.ResumeFault.TheVariants as resume
-use Rattle.cube_store_commands.specs.Stored.{failure_of}
+use Rattle.cube_store_commands.specs.Stored.{FailsUnwritten, IfStoreRefused, LeavesUnwritten, failure_of}
 use Rattle.cube_store_commands.proofs.ReplayLaws.{LeadsTo-schema, LeadsTo-stands}
 use Rattle.cube_tool.proofs.RunLaws.{Done-MayAnswer, IsTextOn-Tells, StandsUnder, Wrote-weaker, WroteFirst-weaker}
 use Rattle.cube_tool.proofs.RunLaws.{refused-under}
@@ -292,3 +296,76 @@ module _ (s : Layout) (sources : SourceBytes) (was : View) (before after : LiveV
       leaves-of terms question failure old new
       (subst (λ (l : Layout). FailsAt terms question l there failure old new) same
       (fails there stands (subst (λ (l : Layout). Fits l question) (sym same) fits)))
+
+-- ---- what was written, whatever the disk did
+
+-- nothing where the feeds weren't taken
+pub FailsUnwritten-unopened : (why : FeedingFault) (old : Option (List ℕ))
+    → FailsUnwritten (Run (fault_of_feeding why)) old old
+FailsUnwritten-unopened feeding_fault.Memory old = refl
+FailsUnwritten-unopened feeding_fault.NoThread old = refl
+FailsUnwritten-unopened (feeding_fault.Feed source fault) old = refl
+FailsUnwritten-unopened feeding_fault.Full old = refl
+FailsUnwritten-unopened (feeding_fault.Unsealed source) old = refl
+
+-- nor where the store wasn't
+pub LeavesUnwritten-refused : (fault : ResumeFault) (old : Option (List ℕ))
+    → LeavesUnwritten (failure_of (stored_fault_of fault)) old old
+LeavesUnwritten-refused (resume.Store fault) old = refl
+LeavesUnwritten-refused (resume.TooMany source) old = refl
+
+-- nor where the question wasn't answered, but by a failed write
+FailsUnwritten-fails : (is_strict : Bool) (question : Question) (s : Layout) (facts : List Fact)
+    (refusals : List (List Refusal)) (failure : Failure) (old new : Option (List ℕ))
+    → FailsOn is_strict question s facts refusals failure old new → FailsUnwritten failure old new
+FailsUnwritten-fails is_strict question s facts refusals (LineRefused source number code) old new fails = fails.0
+FailsUnwritten-fails is_strict question s facts refusals (Query fault) old new fails = fails.0
+FailsUnwritten-fails is_strict question s facts refusals (Run run_fault.Full) old new fails = fails
+FailsUnwritten-fails is_strict question s facts refusals (Run (run_fault.Write sent)) old new fails = tt
+FailsUnwritten-fails is_strict question s facts refusals (Run run_fault.Memory) old new fails = absurd fails
+FailsUnwritten-fails is_strict question s facts refusals (Run run_fault.NoThread) old new fails = absurd fails
+FailsUnwritten-fails is_strict question s facts refusals (Run (run_fault.Feed source fault)) old new fails =
+    absurd fails
+FailsUnwritten-fails is_strict question s facts refusals (Run (run_fault.Unsealed source)) old new fails =
+    absurd fails
+FailsUnwritten-fails is_strict question s facts refusals Unreadable old new fails = absurd fails
+FailsUnwritten-fails is_strict question s facts refusals (Schema fault) old new fails = absurd fails
+FailsUnwritten-fails is_strict question s facts refusals TooManyFeeds old new fails = absurd fails
+FailsUnwritten-fails is_strict question s facts refusals InputTaken old new fails = absurd fails
+FailsUnwritten-fails is_strict question s facts refusals NoRandomKey old new fails = absurd fails
+FailsUnwritten-fails is_strict question s facts refusals (FeedUnreadable source) old new fails = absurd fails
+FailsUnwritten-fails is_strict question s facts refusals UnknownCode old new fails = absurd fails
+FailsUnwritten-fails is_strict question s facts refusals (Session fault) old new fails = absurd fails
+FailsUnwritten-fails is_strict question s facts refusals TooManyCubes old new fails = absurd fails
+FailsUnwritten-fails is_strict question s facts refusals (SamePath input) old new fails = absurd fails
+FailsUnwritten-fails is_strict question s facts refusals (Merge fault) old new fails = absurd fails
+
+pub FailsUnwritten-told : (terms : Terms) (question : Question) (cube : LiveView) (failure told : Failure)
+    (old new : Option (List ℕ)) → IsToldAs failure told
+    → FailsOn terms.is_strict question cube.schema
+    (of_interest terms.conditions.items (all_facts cube.ledger.accounts)) (refusals_of_accounts cube.ledger.accounts)
+    failure old new
+    → FailsUnwritten told old new
+FailsUnwritten-told terms question cube failure told old new (inl memory) fails =
+    let forgone = subst (λ (f : Failure). FailsOn terms.is_strict question cube.schema
+    (of_interest terms.conditions.items (all_facts cube.ledger.accounts)) (refusals_of_accounts cube.ledger.accounts)
+    f old new) memory.0 fails in
+    subst (λ (f : Failure). FailsUnwritten f old new) (sym memory.1) forgone.0
+FailsUnwritten-told terms question cube failure told old new (inr same) fails =
+    subst (λ (f : Failure). FailsUnwritten f old new) (sym same.1)
+    (FailsUnwritten-fails terms.is_strict question cube.schema
+    (of_interest terms.conditions.items (all_facts cube.ledger.accounts)) (refusals_of_accounts cube.ledger.accounts)
+    failure old new fails)
+
+-- ---- what is told of a store that wasn't taken
+
+pub IfStoreRefused-untaken : (holds : StoreFault → Type 0) (fault : ResumeFault) → IfUntaken holds fault
+    → IfStoreRefused holds (failure_of (stored_fault_of fault))
+IfStoreRefused-untaken holds (resume.Store fault) is = is
+IfStoreRefused-untaken holds (resume.TooMany source) is = tt
+
+pub IfStoreRefused-explains : (live : LiveView) (was : View) (taken : Type 0) (fault : ResumeFault)
+    → ExplainsResume live was taken fault → taken
+    → IfStoreRefused TellsFailedCall (failure_of (stored_fault_of fault))
+IfStoreRefused-explains live was taken (resume.Store fault) explains may = explains may
+IfStoreRefused-explains live was taken (resume.TooMany source) explains may = tt

@@ -1,5 +1,5 @@
 -- Where a cube stands after stored changes.
-use Rattle.std.proofs.Common.{◌≡◌, ◌∙◌, ◌⊎◌, inl, inr, ℕ, [], ◌∷◌, List, false, refl, sym, ap, subst}
+use Rattle.std.proofs.Common.{◌≡◌, ◌∙◌, inl, inr, ℕ, [], ◌∷◌, List, false, refl, sym, ap, subst}
 use Rattle.std.specs.Prelude.{None, Some, Option, unwrap_or}
 use Rattle.std.specs.Option.{is_some}
 use Rattle.cube_core.specs.Arrival.{Arrivals, of_source}

@@ -1,5 +1,5 @@
 -- What a session over feeds and a store writes and leaves, from where it was opened.
-use Rattle.std.proofs.Common.{◌≡◌, ℕ, List, length, take, ap, ◌∙◌, subst, arith}
+use Rattle.std.proofs.Common.{◌≡◌, ℕ, List, length, take, refl, ap, ◌∙◌, subst, arith}
 use Rattle.std.specs.Prelude.{Option, Some, None, IfSome}
 use Rattle.std.proofs.lemmas.List.{take_all}
 use Rattle.sqlite_trees.specs.Tree.{Trees}
@@ -15,7 +15,13 @@ use Rattle.cube_live.specs.Opening.{OpensOver}
 use Rattle.cube_live.specs.Session.{AreReplies, arrivals_after}
 use Rattle.cube_live.specs.declared.session.SessionFault.{SessionFault}
 use Rattle.cube_store_commands.specs.Replay.{PassesLast, arrivals_from}
-use Rattle.cube_store_commands.specs.Serving.{BreaksSession, BreaksStored, HasTooMany, ServesStored}
+use Rattle.cube_rings.specs.declared.fault.FeedingFault.{FeedingFault}
+use Rattle.cube_rings.specs.declared.fault.FeedingFault.TheVariants as feeding_fault
+use Rattle.cube_store.specs.declared.store_fault.StoreFault.{StoreFault}
+use Rattle.cube_tool.specs.Faults.{fault_of_feeding}
+use Rattle.cube_tool.specs.declared.command.failure.Failure.TheVariants.{Run}
+use Rattle.cube_store_commands.specs.Serving.{BreaksSession, BreaksStored, HasTooMany, IfRefused, ServesStored}
+use Rattle.cube_store_commands.specs.Serving.{WritesNothing}
 use Rattle.cube_store_commands.specs.declared.session.StoredFault.{StoredFault}
 use Rattle.cube_store_commands.specs.declared.session.StoredFault.TheVariants.{Store, TooMany, Session}
 use Rattle.cube_tool.specs.Command.{status_after}
@@ -25,7 +31,7 @@ use Rattle.cube_tool.proofs.RunLaws.{StandsUnder, refused-under}
 use Rattle.cube_tool.proofs.SessionLaws.{AreWithin-live}
 use Rattle.cube_tool.specs.Session.{AreWithin}
 use Rattle.cube_store_commands.specs.Stored.{BreaksStoredOver, FailsToServeStored, HasTooManyOver, ServesStoredOver}
-use Rattle.cube_store_commands.specs.Stored.{failure_of}
+use Rattle.cube_store_commands.specs.Stored.{FailsUnwritten, IfStoreRefused, LeavesUnwritten, failure_of}
 
 -- what holds of the records where something else does holds of them where that does
 given : {A : Type 0} {Clean : Type 0} (P : A → Type 0) (records : Option A) → IfSome records (λ taken. Clean → P taken)
@@ -139,3 +145,26 @@ module _ {s : Layout} {sources : SourceBytes} (was : View) (notes : List Entry) 
       broken-over fault records
       (subst (λ (l : Layout). IfSome records (λ taken. BreaksSession l was notes taken before Leaves old new fault))
       schema (given _ records breaks clean))
+
+-- feeds that weren't taken leave nothing written
+pub FailsUnwritten-unopened : (why : FeedingFault) (old : Option (List ℕ))
+    → FailsUnwritten (Run (fault_of_feeding why)) old old
+FailsUnwritten-unopened feeding_fault.Memory old = refl
+FailsUnwritten-unopened feeding_fault.NoThread old = refl
+FailsUnwritten-unopened (feeding_fault.Feed source fault) old = refl
+FailsUnwritten-unopened feeding_fault.Full old = refl
+FailsUnwritten-unopened (feeding_fault.Unsealed source) old = refl
+
+-- and so does a store that wasn't
+pub LeavesUnwritten-failed : (fault : StoredFault) (old new : Option (List ℕ)) → WritesNothing fault old new
+    → LeavesUnwritten (failure_of fault) old new
+LeavesUnwritten-failed (Store fault) old new none = none
+LeavesUnwritten-failed (TooMany source) old new none = none
+LeavesUnwritten-failed (Session fault) old new none = tt
+
+-- what is told of it
+pub IfStoreRefused-failed : (holds : StoreFault → Type 0) (fault : StoredFault) → IfRefused holds fault
+    → IfStoreRefused holds (failure_of fault)
+IfStoreRefused-failed holds (Store fault) is = is
+IfStoreRefused-failed holds (TooMany source) is = tt
+IfStoreRefused-failed holds (Session fault) is = tt

@@ -24,7 +24,10 @@ use Rattle.cube_store.specs.Keeping.{Batch, HasKept, LeavesPart}
 use Rattle.cube_store_commands.specs.Kept.{FailsStored, keeps, breaks}
 use Rattle.cube_store_commands.specs.Records.{stored_all, stored_as}
 use Rattle.cube_store_commands.specs.Replay.{TakesStored, arrivals_from}
+use Rattle.cube_store.specs.Codes.{TellsFailedCall}
+use Rattle.cube_store.specs.declared.store_fault.StoreFault.{StoreFault}
 use Rattle.cube_store_commands.specs.Serving.{BreaksSession, BreaksStored, ExplainsResume, LeavesFirst, ServesStored}
+use Rattle.cube_store_commands.specs.Serving.{IfRefused, IfUntaken, WritesNothing}
 use Rattle.cube_store_commands.specs.Serving.{changes_in, nothing, stored_fault_of}
 use Rattle.cube_store_commands.specs.declared.session.ResumeFault.{ResumeFault}
 use Rattle.cube_store_commands.specs.declared.session.ResumeFault.TheVariants as resume
@@ -293,3 +296,19 @@ BreaksStored-refused live was notes Before Leaves Clean taken (resume.Store faul
     λ clean. (refl, unharmed)
 BreaksStored-refused live was notes Before Leaves Clean taken (resume.TooMany source) old (Some records) unharmed explains =
     λ clean. (refl, unharmed, explains clean)
+
+-- what is told of a store that wasn't taken
+pub IfRefused-untaken : (holds : StoreFault → Type 0) (fault : ResumeFault) → IfUntaken holds fault
+    → IfRefused holds (stored_fault_of fault)
+IfRefused-untaken holds (resume.Store fault) is = is
+IfRefused-untaken holds (resume.TooMany source) is = tt
+
+pub IfRefused-explains : (live : LiveView) (was : View) (taken : Type 0) (fault : ResumeFault)
+    → ExplainsResume live was taken fault → taken → IfRefused TellsFailedCall (stored_fault_of fault)
+IfRefused-explains live was taken (resume.Store fault) explains may = explains may
+IfRefused-explains live was taken (resume.TooMany source) explains may = tt
+
+pub WritesNothing-refused : (fault : ResumeFault) (old : Option (List ℕ))
+    → WritesNothing (stored_fault_of fault) old old
+WritesNothing-refused (resume.Store fault) old = refl
+WritesNothing-refused (resume.TooMany source) old = refl

@@ -1,6 +1,6 @@
 -- What a session over a store promises:
 -- over which items its answers are, and what of its changes a crash may leave (this project's choice).
-use Rattle.std.specs.Prelude.{◌≡◌, ◌≤◌, ◌+◌, ◌++◌, ◌⊎◌, ℕ, List, [], length, take, Option}
+use Rattle.std.specs.Prelude.{◌≡◌, ◌≤◌, ◌+◌, ◌++◌, ◌⊎◌, ⊤, ℕ, List, [], length, take, Option}
 use Rattle.sqlite_trees.specs.Tree.{Trees}
 use Rattle.sqlite_trees.specs.View.{View}
 use Rattle.cube_core.specs.Arrival.{Arrivals}
@@ -20,6 +20,7 @@ use Rattle.cube_store_commands.specs.declared.session.StoredFault.TheVariants.{S
 use Rattle.cube_store_commands.specs.declared.session.ResumeFault.{ResumeFault}
 use Rattle.cube_store_commands.specs.declared.session.ResumeFault.TheVariants as resume
 use Rattle.cube_store.specs.Codes.{TellsFailedCall}
+use Rattle.cube_store.specs.declared.store_fault.StoreFault.{StoreFault}
 
 -- what a journal has of a session before its first record
 abbrev pub nothing : Keeping
@@ -43,6 +44,11 @@ HasTooMany live was source =
 abbrev pub ExplainsResume : LiveView → View → Type 0 → ResumeFault → Type 0
 ExplainsResume live was taken (resume.Store fault) = taken → TellsFailedCall fault
 ExplainsResume live was taken (resume.TooMany source) = HasTooMany live was source
+
+-- where a store isn't taken, and that isn't for too many changes of a source, this holds of what is told
+abbrev pub IfUntaken : (StoreFault → Type 0) → ResumeFault → Type 0
+IfUntaken holds (resume.Store fault) = holds fault
+IfUntaken holds (resume.TooMany source) = ⊤
 
 -- what a session is told whose store wasn't taken
 abbrev pub stored_fault_of : ResumeFault → StoredFault
@@ -86,3 +92,15 @@ BreaksStored s was notes records live Before Leaves old new (TooMany source) =
     (new ≡ old) × ((db : Trees) → Leaves db → LeavesNotes was notes db ⊎ Before db) × HasTooMany live was source
 BreaksStored s was notes records live Before Leaves old new (Session fault) =
     BreaksSession s was notes records live Leaves old new fault
+
+-- where the store isn't taken, and that isn't for too many changes of a source, this holds of what a session is told
+abbrev pub IfRefused : (StoreFault → Type 0) → StoredFault → Type 0
+IfRefused holds (Store fault) = holds fault
+IfRefused holds (TooMany source) = ⊤
+IfRefused holds (Session fault) = ⊤
+
+-- where the store isn't taken nothing goes out
+abbrev pub WritesNothing : StoredFault → Option (List ℕ) → Option (List ℕ) → Type 0
+WritesNothing (Store fault) old new = new ≡ old
+WritesNothing (TooMany source) old new = new ≡ old
+WritesNothing (Session fault) old new = ⊤

@@ -1,5 +1,5 @@
 -- What a session over feeds and a store writes and leaves (this project's choice).
-use Rattle.std.specs.Prelude.{◌≡◌, ◌++◌, ◌⊎◌, ℕ, List, Option, IfSome}
+use Rattle.std.specs.Prelude.{◌≡◌, ◌++◌, ◌⊎◌, ⊤, ℕ, List, Option, IfSome}
 use Rattle.sqlite_trees.specs.Tree.{Trees}
 use Rattle.sqlite_trees.specs.View.{View}
 use Rattle.cube_core.specs.Arrival.{Arrivals, of_sources}
@@ -9,6 +9,7 @@ use Rattle.cube_core.specs.declared.change.Item.{Item}
 use Rattle.cube_store.specs.Making.{LeavesNotes}
 use Rattle.cube_store.specs.Rows.{Entry}
 use Rattle.cube_store.specs.State.{held_in, stored_in, stored_form, Holds}
+use Rattle.cube_store.specs.declared.store_fault.StoreFault.{StoreFault}
 use Rattle.cube_live.specs.Keeping.{LeavesAt}
 use Rattle.cube_live.specs.Opening.{StartsOver}
 use Rattle.cube_live.specs.Session.{AreReplies, arrivals_after}
@@ -21,9 +22,11 @@ use Rattle.cube_tool.specs.Answering.{status_over}
 use Rattle.cube_tool.specs.Command.{status_of}
 use Rattle.cube_tool.specs.Run.{ExplainsRun, OfFeeds, Wrote}
 use Rattle.cube_tool.specs.Session.{AreWithin}
+use Rattle.cube_tool.specs.declared.command.failure.Failure.{Failure as CommandFailure}
 use Rattle.cube_tool.specs.declared.command.failure.Failure.TheVariants.{Run, Session}
 use Rattle.cube_tool.specs.declared.command.status.Status.{Status}
 use Rattle.cube_tool.specs.declared.command.status.Status.TheVariants.{Failed}
+use Rattle.cube_tool.specs.declared.fault.RunFault.TheVariants as run_fault
 use Rattle.cube_store_commands.specs.declared.failure.StoredFailure.{StoredFailure}
 use Rattle.cube_store_commands.specs.declared.failure.StoredFailure.TheVariants.{Failure, Store, TooMany}
 
@@ -87,3 +90,21 @@ FailsToServeStored s sources records was notes Before Leaves (Store fault) old n
 FailsToServeStored s sources records was notes Before Leaves (TooMany source) old new =
     OfFeeds s sources (λ feeds. IfSome records (λ taken. (new ≡ old) × HasTooManyOver s feeds was source
     × ((db : Trees) → Leaves db → LeavesNotes was notes db ⊎ Before db)))
+
+-- a command that failed so has written nothing, unless its session was begun, or the writing itself failed
+abbrev pub FailsUnwritten : CommandFailure → Option (List ℕ) → Option (List ℕ) → Type 0
+FailsUnwritten (Session fault) old new = ⊤
+FailsUnwritten (Run (run_fault.Write sent)) old new = ⊤
+FailsUnwritten _ old new = new ≡ old
+
+-- the same of a command over a store, which has written nothing either where the store wasn't taken
+abbrev pub LeavesUnwritten : StoredFailure → Option (List ℕ) → Option (List ℕ) → Type 0
+LeavesUnwritten (Failure failure) old new = FailsUnwritten failure old new
+LeavesUnwritten (Store fault) old new = new ≡ old
+LeavesUnwritten (TooMany source) old new = new ≡ old
+
+-- where the store isn't taken, and that isn't for too many changes of a source, this holds of what a command is told
+abbrev pub IfStoreRefused : (StoreFault → Type 0) → StoredFailure → Type 0
+IfStoreRefused holds (Failure failure) = ⊤
+IfStoreRefused holds (Store fault) = holds fault
+IfStoreRefused holds (TooMany source) = ⊤

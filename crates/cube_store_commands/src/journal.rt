@@ -3,6 +3,7 @@ ghost use Rattle.std.specs.Prelude.{◌≡◌, ◌≤◌, [], IsTrue};
 ghost use Rattle.sqlite_trees.specs.View.{IsClean};
 ghost use Rattle.cube_store.specs.State.{held_in, stored_in};
 ghost use Rattle.cube_store.specs.Keeping.{HasKept};
+ghost use Rattle.cube_store_commands.specs.Kept.{journal_fault_of};
 
 use crate::record::text_of;
 use csv::ByteRecord;
@@ -30,7 +31,9 @@ impl<S: Store> Model for StoreJournal<S> {
 }
 
 /// What a failed call is told as.
-fn fault_of(error: StoreError) -> JournalFault {
+fn fault_of(error: StoreError) -> JournalFault
+    ensures { result ≡ journal_fault_of error }
+{
     match error {
         StoreError::OutOfMemory => JournalFault::Memory,
         StoreError::Io | StoreError::Corrupt | StoreError::Broken => JournalFault::Failed,

@@ -1,10 +1,13 @@
 //! The command that keeps a cube right, and its changes in a store.
-ghost use Rattle.std.specs.Prelude.{◌≤◌, map, option_map, vec_len, IfOk, IfErr, IfSome};
+ghost use Rattle.std.specs.Prelude.{◌≤◌, ◌⊎◌, map, option_map, vec_len, IfOk, IfErr, IfSome};
 ghost use Rattle.sqlite_trees.specs.View.{IsClean};
 ghost use Rattle.cube_core.specs.Records.{records_of};
+ghost use Rattle.cube_store.specs.Calls.{IsntStarted};
+ghost use Rattle.cube_store.specs.Codes.{IsToldOf, TellsFailedCall};
 ghost use Rattle.cube_store.specs.Rows.{entries_of};
+ghost use Rattle.cube_store.specs.State.{IsStore, IsUnmade};
 ghost use Rattle.cube_tool.specs.Run.{OfFeeds};
-ghost use Rattle.cube_store_commands.specs.Stored.{FailsToServeStored, ServesStoredOver};
+ghost use Rattle.cube_store_commands.specs.Stored.{FailsToServeStored, IfStoreRefused, LeavesUnwritten, ServesStoredOver};
 
 use crate::failure::StoredFailure;
 use crate::feeds::{SessionInput, StoredFeeds};
@@ -29,6 +32,10 @@ use std::thread::Threads;
 /// when it is else. The answers are those of a session over the feeds in which the stored changes stood before the first
 /// record. What is left of the store in any case is given back: to be closed by `close` where the session ended well, which
 /// leaves one file.
+///
+/// Where a feed is at fault or the store isn't taken nothing was written, whatever the disk did. A store of changes and of these
+/// notes, or one without a row, is refused only where a call fails, or where it has more changes of a source than the schema
+/// takes; what is told of one that isn't taken is why.
 pub fn live_stored<
     T: Threads + Wait + Sync,
     R: Read + Drop + Send,
@@ -54,6 +61,12 @@ pub fn live_stored<
         (S.Store.view r.1.store) (S.Store.recovers r.1.store) (W.contents out.old) (W.contents out.new)))) }
     ensures err { IfErr result (λ e. IsClean (S.Store.view e.1) → FailsToServeStored schema.now (map R.Read.remaining feeds.readers.items)
         (option_map records_of (I.remaining input.reader)) (S.Store.view feeds.store) (entries_of feeds.notes.items) (S.Store.recovers feeds.store) (S.Store.recovers e.1) e.0 (W.contents out.old) (W.contents out.new)) }
+    ensures cause { IfErr result (λ e. IsClean (S.Store.view e.1) →
+        IfStoreRefused (IsToldOf (IsntStarted S.Store feeds.store e.1 feeds.notes.items)) e.0) }
+    ensures accepts { IfErr result (λ e. IsClean (S.Store.view e.1) →
+        IsStore (S.Store.view feeds.store) (entries_of feeds.notes.items) ⊎ IsUnmade (S.Store.view feeds.store) →
+        IfStoreRefused TellsFailedCall e.0) }
+    ensures unwritten { IfErr result (λ e. LeavesUnwritten e.0 (W.contents out.old) (W.contents out.new)) }
 {
     let StoredFeeds {
         readers,

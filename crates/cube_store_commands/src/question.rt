@@ -4,6 +4,7 @@ ghost use Rattle.cube_core.specs.Arrival.{Arrivals};
 ghost use Rattle.cube_live.specs.Live.{LiveStandsAt};
 ghost use Rattle.cube_tool.specs.Answering.{Fits};
 ghost use Rattle.cube_store_commands.specs.Asking.{AnsweredAt, FailsAt, IsToldAs};
+ghost use Rattle.cube_store_commands.specs.Stored.{FailsUnwritten};
 
 use cube_core::{QueryFault, Schema};
 use cube_live::Live;
@@ -34,6 +35,7 @@ pub(crate) fn answer_over<T: Threads + Sync, P: Reporter, W: Write>(
     ensures err { IfErr result (λ failure. (arrivals : Arrivals) → LiveStandsAt live.entry arrivals →
         Fits live.entry.schema question.now →
         FailsAt terms.now question.now live.entry.schema arrivals failure (W.contents out.old) (W.contents out.new)) }
+    ensures unwritten { IfErr result (λ failure. FailsUnwritten failure (W.contents out.old) (W.contents out.new)) }
 {
     let schema = live.schema();
     let ledger = live.into_ledger();

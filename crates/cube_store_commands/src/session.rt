@@ -2,6 +2,8 @@
 ghost use Rattle.std.specs.Prelude.{◌≡◌, ◌≤◌, ◌⊎◌, [], IfOk, IfErr, IfSome};
 ghost use Rattle.sqlite_trees.specs.Tree.{Trees};
 ghost use Rattle.sqlite_trees.specs.View.{IsClean};
+ghost use Rattle.cube_store.specs.Calls.{IsntStarted, IsntReopened};
+ghost use Rattle.cube_store.specs.Codes.{IsToldOf, TellsFailedCall};
 ghost use Rattle.cube_store.specs.Making.{LeavesNotes};
 ghost use Rattle.cube_store.specs.Rows.{entries_of};
 ghost use Rattle.cube_store.specs.State.{stored_in, noted_in, form_in, stored_form, IsStore, IsUnmade, LeadsTo};
@@ -10,7 +12,7 @@ ghost use Rattle.cube_store_commands.specs.Replay.{TakesStored};
 ghost use Rattle.cube_live.specs.Keeping.{KeepsOn, keeping_after, made_sure};
 ghost use Rattle.cube_live.specs.Serving.{Serves};
 ghost use Rattle.cube_store_commands.specs.Kept.{FailsStored, keeps};
-ghost use Rattle.cube_store_commands.specs.Serving.{BreaksStored, ExplainsResume, ServesStored};
+ghost use Rattle.cube_store_commands.specs.Serving.{BreaksStored, ExplainsResume, IfRefused, IfUntaken, ServesStored, WritesNothing};
 
 use crate::journal::StoreJournal;
 use crate::replay::Replay;
@@ -70,7 +72,7 @@ impl From<ResumeFault> for StoredFault {
 /// feeds are, and must have the same notes else.
 ///
 /// A store of changes and of these notes is refused only where a call fails, because memory ran out, or where it has more changes
-/// of a source than the schema takes. An error gives the store back.
+/// of a source than the schema takes. What is told of one that isn't taken is why. An error gives the store back.
 pub fn resume<'s, S: Store>(
     alloc: Global,
     live: Live<'s>,
@@ -85,6 +87,8 @@ pub fn resume<'s, S: Store>(
     ensures formed { IfOk result (λ r. IsClean (S.Store.view r.1.store) → form_in (S.Store.view r.1.store) ≡ stored_form (S.Store.view store)) }
     ensures kept { IfOk result (λ r. HasKept S.Store.view S.Store.recovers r.1 r.1 [] 0) }
     ensures unharmed { IfErr result (λ e. (db : Trees) → S.Store.recovers e.1 db → LeavesNotes (S.Store.view store) (entries_of notes.now) db ⊎ S.Store.recovers store db) }
+    ensures cause { IfErr result (λ e. IsClean (S.Store.view e.1) →
+        IfUntaken (IsToldOf (IsntStarted S.Store store e.1 notes.now)) e.0) }
     ensures accepts { IfErr result (λ e. IsClean (S.Store.view e.1) → ExplainsResume live.entry (S.Store.view store)
         (IsStore (S.Store.view store) (entries_of notes.now) ⊎ IsUnmade (S.Store.view store)) e.0) }
 {
@@ -105,7 +109,7 @@ pub fn resume<'s, S: Store>(
 /// store. Nothing is written: a store must have these notes, and one without a row is refused.
 ///
 /// A store of changes and of these notes is refused only where a call fails, because memory ran out, or where it has more changes
-/// of a source than the schema takes. An error gives the store back.
+/// of a source than the schema takes. What is told of one that isn't taken is why. An error gives the store back.
 pub fn resume_made<'s, S: Store>(
     alloc: Global,
     live: Live<'s>,
@@ -119,6 +123,8 @@ pub fn resume_made<'s, S: Store>(
     ensures kept { IfOk result (λ r. HasKept S.Store.view S.Store.recovers r.1 r.1 [] 0) }
     ensures same { IfOk result (λ r. (db : Trees) → S.Store.recovers r.1.store db → S.Store.recovers store db) }
     ensures unharmed { IfErr result (λ e. (db : Trees) → S.Store.recovers e.1 db → S.Store.recovers store db) }
+    ensures cause { IfErr result (λ e. IsClean (S.Store.view e.1) →
+        IfUntaken (IsToldOf (IsntReopened S.Store store e.1 (entries_of notes.now))) e.0) }
     ensures accepts { IfErr result (λ e. IsClean (S.Store.view e.1) → ExplainsResume live.entry (S.Store.view store)
         (IsStore (S.Store.view store) (entries_of notes.now) × (¬ IsUnmade (S.Store.view store))) e.0) }
 {
@@ -135,8 +141,8 @@ pub fn resume_made<'s, S: Store>(
 /// Takes the changes of a store, and then the records of a session to their end, as `serve` does.
 ///
 /// The answers are those of a session in which the stored changes stood before the first record. Each change is in the store
-/// before it is applied, and certain before a byte of a later answer goes out; `commits` says when it is else. An error gives
-/// the store back.
+/// before it is applied, and certain before a byte of a later answer goes out; `commits` says when it is else. A store is
+/// refused as by [`resume`], before anything is written. An error gives the store back.
 pub fn serve_stored<'s, T: Threads + Sync, S: Store, R: Read, P: Rests + Drop, W: Write>(
     rt: &T,
     alloc: Global,
@@ -154,6 +160,11 @@ pub fn serve_stored<'s, T: Threads + Sync, S: Store, R: Read, P: Rests + Drop, W
     ensures err { IfErr result (λ e. IfSome records.old.left (λ taken. IsClean (S.Store.view e.1) →
         BreaksStored live.entry.schema (S.Store.view store) (entries_of notes.now) taken live.entry (S.Store.recovers store) (S.Store.recovers e.1)
         (W.contents out.old) (W.contents out.new) e.0)) }
+    ensures cause { IfErr result (λ e. IsClean (S.Store.view e.1) →
+        IfRefused (IsToldOf (IsntStarted S.Store store e.1 notes.now)) e.0) }
+    ensures accepts { IfErr result (λ e. IsClean (S.Store.view e.1) →
+        IsStore (S.Store.view store) (entries_of notes.now) ⊎ IsUnmade (S.Store.view store) → IfRefused TellsFailedCall e.0) }
+    ensures unwritten { IfErr result (λ e. WritesNothing e.0 (W.contents out.old) (W.contents out.new)) }
     ensures schema { IfOk result (λ r. IfSome records.old.left (λ taken. IsClean (S.Store.view r.1.store) → r.0.schema ≡ live.entry.schema)) }
 {
     let Commits {

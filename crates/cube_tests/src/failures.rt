@@ -2,7 +2,7 @@
 use cube_core::SchemaFault;
 use cube_tool::RunFault;
 use cube_tool::command::{Failure, check};
-use cube_writing::WriteFault;
+use cube_lines::WriteFault;
 use std::io;
 use std::io::Read;
 use std::test::Fail;

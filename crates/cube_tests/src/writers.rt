@@ -1,5 +1,5 @@
 //! Writers that fail in their own ways, and what `write_whole` makes of them.
-use cube_writing::{WriteFault, write_whole};
+use cube_lines::{WriteFault, write_whole};
 use std::alloc::Global;
 use std::io;
 use std::io::Write;

@@ -1,4 +1,5 @@
 mod ColumnLaws
+mod FieldLaws
 pub mod LineLaws
 mod PartLaws
 pub mod RowShapeLaws

@@ -13,7 +13,7 @@ use Rattle.cube_core.specs.Text.{answer_text, answer_texts}
 use Rattle.cube_core.specs.declared.aggregate.Answer.{Answer}
 use Rattle.cube_core.specs.declared.aggregate.Answer.TheVariants as answer
 use Rattle.cube_core.specs.declared.key.Row.{Row}
-use Rattle.cube_units.proofs.AnswerTextsLaws.{answer_texts-more}
+use Rattle.cube_lines.proofs.AnswerTextsLaws.{answer_texts-more}
 use Rattle.csv.specs.Writing.{default_writer, field_text, fields_written, has_written, next_sep, row_body, row_text}
 use Rattle.csv.specs.Writing.{text_written, writer_setup, tail_text, is_blank, end_text}
 use Rattle.csv.specs.declared.writer.QuoteStyle.TheVariants as style
@@ -119,25 +119,6 @@ pub AddsFields-both : (more others : List (List ℕ)) (old mid new : Lines) → 
 AddsFields-both more others old mid new first second text fields h =
     rw (← append_assoc fields more others) (second text (fields ++ more) (first text fields h))
 
--- the field of one element more was added, of those that a list gives
-pub AddsFields-more : {X : Type 0} (f : X → List ℕ) (xs : List X) (i : ℕ) (d : X) (field : List ℕ)
-    (old mid new : Lines) → i < length xs → field ≡ f (get_or xs i d) → AddsFields (map f (take i xs)) old mid
-    → AddsFields (field ∷ []) mid new → AddsFields (map f (take (i + 1) xs)) old new
-AddsFields-more f xs i d field old mid new inside shown before added =
-    let more : map f (take (i + 1) xs) ≡ map f (take i xs) ++ field ∷ []
-    = ap (map f) (take_more xs i d inside) ∙ map-append f (take i xs) (get_or xs i d ∷ [])
-    ∙ ap (λ y. map f (take i xs) ++ y ∷ []) (sym shown) in
-    rw more (AddsFields-both (map f (take i xs)) (field ∷ []) old mid new before added)
-
--- one field more of those of a list was added
-pub AddsFields-take : (xs : List (List ℕ)) (i : ℕ) (d field : List ℕ) (old mid new : Lines) → i < length xs
-    → field ≡ get_or xs i d → AddsFields (take i xs) old mid → AddsFields (field ∷ []) mid new
-    → AddsFields (take (i + 1) xs) old new
-AddsFields-take xs i d field old mid new inside shown before added =
-    let more : take (i + 1) xs ≡ take i xs ++ field ∷ []
-    = take_more xs i d inside ∙ ap (λ y. take i xs ++ y ∷ []) (sym shown) in
-    rw more (AddsFields-both (take i xs) (field ∷ []) old mid new before added)
-
 -- a line of fields that were added in three parts
 pub AddsText-row_text : (first second third : List (List ℕ)) (a b c d e : Lines) → AddsFields first a b
     → AddsFields second b c → AddsFields third c d
@@ -145,35 +126,3 @@ pub AddsText-row_text : (first second third : List (List ℕ)) (a b c d e : Line
 AddsText-row_text first second third a b c d e one two three end text h =
     end text (first ++ second ++ third)
     (AddsFields-both (first ++ second) third a c d (AddsFields-both first second a b c one two) three text [] h)
-
--- the field of one answer more was added
-pub AddsFields-answer : (digits : List ℕ) (answers : List Answer) (i k : ℕ) (a : Answer) (field : List ℕ)
-    (old mid new : Lines) → i < length digits → i < length answers → k ≡ get_or digits i 0
-    → a ≡ get_or answers i answer.Null → field ≡ answer_text k a
-    → AddsFields (answer_texts (take i digits) (take i answers)) old mid → AddsFields (field ∷ []) mid new
-    → AddsFields (answer_texts (take (i + 1) digits) (take (i + 1) answers)) old new
-AddsFields-answer digits answers i k a field old mid new inside inside_too k_is a_is shown before added =
-    let so_far = answer_texts (take i digits) (take i answers) in
-    let more : answer_texts (take (i + 1) digits) (take (i + 1) answers) ≡ so_far ++ field ∷ []
-    = answer_texts-more digits answers i k a inside inside_too k_is a_is ∙ ap (λ y. so_far ++ y ∷ []) (sym shown) in
-    rw more (AddsFields-both so_far (field ∷ []) old mid new before added)
-
--- the lines of rows were added, and then that of one row more
-pub AddsText-row_line : (digits : List ℕ) (rows : List Row) (row : Row) (old mid new : Lines)
-    → AddsText (flat_map (line_with digits) rows) old mid
-    → AddsText (line_with digits row) mid new → AddsText (flat_map (line_with digits) (rows ++ row ∷ [])) old new
-AddsText-row_line digits rows row old mid new before line text h =
-    rw (
-      flat_map-append (line_with digits) rows (row ∷ []),
-      flat_map-cons (line_with digits) row [],
-      append-nil (line_with digits row),
-      ← append_assoc text (flat_map (line_with digits) rows) (line_with digits row),
-    ) (line (text ++ flat_map (line_with digits) rows) (before text h))
-
--- the lines of the rows of a list were added, up to one row more
-pub AddsText-more : (digits : List ℕ) (rows : List Row) (i : ℕ) (row : Row) (old mid new : Lines) → i < length rows
-    → row ≡ get_or rows i row → AddsText (flat_map (line_with digits) (take i rows)) old mid
-    → AddsText (line_with digits row) mid new
-    → AddsText (flat_map (line_with digits) (take (i + 1) rows)) old new
-AddsText-more digits rows i row old mid new inside is before line =
-    rw (take_more rows i row inside, ← is) (AddsText-row_line digits (take i rows) row old mid new before line)

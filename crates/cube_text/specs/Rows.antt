@@ -14,7 +14,6 @@ use Rattle.cube_core.specs.declared.key.Row.{Row}
 use Rattle.cube_cells.specs.Cube.{Cells}
 use Rattle.cube_cells.specs.Rows.{AreAnswersOf, AreRowsInOrder, CellsInOrder, IsRowOf}
 use Rattle.cube_cells.specs.Tally.{Tally, IsTallyOf}
-use Rattle.cube_text.specs.Lines.{AddsText, Lines}
 
 -- the line of a row, each of whose answers has so many digits behind its point
 abbrev pub line_with : List ℕ → Row → List ℕ
@@ -27,22 +26,22 @@ pub record IsTextOfCells (s : Layout) (o : CellsInOrder) (text : List ℕ) : Typ
   pub are_rows : AreRowsInOrder o rows
   pub text_is : text ≡ text_of_rows s rows
 
--- the line of the row of a cell was added
-pub record AddsRow (digits : List ℕ) (aggregates : List Agg) (cell : Key × Tally) (old new : Lines) : Type 0 where
+-- a text has the line of the row of a cell more
+pub record AddsRow (digits : List ℕ) (aggregates : List Agg) (cell : Key × Tally) (old new : List ℕ) : Type 0 where
   pub row : Row
   pub is_row : IsRowOf aggregates cell row
-  pub added : AddsText (line_with digits row) old new
+  pub added : new ≡ old ++ line_with digits row
 
 -- put behind the rows of the first cells up to a place, these rows are those of the first cells up to another
 abbrev pub RowsGoOn : CellsInOrder → ℕ → ℕ → List Row → Type 0
 RowsGoOn o from to rows = (before : List Row) → AllZip (IsRowOf o.aggregates) (take from o.cells) before
     → AllZip (IsRowOf o.aggregates) (take to o.cells) (before ++ rows)
 
--- the lines of the rows of the cells from a place to another were added
-pub record GoesOn (digits : List ℕ) (o : CellsInOrder) (from to : ℕ) (old new : Lines) : Type 0 where
+-- a text has the lines of the rows of the cells from a place to another more
+pub record GoesOn (digits : List ℕ) (o : CellsInOrder) (from to : ℕ) (old new : List ℕ) : Type 0 where
   pub rows : List Row
   pub go_on : RowsGoOn o from to rows
-  pub added : AddsText (flat_map (line_with digits) rows) old new
+  pub added : new ≡ old ++ flat_map (line_with digits) rows
 
 -- this is the text of the lines of the rows of the cells from a place to another
 pub record IsTextOfPart (digits : List ℕ) (o : CellsInOrder) (from to : ℕ) (text : List ℕ) : Type 0 where

@@ -4,6 +4,7 @@
 //! each of which a thread makes. [`Lines`] are the lines that all texts of the program are made of.
 #![tactic(auto)]
 
+mod fields;
 mod lines;
 mod print;
 

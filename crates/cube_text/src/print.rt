@@ -2,20 +2,18 @@
 
 ghost use Rattle.std.specs.Prelude.{◌≡◌, ℕ, ◌<◌, ◌≤◌, ◌+◌, ◌*◌, ◌++◌, min, length, get_or, map, All, OnOk, IfOk};
 ghost use Rattle.std.specs.List.{flat_map};
-ghost use Rattle.cube_core.specs.Text.{line, header_fields, grouping_name, coord_text, grouping_text, answer_text, answer_texts, digits_of_answers, fraction_text, signed_units_text, text_of_rows};
-ghost use Rattle.cube_core.specs.Referred.{referred_coord};
-ghost use Rattle.cube_text.specs.Lines.{AddsFields, AddsText};
+ghost use Rattle.cube_core.specs.Text.{line, header_fields, coord_text, grouping_text, answer_texts, digits_of_answers, text_of_rows};
+ghost use Rattle.cube_lines.specs.Parts.{AddsParts};
 ghost use Rattle.cube_text.specs.Rows.{AddsRow, AreColumns, GoesOn, IsColumn, IsTextOfCells, IsTextOfPart, answers_at, line_with};
 ghost use Rattle.cube_core.specs.declared.key.Key.{Key};
 ghost use Rattle.cube_cells.specs.Rows.{AreAnswersOf};
 ghost use Rattle.cube_cells.specs.Tally.{Tally};
 ghost use Rattle.cube_text.specs.Shape.{HasShapeOf};
 
-use crate::lines::{Lines, end_line, into_text, no_lines, put_field};
+use crate::fields::{close_line, push_coord, push_grouping};
 use cube_cells::{CoordRef, KeyedCell, Numbers, OrderedCells, Summary};
-use cube_core::{Agg, Answer, Coord, Row, Schema, Text};
-use cube_units::{push_fraction, push_units};
-use cube_writing::Pieces;
+use cube_core::{Agg, Answer, Coord, Row, Schema};
+use cube_lines::{Pieces, push_answer, push_header};
 use itoa::Buffer;
 use std::alloc::{AllocError, Global};
 use std::thread::{Threads, map_indices};
@@ -31,10 +29,9 @@ pub fn print_rows(alloc: Global, schema: &Schema, rows: &[Row]) -> Result<Vec<u8
     ensures { IfOk result (λ text. text.items ≡ text_of_rows schema.now rows.now) }
 {
     let digits = digits_of_answers(alloc, schema)?;
-    let mut lines = no_lines(alloc);
-    put_header(alloc, &mut lines, schema)?;
-    put_rows(alloc, &mut lines, digits.as_slice(), rows)?;
-    into_text(lines)
+    let mut text = text_of_header(alloc, schema)?;
+    put_rows(&mut text, digits.as_slice(), rows)?;
+    Ok(text)
 }
 
 /// The header line of the schema, and a line for the row of each cell in the order given, with no list of the rows.
@@ -48,10 +45,9 @@ pub fn print_cells<N: Numbers>(
     ensures { IfOk result (λ text. IsTextOfCells schema.now cells.now text.items) }
 {
     let digits = digits_of_answers(alloc, schema)?;
-    let mut lines = no_lines(alloc);
-    put_header(alloc, &mut lines, schema)?;
-    put_cells(alloc, &mut lines, digits.as_slice(), cells, 0, cells.len())?;
-    into_text(lines)
+    let mut text = text_of_header(alloc, schema)?;
+    put_cells(alloc, &mut text, digits.as_slice(), cells, 0, cells.len())?;
+    Ok(text)
 }
 
 /// The text that [`print_cells`] gives, in pieces: the cells are cut into as many parts as there are threads, and each
@@ -115,9 +111,9 @@ fn digits_of_answers(alloc: Global, schema: &Schema) -> Result<Vec<u8>, AllocErr
 fn text_of_header(alloc: Global, schema: &Schema) -> Result<Vec<u8>, AllocError>
     ensures { IfOk result (λ text. text.items ≡ line (header_fields schema.now)) }
 {
-    let mut lines = no_lines(alloc);
-    put_header(alloc, &mut lines, schema)?;
-    into_text(lines)
+    let mut text = Vec::new(alloc);
+    push_header(alloc, &mut text, schema)?;
+    Ok(text)
 }
 
 // The lines of the cells of a part, where each part but the last has as many cells as the size says.
@@ -133,16 +129,16 @@ fn text_of_part<N: Numbers>(
         IsTextOfPart digits.now cells.now (size * which) (size * (which + 1)) text.items) }
 {
     let from = place_within(cells, size, which);
-    let mut lines = no_lines(alloc);
+    let mut text = Vec::new(alloc);
     put_cells(
         alloc,
-        &mut lines,
+        &mut text,
         digits,
         cells,
         from,
         from + (cells.len() - from).min(size),
     )?;
-    into_text(lines)
+    Ok(text)
 }
 
 // The place at which a part begins.
@@ -152,57 +148,13 @@ fn place_within<N: Numbers>(cells: &OrderedCells<'_, N>, size: usize, which: usi
     size.saturating_mul(which).min(cells.len())
 }
 
-fn put_header(alloc: Global, lines: &mut Lines, schema: &Schema) -> Result<(), AllocError>
-    ensures { OnOk result (AddsText (line (header_fields schema.now)) lines.old lines.new) }
-{
-    put_texts(lines, schema.dimensions())?;
-    put_grouping_names(alloc, lines, schema.dimensions())?;
-    put_texts(lines, schema.aggregate_texts())?;
-    end_line(lines)
-}
-
-fn put_texts(lines: &mut Lines, texts: &[Text]) -> Result<(), AllocError>
-    ensures { OnOk result (AddsFields texts.now lines.old lines.new) }
-{
-    for text in texts {
-        put_field(lines, text.as_str().as_bytes())?;
-    }
-    Ok(())
-}
-
-fn put_grouping_names(
-    alloc: Global,
-    lines: &mut Lines,
-    dimensions: &[Text],
-) -> Result<(), AllocError>
-    ensures { OnOk result (AddsFields (map grouping_name dimensions.now) lines.old lines.new) }
-{
-    let mut name = Vec::new(alloc);
-    for dimension in dimensions {
-        write_grouping_name(&mut name, dimension)?;
-        put_field(lines, &name)?;
-    }
-    Ok(())
-}
-
-// Puts the name of a dimension's column in place of what the buffer holds.
-fn write_grouping_name(name: &mut Vec<u8>, dimension: &Text) -> Result<(), AllocError>
-    ensures { OnOk result (name.new.items ≡ grouping_name dimension.now) }
-{
-    name.clear();
-    name.extend_from_slice(b"grouping(")?;
-    name.extend_from_slice(dimension.as_str().as_bytes())?;
-    name.extend_from_slice(b")")?;
-    Ok(())
-}
-
-fn put_rows(alloc: Global, lines: &mut Lines, digits: &[u8], rows: &[Row]) -> Result<(), AllocError>
+// Puts the lines of rows at the end of a text.
+fn put_rows(text: &mut Vec<u8>, digits: &[u8], rows: &[Row]) -> Result<(), AllocError>
     requires { All (λ k. k ≤ 18) digits.now }
-    ensures { OnOk result (AddsText (flat_map (line_with digits.now) rows.now) lines.old lines.new) }
+    ensures { OnOk result (text.new.items ≡ text.old.items ++ flat_map (line_with digits.now) rows.now) }
 {
-    let mut buffer = Vec::new(alloc);
     for row in rows {
-        put_row(lines, &mut buffer, digits, row)?;
+        put_row(text, digits, row)?;
     }
     Ok(())
 }
@@ -210,7 +162,7 @@ fn put_rows(alloc: Global, lines: &mut Lines, digits: &[u8], rows: &[Row]) -> Re
 // Puts the lines of the cells from a place to another, a block at a time.
 fn put_cells<N: Numbers>(
     alloc: Global,
-    lines: &mut Lines,
+    text: &mut Vec<u8>,
     digits: &[u8],
     cells: &OrderedCells<'_, N>,
     from: usize,
@@ -219,13 +171,12 @@ fn put_cells<N: Numbers>(
     requires few { All (λ k. k ≤ 18) digits.now }
     requires order { from ≤ to }
     requires within { to ≤ length cells.now.cells }
-    ensures { OnOk result (GoesOn digits.now cells.now from to lines.old lines.new) }
+    ensures { OnOk result (GoesOn digits.now cells.now from to text.old.items text.new.items) }
 {
-    let mut buffer = Vec::new(alloc);
     let mut done = from;
     while done < to {
         let end = done + (to - done).min(BLOCK);
-        put_block(alloc, lines, &mut buffer, digits, cells, done, end)?;
+        put_block(alloc, text, digits, cells, done, end)?;
         done = end;
     }
     Ok(())
@@ -234,8 +185,7 @@ fn put_cells<N: Numbers>(
 // Puts the lines of the cells from a place to another, whose answers are found first.
 fn put_block<N: Numbers>(
     alloc: Global,
-    lines: &mut Lines,
-    buffer: &mut Vec<u8>,
+    text: &mut Vec<u8>,
     digits: &[u8],
     cells: &OrderedCells<'_, N>,
     from: usize,
@@ -244,11 +194,11 @@ fn put_block<N: Numbers>(
     requires few { All (λ k. k ≤ 18) digits.now }
     requires order { from ≤ to }
     requires within { to ≤ length cells.now.cells }
-    ensures { OnOk result (GoesOn digits.now cells.now from to lines.old lines.new) }
+    ensures { OnOk result (GoesOn digits.now cells.now from to text.old.items text.new.items) }
 {
     let columns = columns_of(alloc, cells, from, to)?;
     for place in from..to {
-        put_cell(lines, buffer, digits, cells, place, &columns, place - from)?;
+        put_cell(text, digits, cells, place, &columns, place - from)?;
     }
     Ok(())
 }
@@ -296,11 +246,9 @@ fn column_of<N: Numbers>(
     Ok(column)
 }
 
-// Puts the line of the cell at a place, whose answers the columns have at a place of theirs. The buffer is for
-// fractions and numbers with a point, and what it holds doesn't matter.
+// Puts the line of the cell at a place, whose answers the columns have at a place of theirs.
 fn put_cell<N: Numbers>(
-    lines: &mut Lines,
-    buffer: &mut Vec<u8>,
+    text: &mut Vec<u8>,
     digits: &[u8],
     cells: &OrderedCells<'_, N>,
     place: usize,
@@ -312,177 +260,94 @@ fn put_cell<N: Numbers>(
     requires long { All (λ column. at < length column.items) columns.now }
     requires answers { (unused : Key × Tally) → AreAnswersOf cells.now.aggregates
         (get_or cells.now.cells place unused).1 (answers_at columns.now at) }
-    ensures { OnOk result ((unused : Key × Tally) →
-        AddsRow digits.now cells.now.aggregates (get_or cells.now.cells place unused) lines.old lines.new) }
+    ensures { OnOk result ((unused : Key × Tally) → AddsRow digits.now cells.now.aggregates
+        (get_or cells.now.cells place unused) text.old.items text.new.items) }
 {
     let cell = cells.cell_at(place);
-    put_key(lines, &cell)?;
-    put_key_groupings(lines, &cell)?;
-    put_answers_at(lines, buffer, digits, columns, at)?;
-    end_line(lines)
+    let start = text.as_slice().len();
+    put_key(text, &cell)?;
+    put_key_groupings(text, &cell)?;
+    put_answers_at(text, digits, columns, at)?;
+    close_line(text, start)
 }
 
-fn put_key<N: Numbers>(lines: &mut Lines, cell: &KeyedCell<'_, N>) -> Result<(), AllocError>
-    ensures { OnOk result (AddsFields (map coord_text cell.now.0.coords) lines.old lines.new) }
+fn put_key<N: Numbers>(text: &mut Vec<u8>, cell: &KeyedCell<'_, N>) -> Result<(), AllocError>
+    ensures { OnOk result (AddsParts (map coord_text cell.now.0.coords) text.old.items text.new.items) }
 {
     for dimension in 0..cell.dimensions() {
-        put_field(lines, coord_field(cell.coord(dimension)))?;
+        push_coord(text, cell.coord(dimension))?;
     }
     Ok(())
 }
 
 fn put_key_groupings<N: Numbers>(
-    lines: &mut Lines,
+    text: &mut Vec<u8>,
     cell: &KeyedCell<'_, N>,
 ) -> Result<(), AllocError>
-    ensures { OnOk result (AddsFields (map grouping_text cell.now.0.coords) lines.old lines.new) }
+    ensures { OnOk result (AddsParts (map grouping_text cell.now.0.coords) text.old.items text.new.items) }
 {
     for dimension in 0..cell.dimensions() {
-        put_field(lines, grouping_field(cell.coord(dimension)))?;
+        push_grouping(text, cell.coord(dimension))?;
     }
     Ok(())
 }
 
 fn put_answers_at(
-    lines: &mut Lines,
-    buffer: &mut Vec<u8>,
+    text: &mut Vec<u8>,
     digits: &[u8],
     columns: &[Vec<Answer>],
     at: usize,
 ) -> Result<(), AllocError>
     requires few { All (λ k. k ≤ 18) digits.now }
     requires long { All (λ column. at < length column.items) columns.now }
-    ensures { OnOk result (AddsFields (answer_texts digits.now (answers_at columns.now at)) lines.old lines.new) }
+    ensures { OnOk result (AddsParts (answer_texts digits.now (answers_at columns.now at))
+        text.old.items text.new.items) }
 {
     let mut number = Buffer::new();
     for which in 0..digits.len().min(columns.len()) {
-        let field = answer_field(&mut number, buffer, digits[which], &columns[which][at])?;
-        put_field(lines, field)?;
+        push_answer(text, &mut number, digits[which], &columns[which][at])?;
     }
     Ok(())
 }
 
-// The buffer is for fractions and numbers with a point, and what it holds doesn't matter.
-fn put_row(
-    lines: &mut Lines,
-    buffer: &mut Vec<u8>,
-    digits: &[u8],
-    row: &Row,
-) -> Result<(), AllocError>
+// Puts the line of a row.
+fn put_row(text: &mut Vec<u8>, digits: &[u8], row: &Row) -> Result<(), AllocError>
     requires { All (λ k. k ≤ 18) digits.now }
-    ensures { OnOk result (AddsText (line_with digits.now row.now) lines.old lines.new) }
+    ensures { OnOk result (text.new.items ≡ text.old.items ++ line_with digits.now row.now) }
 {
     let coords = row.key.coords.as_slice();
-    put_coords(lines, coords)?;
-    put_groupings(lines, coords)?;
-    put_answers(lines, buffer, digits, row.answers.as_slice())?;
-    end_line(lines)
+    let start = text.as_slice().len();
+    put_coords(text, coords)?;
+    put_groupings(text, coords)?;
+    put_answers(text, digits, row.answers.as_slice())?;
+    close_line(text, start)
 }
 
-fn put_coords(lines: &mut Lines, coords: &[Coord]) -> Result<(), AllocError>
-    ensures { OnOk result (AddsFields (map coord_text coords.now) lines.old lines.new) }
+fn put_coords(text: &mut Vec<u8>, coords: &[Coord]) -> Result<(), AllocError>
+    ensures { OnOk result (AddsParts (map coord_text coords.now) text.old.items text.new.items) }
 {
     for coord in coords {
-        put_field(lines, coord_field(CoordRef::of(coord)))?;
+        push_coord(text, CoordRef::of(coord))?;
     }
     Ok(())
 }
 
-fn coord_field(coord: CoordRef<'_>) -> &[u8]
-    ensures { result.now ≡ coord_text (referred_coord coord.entry) }
-{
-    match coord {
-        CoordRef::Text(text) => text.as_bytes(),
-        CoordRef::Null | CoordRef::All => b"\\N",
-    }
-}
-
-fn put_groupings(lines: &mut Lines, coords: &[Coord]) -> Result<(), AllocError>
-    ensures { OnOk result (AddsFields (map grouping_text coords.now) lines.old lines.new) }
+fn put_groupings(text: &mut Vec<u8>, coords: &[Coord]) -> Result<(), AllocError>
+    ensures { OnOk result (AddsParts (map grouping_text coords.now) text.old.items text.new.items) }
 {
     for coord in coords {
-        put_field(lines, grouping_field(CoordRef::of(coord)))?;
+        push_grouping(text, CoordRef::of(coord))?;
     }
     Ok(())
 }
 
-fn grouping_field(coord: CoordRef<'_>) -> &'static [u8]
-    ensures { result.now ≡ grouping_text (referred_coord coord.entry) }
-{
-    match coord {
-        CoordRef::Text(_) | CoordRef::Null => b"0",
-        CoordRef::All => b"1",
-    }
-}
-
-fn put_answers(
-    lines: &mut Lines,
-    buffer: &mut Vec<u8>,
-    digits: &[u8],
-    answers: &[Answer],
-) -> Result<(), AllocError>
+fn put_answers(text: &mut Vec<u8>, digits: &[u8], answers: &[Answer]) -> Result<(), AllocError>
     requires { All (λ k. k ≤ 18) digits.now }
-    ensures { OnOk result (AddsFields (answer_texts digits.now answers.now) lines.old lines.new) }
+    ensures { OnOk result (AddsParts (answer_texts digits.now answers.now) text.old.items text.new.items) }
 {
     let mut number = Buffer::new();
     for which in 0..digits.len().min(answers.len()) {
-        let field = answer_field(&mut number, buffer, digits[which], &answers[which])?;
-        put_field(lines, field)?;
+        push_answer(text, &mut number, digits[which], &answers[which])?;
     }
     Ok(())
-}
-
-// The field lies in one of the two buffers, unless it is null's.
-fn answer_field<'b>(
-    number: &'b mut Buffer,
-    buffer: &'b mut Vec<u8>,
-    digits: u8,
-    answer: &Answer,
-) -> Result<&'b [u8], AllocError>
-    requires { digits ≤ 18 }
-    ensures { IfOk result (λ field. field.now ≡ answer_text digits answer.now) }
-{
-    match *answer {
-        Answer::Null => Ok(b"\\N"),
-        Answer::Count(count) => Ok(number.format(count).as_bytes()),
-        Answer::Whole(value) => {
-            if digits == 0 {
-                return Ok(number.format(value).as_bytes());
-            }
-            write_units(number, buffer, digits, value)?;
-            Ok(buffer.as_slice())
-        }
-        Answer::Ratio { p, q } => {
-            write_fraction(number, buffer, digits, p, q)?;
-            Ok(buffer.as_slice())
-        }
-    }
-}
-
-// Puts so many units in place of what the buffer holds.
-fn write_units(
-    number: &mut Buffer,
-    buffer: &mut Vec<u8>,
-    digits: u8,
-    value: i128,
-) -> Result<(), AllocError>
-    ensures { OnOk result (buffer.new.items ≡ signed_units_text digits value) }
-{
-    buffer.clear();
-    push_units(buffer, number, digits, value)
-}
-
-// Puts the fraction of units in place of what the buffer holds.
-fn write_fraction(
-    number: &mut Buffer,
-    buffer: &mut Vec<u8>,
-    digits: u8,
-    p: i128,
-    q: u64,
-) -> Result<(), AllocError>
-    requires { digits ≤ 18 }
-    ensures { OnOk result (buffer.new.items ≡ fraction_text digits p q) }
-{
-    buffer.clear();
-    push_fraction(buffer, number, digits, p, q)
 }

@@ -5,7 +5,7 @@ ghost use Rattle.cube_tool.specs.Faults.{fault_of_build, fault_of_feeding, fault
 use cube_build::FeedingFault;
 use cube_feed::FeedFault;
 use cube_ledger::BuildFault;
-use cube_writing::WriteFault;
+use cube_lines::WriteFault;
 use std::alloc::AllocError;
 use thiserror::Error;
 

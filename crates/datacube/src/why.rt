@@ -5,6 +5,7 @@ use crate::path_of;
 use cube_build::Built;
 use cube_console::Request;
 use cube_core::Schema;
+use cube_lines::write_whole;
 use cube_store_commands::StoredFailure;
 use cube_tool::command::{read_condition, read_schema};
 use cube_why::{
@@ -13,7 +14,6 @@ use cube_why::{
     refused_unread, tell_columns, tell_header, tell_limit, tell_record, tell_repeated, tell_schema,
     tell_unclosed, unclosed_line,
 };
-use cube_writing::write_whole;
 use std::alloc::AllocError;
 use std::fs::File;
 use std::io::{IsTerminal, Read};

@@ -16,12 +16,18 @@ use std::alloc::{AllocError, Global};
 use std::cmp::Ordering;
 use std::marker::Model;
 
+// How many codes are kept at hand.
+const AT_HAND: usize = 256;
+
 /// The different texts of a dimension, in the order in which they came.
 ///
-/// They are hashed by SipHash under a key that the schema brings, since whoever writes a feed chooses them.
+/// They are hashed by SipHash under a key that the schema brings, since whoever writes a feed chooses them. A text that came
+/// lately is found without a hash, among the codes at hand: where the last bytes of a text lead to a code, its text is
+/// compared.
 #[derive(Drop)]
 pub struct Dictionary {
     texts: IndexSet<String, HashKey>,
+    at_hand: [u32; AT_HAND],
 }
 
 impl Model for Dictionary {
@@ -43,6 +49,7 @@ impl Dictionary {
     {
         Dictionary {
             texts: IndexSet::with_hasher(alloc, key),
+            at_hand: [NONE; AT_HAND],
         }
     }
 
@@ -143,10 +150,38 @@ impl Dictionary {
         ensures dictionary { IsDictionary self.new }
         ensures err { OnErr result (self.new ≡ self.old) }
     {
-        let _ = &self.texts;
         let Some(text) = value else {
+            let _ = &self.texts;
             return Ok(NULL);
         };
+        let hand = hand_of(text);
+        let code = self.at_hand[hand];
+        if self.stands_at(code, text) {
+            return Ok(code);
+        }
+        let code = self.code_of_listed(alloc, text)?;
+        self.at_hand[hand] = code;
+        Ok(code)
+    }
+
+    // Whether a text stands at a place.
+    fn stands_at(&self, place: u32, text: &str) -> bool
+        ensures { result ≡ true →
+            (place < length self.now) × (get_or self.now place [] ≡ text.now) }
+    {
+        let place = place as usize;
+        place < self.len() && self.text(place) == text
+    }
+
+    // The code of a text, which becomes the last where it isn't there.
+    fn code_of_listed(&mut self, alloc: Global, text: &str) -> Result<u32, AllocError>
+        ensures texts { OnOk result (self.new ≡ texts_with (Some text.now) self.old) }
+        ensures code { IfOk result (IsCodeOf self.new (coord.Text text.now)) }
+        ensures valid { IfOk result (λ code. is_code self.new code ≡ true) }
+        ensures dictionary { IsDictionary self.new }
+        ensures err { OnErr result (self.new ≡ self.old) }
+    {
+        let _ = &self.texts;
         let code = self.code_of_text(text);
         if code == NONE {
             return self.push(alloc, text);
@@ -220,6 +255,20 @@ fn first_code(codes: &[u32]) -> (u32, &[u32])
         None => (ALL, codes),
         Some((code, others)) => (*code, others),
     }
+}
+
+// Where the code of a text is kept at hand: by its last two bytes, so that numbers at the end of texts lead apart.
+fn hand_of(text: &str) -> usize
+    ensures { result < 256 }
+{
+    let Some((last, front)) = text.as_bytes().split_last() else {
+        return 0;
+    };
+    let before = match front.last() {
+        Some(byte) => *byte,
+        None => 0,
+    };
+    usize::from(last.wrapping_add(before.wrapping_mul(10)))
 }
 
 // The code of the next of so many texts. There are codes for more texts than an `IndexSet` has places.

@@ -14,6 +14,7 @@ ghost use Rattle.cube_cells.specs.declared.cube.codes.Codes.{Codes};
 use super::codes::Codes;
 use super::dictionary::{Dictionary, compare_keys};
 use super::keyed::KeyedCell;
+use super::ranks::KeyRanks;
 use crate::cell::Cell;
 use cube_core::{Agg, Key, Row, Sequence};
 use cube_values::{Counted, Numbers};
@@ -23,7 +24,7 @@ use std::marker::Model;
 /// Where a row comes from: a cell, and the ranks of its key.
 #[derive(Drop)]
 pub struct Place<'c, N: Numbers = Counted> {
-    pub ranks: [u32; 8],
+    pub ranks: KeyRanks,
     pub codes: &'c Codes,
     pub cell: &'c Cell<N>,
 }

@@ -1,11 +1,14 @@
 //! The ranks of the texts of a dimension, so that keys are put in order without a look at their texts.
-ghost use Rattle.std.specs.Prelude.{◌≡◌, ◌<◌, ◌≤◌, ◌^◌, List, ℕ, IfOk, length, get_or};
+ghost use Rattle.std.specs.Prelude.{◌≡◌, ◌<◌, ◌≤◌, ◌/◌, ◌%◌, ◌^◌, List, ℕ, IfOk, length, get_or};
+ghost use Rattle.std.specs.Cmp.Lexicographic.{slice_cmp};
+ghost use Rattle.std.specs.Ordering.{nat_cmp};
 ghost use Rattle.cube_cells.specs.Codes.{IsDictionary};
 ghost use Rattle.cube_cells.specs.Ranks.{AreRanks, AreAllRanks, AreInOrder, LeadBack, rank_of, ranks_of};
 
 use super::codes::Codes;
 use super::dictionary::Dictionary;
 use std::alloc::{AllocError, Global};
+use std::cmp::Ordering;
 use std::marker::Model;
 
 /// The ranks of the texts of a dimension by their codes.
@@ -43,6 +46,52 @@ impl Ranks {
     }
 }
 
+/// The ranks of a key, two in a word, so that there are few words to compare.
+#[derive(Drop)]
+pub struct KeyRanks {
+    words: [u64; 4],
+}
+
+impl Model for KeyRanks {
+    ghost use Rattle.std.specs.Prelude.{List, ℕ};
+    ghost use Rattle.cube_cells.specs.Ranks.{halves};
+
+    ghost Value = { List ℕ };
+
+    ghost view = { λ r. halves r.words };
+}
+
+impl KeyRanks {
+    /// These ranks.
+    fn of(ranks: [u32; 8]) -> KeyRanks
+        ensures { result ≡ ranks }
+    {
+        KeyRanks {
+            words: [
+                word_of(ranks[0], ranks[1]),
+                word_of(ranks[2], ranks[3]),
+                word_of(ranks[4], ranks[5]),
+                word_of(ranks[6], ranks[7]),
+            ],
+        }
+    }
+
+    /// How keys of these ranks stand to each other.
+    pub fn cmp(&self, other: &KeyRanks) -> Ordering
+        ensures { result ≡ slice_cmp nat_cmp self.now other.now }
+    {
+        self.words.cmp(&other.words)
+    }
+}
+
+// Two numbers in a word.
+fn word_of(high: u32, low: u32) -> u64
+    ensures high { result / 4294967296 ≡ high }
+    ensures low { result % 4294967296 ≡ low }
+{
+    u64::from(high) * 4294967296 + u64::from(low)
+}
+
 /// The ranks of the texts of each dimension.
 pub fn ranks_of_all(alloc: Global, dictionaries: &[Dictionary]) -> Result<Vec<Ranks>, AllocError>
     ensures { IfOk result (λ ranks. AreAllRanks dictionaries.now ranks.items) }
@@ -55,7 +104,7 @@ pub fn ranks_of_all(alloc: Global, dictionaries: &[Dictionary]) -> Result<Vec<Ra
 }
 
 /// The ranks of codes, which compare as their keys do.
-pub fn ranks_of(ranks: &[Ranks], codes: &Codes) -> [u32; 8]
+pub fn ranks_of(ranks: &[Ranks], codes: &Codes) -> KeyRanks
     requires { length ranks.now ≤ 8 }
     ensures { result ≡ ranks_of ranks.now codes.now.codes }
 {
@@ -63,7 +112,7 @@ pub fn ranks_of(ranks: &[Ranks], codes: &Codes) -> [u32; 8]
     for (place, dimension) in ranks.iter().enumerate() {
         found[place] = dimension.rank_of(found[place]);
     }
-    found
+    KeyRanks::of(found)
 }
 
 // The places of the texts of a dictionary, in the order of the texts.

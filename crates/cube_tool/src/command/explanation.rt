@@ -7,7 +7,7 @@ use crate::command::failure::Failure;
 use crate::command::notes::Note;
 use crate::command::status::Status;
 use crate::fault::RunFault;
-use cube_writing::write_whole;
+use cube_lines::write_whole;
 use std::alloc::{AllocError, Global};
 use std::io::Write;
 

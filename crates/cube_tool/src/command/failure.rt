@@ -6,9 +6,9 @@ use crate::command::status::Status;
 use crate::fault::{RunFault, TextFault};
 use cube_build::FeedingFault;
 use cube_core::{QueryFault, SchemaFault};
+use cube_lines::WriteFault;
 use cube_live::{JournalFault, SessionFault};
 use cube_merge::MergeFault;
-use cube_writing::WriteFault;
 use std::fmt;
 
 /// Why a command failed. Its text is the line for standard error, without the line end.

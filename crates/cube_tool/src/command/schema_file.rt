@@ -7,7 +7,7 @@ ghost use Rattle.cube_tool.specs.Command.{AnswersFile, CheckLeaves, IsReadFailur
 use crate::command::failure::Failure;
 use crate::command::status::Status;
 use cube_core::{Schema, SchemaFault};
-use cube_writing::write_whole;
+use cube_lines::write_whole;
 use std::alloc::Global;
 use std::io::{Error, ErrorKind, Read, Write};
 

@@ -8,7 +8,7 @@ use crate::command::failure::Failure;
 use crate::command::status::Status;
 use crate::fault::RunFault;
 use clap::Error;
-use cube_writing::write_whole;
+use cube_lines::write_whole;
 use std::alloc::Global;
 use std::io::Write;
 

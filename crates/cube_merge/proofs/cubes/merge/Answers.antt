@@ -1,9 +1,11 @@
-use Rattle.std.proofs.Common.{◌≡◌, ◌∙◌, ◌++◌, ap, map, refl, subst}
-use Rattle.std.specs.List.{AllZip}
+use Rattle.std.proofs.Common.{◌≡◌, ◌∙◌, ◌++◌, ap, map, refl, subst, sym, true}
+use Rattle.std.specs.List.{AllZip, list_all}
+use Rattle.std.proofs.lemmas.Bool.{both_ways}
 use Rattle.std.proofs.lemmas.Result.{IfErr-weaker, err_from_is_err_and, on_ok_weaker}
 use Rattle.cube_core.specs.Text.{header_fields, line}
 use Rattle.cube_merge.specs.Faults.{FailsToOpenAll}
 use Rattle.cube_merge.specs.Merging.{TookHeader}
+use Rattle.cube_merge.specs.Source.{can_be_made}
 use Rattle.cube_merge.proofs.CubesLaws.{IsMergeOf-ends}
 use Rattle.cube_merge.proofs.FaultLaws.{FailsToMerge-inputs, FailsToMerge-open}
 use Rattle.cube_merge.proofs.LackLaws.{tells-inputs, tells-open}
@@ -60,3 +62,31 @@ returns-in_err-inputs-clause-lacks g c =
     let p = err_from_is_err_and c.from_residual-in_err-inputs.result c.from_residual-in_err-inputs.ensures.1 in
     rw (p.1, p.2) (tells-open _ _ c.args.given.now.aggregates c.args.wanted.now.aggregates c.in_err-inputs.field-0.0
     c.in_err-inputs.ensures.err)
+
+pub returns-in_err-sources-clause-refused : goal.returns-in_err-sources-clause-refused
+returns-in_err-sources-clause-refused g c =
+    let can : list_all (can_be_made c.args.given.now.aggregates) c.args.wanted.now.aggregates ≡ true =
+    rw (c.aggregates.ensures.value, c.aggregates-2.ensures.value) at (sym c.can_all_be_made.ensures
+    ∙ c.if-not-can_all_be_made.false) in
+    λ lack. absurd (both_ways _ lack can)
+
+pub returns-in_err-push_header-clause-refused : goal.returns-in_err-push_header-clause-refused
+returns-in_err-push_header-clause-refused g c =
+    let can : list_all (can_be_made c.args.given.now.aggregates) c.args.wanted.now.aggregates ≡ true =
+    rw (c.aggregates.ensures.value, c.aggregates-2.ensures.value) at (sym c.can_all_be_made.ensures
+    ∙ c.if-not-can_all_be_made.false) in
+    λ lack. absurd (both_ways _ lack can)
+
+pub returns-in_err-inputs-clause-refused : goal.returns-in_err-inputs-clause-refused
+returns-in_err-inputs-clause-refused g c =
+    let can : list_all (can_be_made c.args.given.now.aggregates) c.args.wanted.now.aggregates ≡ true =
+    rw (c.aggregates.ensures.value, c.aggregates-2.ensures.value) at (sym c.can_all_be_made.ensures
+    ∙ c.if-not-can_all_be_made.false) in
+    λ lack. absurd (both_ways _ lack can)
+
+pub returns-clause-refused : goal.returns-clause-refused
+returns-clause-refused g c =
+    let can : list_all (can_be_made c.args.given.now.aggregates) c.args.wanted.now.aggregates ≡ true =
+    rw (c.aggregates.ensures.value, c.aggregates-2.ensures.value) at (sym c.can_all_be_made.ensures
+    ∙ c.if-not-can_all_be_made.false) in
+    λ lack. absurd (both_ways _ lack can)

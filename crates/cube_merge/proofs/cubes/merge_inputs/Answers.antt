@@ -1,4 +1,4 @@
-use Rattle.std.proofs.Common.{◌≡◌, ◌∙◌, length, refl, subst, inl, inr}
+use Rattle.std.proofs.Common.{◌≡◌, ◌∙◌, ap, false, get_or, length, refl, subst, inl, inr}
 use Rattle.std.proofs.lemmas.Result.{IfErr-weaker, err_from_is_err_and, on_ok_weaker}
 use Rattle.cube_merge.specs.Faults.{FailsAfter}
 use Rattle.cube_merge.specs.Merging.{AllMove}
@@ -40,8 +40,10 @@ pub returns-in_err-move_inputs-clause-err : goal.returns-in_err-move_inputs-clau
 returns-in_err-move_inputs-clause-err g c =
     let p =
     err_from_is_err_and c.from_residual-in_err-move_inputs.result c.from_residual-in_err-move_inputs.ensures.1 in
+    let used = c.in_ok-used.ensures {u = tt} in
     rw (p.1, p.2) (λ starts fresh. inl (
       refl,
       FailsAtFirstLine-moves c.args.given.now (c.as_slice.result.now) c.args.inputs.now _
+          (λ k inside. ap (λ us. get_or us k false) c.as_slice.ensures.value ∙ used.used k inside)
           c.in_err-move_inputs.ensures.err,
     ))

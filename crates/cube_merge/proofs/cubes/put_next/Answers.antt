@@ -26,8 +26,8 @@ returns-in_err-move_inputs-clause-err g c =
     let next = (c.in_ok-put_row.ensures.ok).2 in
     let p =
     err_from_is_err_and c.from_residual-in_err-move_inputs.result c.from_residual-in_err-move_inputs.ensures.1 in
-    rw (p.1, p.2) (StepFails-moves c.args.given.now c.put_row.new.desk.joint.used.items c.args.inputs.now _ _ next.uses
-    (rw c.as_slice-2.ensures.value at c.in_err-move_inputs.ensures.err))
+    rw (p.1, p.2) (StepFails-moves c.args.given.now c.put_row.new.desk.joint.used.items c.args.inputs.now _ _ next.wide
+    next.uses next.some next.fit (rw c.as_slice-2.ensures.value at c.in_err-move_inputs.ensures.err))
 
 pub put_moved-requires : goal.put_moved-requires
 put_moved-requires g c =

@@ -2,7 +2,7 @@ use Rattle.std.proofs.Common.{◌≡◌, ◌∙◌, ap, refl, subst, Some, IfSom
 use Rattle.std.proofs.lemmas.Result.{err_from_is_err_and}
 use Rattle.cube_core.specs.declared.key.Row.{Row}
 use Rattle.cube_merge.specs.Merging.{nothing_left}
-use Rattle.merge_lines.specs.Parts.{key_parts}
+use Rattle.cube_lines.specs.Parts.{key_parts}
 use Rattle.cube_merge.proofs.LeastLaws.{at_place, used_rows-some}
 use Rattle.cube_merge.proofs.CubesLaws.{IsLeastSoFar-all}
 use Rattle.cube_merge.proofs.FaultLaws.{StepFails-join}

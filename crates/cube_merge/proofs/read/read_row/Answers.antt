@@ -1,6 +1,6 @@
 use Rattle.std.proofs.Common.{◌≡◌, ◌≤◌, ◌∙◌, sym, true, rules, arith, length}
 use Rattle.cube_core.specs.Text.{row_line}
-use Rattle.merge_lines.specs.Parts.{EndsLine}
+use Rattle.cube_lines.specs.Parts.{EndsLine}
 use Rattle.cube_merge.specs.Lawful.{IsLawfulRow}
 use Rattle.cube_merge.proofs.read.read_row.Goals as goal
 

@@ -43,6 +43,7 @@ returns-in-Err-clause-err g c =
     (subst (λ (i : InputView). FailsToMove s i c.in-Err.fault c.lines.result)
     (sym (get_or_default olds place nothing_left old inside) ∙ before.rest place (omega arith))
     (subst (FailsToMove s (get_or olds place old) c.in-Err.fault) (sym lines) failed.1))
+    (λ k below. (get_or olds k nothing_left, before.done k below))
 
 pub returns-clause-ok : goal.returns-clause-ok
 returns-clause-ok g c =

@@ -1,5 +1,8 @@
 use Rattle.std.proofs.Common.{map}
+use Rattle.cube_store.specs.Calls.{IsntReopened}
+use Rattle.cube_store.specs.Codes.{IsToldOf}
 use Rattle.cube_store.specs.Rows.{entries_of}
+use Rattle.cube_store.specs.State.{IsStore, IsUnmade}
 use Rattle.cube_store_commands.proofs.AskingLaws as laws
 use Rattle.cube_store_commands.proofs.asking.ask_stored.Goals as goal
 
@@ -53,3 +56,26 @@ returns-clause-written g c = rw c.from-in-Err-resume_made.ensures (λ clean.
     (map g.R.Read.remaining c.args.feeds.readers.items)
     (g.S.Store.view c.args.feeds.store) c.in-Ok.live c.in-Ok.ensures.ok c.in-Ok.ensures.schema _
     c.in-Err-resume_made.fault (g.W.Write.contents c.args.out.now) (c.in-Err-resume_made.ensures.accepts clean))
+
+pub returns-in-Err-clause-unwritten : goal.returns-in-Err-clause-unwritten
+returns-in-Err-clause-unwritten g c = rw c.from.ensures
+    (laws.FailsUnwritten-unopened c.in-Err.fault (g.W.Write.contents c.args.out.now))
+
+pub returns-clause-unwritten : goal.returns-clause-unwritten
+returns-clause-unwritten g c = rw c.from-in-Err-resume_made.ensures
+    (laws.LeavesUnwritten-refused c.in-Err-resume_made.fault (g.W.Write.contents c.args.out.now))
+
+pub returns-clause-cause : goal.returns-clause-cause
+returns-clause-cause g c = rw c.from-in-Err-resume_made.ensures (λ clean.
+    laws.IfStoreRefused-untaken
+    (IsToldOf (IsntReopened g.S.Store c.args.feeds.store c.in-Err-resume_made.store
+    (entries_of c.args.feeds.notes.items)))
+    c.in-Err-resume_made.fault (rw c.deref.ensures.value at (c.in-Err-resume_made.ensures.cause clean)))
+
+pub returns-clause-accepts : goal.returns-clause-accepts
+returns-clause-accepts g c = rw c.from-in-Err-resume_made.ensures (λ clean may.
+    laws.IfStoreRefused-explains c.in-Ok.live (g.S.Store.view c.args.feeds.store)
+    (IsStore (g.S.Store.view c.args.feeds.store) (entries_of c.args.feeds.notes.items)
+    × (¬ IsUnmade (g.S.Store.view c.args.feeds.store)))
+    c.in-Err-resume_made.fault
+    ((rw c.deref.ensures.value at c.in-Err-resume_made.ensures.accepts) clean) may)

@@ -1,4 +1,6 @@
 use Rattle.std.proofs.Common.{refl}
+use Rattle.cube_store.specs.Calls.{IsntStarted}
+use Rattle.cube_store.specs.Codes.{IsToldOf, TellsFailedCall}
 use Rattle.cube_store.specs.Rows.{entries_of}
 use Rattle.cube_store_commands.proofs.SessionLaws as laws
 use Rattle.cube_store_commands.proofs.live_session.live_stored.Goals as goal
@@ -28,3 +30,23 @@ returns-clause-err g c = rw c.from-in-Err-served.ensures
     c.in-Ok.live c.in-Ok.ensures.ok (g.S.Store.recovers c.args.feeds.store)
     c.in-Err-served.fault _ _ c.in-Ok.ensures.schema
     (rw (c.new-records.ensures, c.deref.ensures.value) at c.in-Err-served.ensures.err))
+
+pub returns-in-Err-clause-unwritten : goal.returns-in-Err-clause-unwritten
+returns-in-Err-clause-unwritten g c = rw c.from.ensures
+    (laws.FailsUnwritten-unopened c.in-Err.fault (g.W.Write.contents c.args.out.now))
+
+pub returns-clause-unwritten : goal.returns-clause-unwritten
+returns-clause-unwritten g c = rw c.from-in-Err-served.ensures
+    (laws.LeavesUnwritten-failed c.in-Err-served.fault (g.W.Write.contents c.args.out.now)
+    (g.W.Write.contents c.serve_stored-served.new.out) c.in-Err-served.ensures.unwritten)
+
+pub returns-clause-cause : goal.returns-clause-cause
+returns-clause-cause g c = rw c.from-in-Err-served.ensures (λ clean.
+    laws.IfStoreRefused-failed
+    (IsToldOf (IsntStarted g.S.Store c.args.feeds.store c.in-Err-served.store c.args.feeds.notes.items))
+    c.in-Err-served.fault (rw c.deref.ensures.value at (c.in-Err-served.ensures.cause clean)))
+
+pub returns-clause-accepts : goal.returns-clause-accepts
+returns-clause-accepts g c = rw c.from-in-Err-served.ensures (λ clean may.
+    laws.IfStoreRefused-failed TellsFailedCall c.in-Err-served.fault
+    ((rw c.deref.ensures.value at c.in-Err-served.ensures.accepts) clean may))

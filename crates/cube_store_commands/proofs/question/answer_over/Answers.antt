@@ -19,3 +19,8 @@ returns-in-Err-clause-err g c = λ arrivals stands fits.
     laws.FailsAt-told c.args.terms.now c.args.question.now c.args.live c.in-Err.failure _ _ _
     c.into_ledger-ledger.ensures.live c.told_as.ensures
     (rw (c.schema-schema.ensures, c.into_ledger-ledger.ensures.value) at c.in-Err.ensures.err) arrivals stands
+
+pub returns-in-Err-clause-unwritten : goal.returns-in-Err-clause-unwritten
+returns-in-Err-clause-unwritten g c =
+    laws.FailsUnwritten-told c.args.terms.now c.args.question.now c.args.live c.in-Err.failure _ _ _ c.told_as.ensures
+    (rw (c.schema-schema.ensures, c.into_ledger-ledger.ensures.value) at c.in-Err.ensures.err)

@@ -1,6 +1,5 @@
 use Rattle.std.proofs.Common.{◌∙◌, sym, subst, ap}
 use Rattle.sqlite_trees.specs.View.{IsClean}
-use Rattle.cube_store.specs.Rows.{entries_of}
 use Rattle.cube_store.specs.State.{stored_in, noted_in, form_in}
 use Rattle.cube_store_commands.proofs.ReplayLaws as replays
 use Rattle.cube_store_commands.proofs.session.resume_made.Goals as goal

@@ -7,7 +7,7 @@ use Rattle.std.proofs.lemmas.Result.{IfOk-weaker}
 use Rattle.std.proofs.lemmas.List.{take_all, get_or-map, length-map}
 use Rattle.std.proofs.lemmas.Grind.{div_ceil_times}
 use Rattle.cube_core.specs.Text.{digits_of_answers, line, header_fields}
-use Rattle.cube_writing.specs.Pieces.{text_of_pieces}
+use Rattle.cube_lines.specs.Pieces.{text_of_pieces}
 use Rattle.cube_text.proofs.PartLaws.{text_of_parts}
 use Rattle.cube_text.proofs.print.print_cells_in_pieces.Goals as goal
 

@@ -1,8 +1,8 @@
-use Rattle.std.proofs.Common.{take}
+use Rattle.std.proofs.Common.{◌≡◌, ◌++◌, take}
 use Rattle.cube_core.specs.Text.{answer_texts}
-use Rattle.cube_text.specs.Lines.{AddsFields}
+use Rattle.cube_lines.specs.Parts.{parts}
 use Rattle.cube_text.proofs.print.put_answers.Given as goal
 
 abbrev pub invariant-loop-which : goal.invariant-loop-which
 invariant-loop-which l =
-    AddsFields (answer_texts (take l.which l.digits) (take l.which l.answers)) l.initial.lines l.lines
+    l.text.items ≡ l.initial.text.items ++ parts (answer_texts (take l.which l.digits) (take l.which l.answers))

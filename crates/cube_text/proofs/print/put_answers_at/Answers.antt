@@ -1,4 +1,4 @@
-use Rattle.std.proofs.Common.{◌≡◌, ◌∙◌, ◌<◌, ◌≤◌, ap, arith, get_or, length, refl, sym}
+use Rattle.std.proofs.Common.{◌≡◌, ◌++◌, ◌∙◌, ◌<◌, ◌≤◌, ap, arith, get_or, length, refl, sym}
 use Rattle.std.specs.Global.{Vec}
 use Rattle.std.specs.Prelude.{min}
 use Rattle.std.proofs.Math.ListN.{get_or-map}
@@ -6,13 +6,14 @@ use Rattle.std.proofs.lemmas.List.{get_or_default, get_or_read, length-map}
 use Rattle.std.proofs.lemmas.List.Elements.{All-get_or}
 use Rattle.cube_core.specs.declared.aggregate.Answer.{Answer}
 use Rattle.cube_core.specs.declared.aggregate.Answer.TheVariants as answer
-use Rattle.cube_units.proofs.AnswerTextsLaws.{answer_texts-whole}
+use Rattle.cube_lines.proofs.AnswerTextsLaws.{answer_texts-whole}
 use Rattle.cube_text.specs.Rows.{answers_at}
-use Rattle.cube_text.proofs.LineLaws.{AddsFields-answer}
+use Rattle.cube_lines.specs.Parts.{parts}
+use Rattle.cube_text.proofs.FieldLaws.{AddsParts-answer}
 use Rattle.cube_text.proofs.print.put_answers_at.Goals as goal
 
-pub answer_field-requires : goal.answer_field-requires
-answer_field-requires c =
+pub push_answer-requires : goal.push_answer-requires
+push_answer-requires c =
     let inside : c.loop-which.which < length c.args.digits.now =
     omega (arith, c.loop-which-test.true, c.min-which-end.ensures) in
     All-get_or (λ k. k ≤ 18) c.args.digits.now c.loop-which.which 0 inside c.requires.few
@@ -36,9 +37,9 @@ loop-which-preserved c =
     get_or_read column.items at c.index.result.now within c.index.ensures answer.Null
     ∙ ap here c.index-columns-which.is ∙ sym (get_or-map here columns i column)
     ∙ get_or_default answers i (here column) answer.Null inside_too in
-    AddsFields-answer digits answers i (get_or digits i 0) c.index.result.now c.in_ok-field.field.now _ _
-    c.put_field.new.lines inside inside_too refl is c.in_ok-field.ensures c.loop-which.invariant
-    c.in_ok-put_field.ensures
+    AddsParts-answer digits answers i (get_or digits i 0) c.index.result.now c.args.text.now.items
+    c.loop-which.text.items c.push_answer.new.text.items inside inside_too refl is c.loop-which.invariant
+    c.in_ok-push_answer.ensures
 
 pub returns : goal.returns
 returns c =
@@ -49,4 +50,5 @@ returns c =
     length-map columns (λ (l : Vec Answer). get_or l.items c.args.at answer.Null) in
     let end : c.loop-which.which ≡ min (length digits) (length answers) =
     omega (arith, c.loop-which-test.false, c.loop-which.auto.which-end, c.min-which-end.ensures, many) in
-    rw (answer_texts-whole c.loop-which.which digits answers end) at c.loop-which.invariant
+    c.loop-which.invariant ∙ ap (λ t. c.args.text.now.items ++ parts t)
+    (answer_texts-whole c.loop-which.which digits answers end)

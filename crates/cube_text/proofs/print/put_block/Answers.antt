@@ -5,7 +5,7 @@ use Rattle.cube_text.proofs.PartLaws.{GoesOn-none, GoesOn-cell}
 use Rattle.cube_text.proofs.print.put_block.Goals as goal
 
 pub loop-place-init : goal.loop-place-init
-loop-place-init g c = GoesOn-none c.args.digits.now c.args.cells.now c.args.from c.args.lines.now
+loop-place-init g c = GoesOn-none c.args.digits.now c.args.cells.now c.args.from c.args.text.now.items
 
 pub loop-place-preserved : goal.loop-place-preserved
 loop-place-preserved g c =

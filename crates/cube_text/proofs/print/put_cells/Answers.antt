@@ -4,7 +4,7 @@ use Rattle.cube_text.proofs.PartLaws.{GoesOn-none, GoesOn-both}
 use Rattle.cube_text.proofs.print.put_cells.Goals as goal
 
 pub loop-done-init : goal.loop-done-init
-loop-done-init g c = (c.requires.order, GoesOn-none c.args.digits.now c.args.cells.now c.args.from c.args.lines.now)
+loop-done-init g c = (c.requires.order, GoesOn-none c.args.digits.now c.args.cells.now c.args.from c.args.text.now.items)
 
 pub loop-done-preserved : goal.loop-done-preserved
 loop-done-preserved g c = (
@@ -16,5 +16,5 @@ loop-done-preserved g c = (
 pub returns : goal.returns
 returns g c =
     let end : c.loop-done.done ≡ c.args.to = omega arith in
-    subst (λ (n : ℕ). GoesOn c.args.digits.now c.args.cells.now c.args.from n c.args.lines.now c.loop-done.lines)
+    subst (λ (n : ℕ). GoesOn c.args.digits.now c.args.cells.now c.args.from n c.args.text.now.items c.loop-done.text.items)
     end c.loop-done.invariant.1

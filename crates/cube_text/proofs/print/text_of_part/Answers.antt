@@ -1,6 +1,5 @@
-use Rattle.std.proofs.Common.{◌≡◌, ◌+◌, ◌*◌, [], length}
+use Rattle.std.proofs.Common.{◌≡◌, ◌∙◌, ◌+◌, ◌*◌, ◌++◌, ap, length}
 use Rattle.std.specs.Prelude.{min}
-use Rattle.std.proofs.lemmas.Result.{IfOk-weaker}
 use Rattle.std.specs.List.{flat_map}
 use Rattle.cube_text.specs.Rows.{line_with}
 use Rattle.cube_text.proofs.PartLaws.{RowsGoOn-within, end_of_part}
@@ -13,14 +12,11 @@ returns g c =
     let which = c.args.which in
     let from = c.place_within-from.result in
     let part = c.in_ok-put_cells.ensures in
-    let all = part.added [] c.no_lines-lines.ensures in
     let end : from + c.min.result ≡ min (size * (which + 1)) (length o.cells) =
     rw (c.min.ensures, c.len.ensures) (end_of_part size which (length o.cells) from c.place_within-from.ensures) in
-    let on =
-    RowsGoOn-within o (size * which) (size * (which + 1)) from _ part.rows c.place_within-from.ensures end part.go_on in
-    IfOk-weaker c.into_text.result _ _
-    (λ bytes holds. record {
+    record {
       rows = part.rows;
-      go_on = on;
-      text_is = holds (flat_map (line_with c.args.digits.now) part.rows) all;
-    }) c.into_text.ensures
+      go_on = RowsGoOn-within o (size * which) (size * (which + 1)) from _ part.rows c.place_within-from.ensures end
+          part.go_on;
+      text_is = part.added ∙ ap (λ t. t ++ flat_map (line_with c.args.digits.now) part.rows) c.new-text.ensures.items;
+    }

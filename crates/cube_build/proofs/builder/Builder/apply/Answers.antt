@@ -1,4 +1,4 @@
-use Rattle.std.proofs.Common.{◌≤◌, length}
+use Rattle.std.proofs.Common.{◌≡◌, ◌≤◌, ◌∙◌, Some, None, length, refl, sym}
 use Rattle.std.proofs.lemmas.Result.{on_ok_weaker, on_err_weaker}
 use Rattle.cube_build.proofs.BuilderLaws.{IsBuilder-refuse, StandsAt-Enters}
 use Rattle.cube_ledger.proofs.RulingLaws.{AtSource-Obeys, AtSource-length, AtSource-put, AtSource-take}
@@ -84,3 +84,20 @@ returns-in-Put-clause-removal c =
     rw (← c.self.view_is)
     (on_err_weaker c.put.result (λ same. IsRemoval-puts old.schema
     (account_of old c.args.source).book c.args.item.what c.in-Put.id c.in-Put.fact ruling) c.put.ensures.err)
+
+pub returns-in-Refuse-clause-refused : goal.returns-in-Refuse-clause-refused
+returns-in-Refuse-clause-refused c = rw (← c.self.view_is) (λ code is. refl)
+
+pub returns-in-Put-clause-refused : goal.returns-in-Put-clause-refused
+returns-in-Put-clause-refused c =
+    let ruling = rw c.in-Put.is at c.in_ok-code.ensures.ruling in
+    rw (← c.self.view_is) (λ code is.
+    let clash : None ≡ Some code = sym ruling.lawful ∙ is in
+    absurd (cc clash))
+
+pub returns-in-Take-clause-refused : goal.returns-in-Take-clause-refused
+returns-in-Take-clause-refused c =
+    let ruling = rw c.in-Take.is at c.in_ok-code.ensures.ruling in
+    rw (← c.self.view_is) (λ code is.
+    let clash : None ≡ Some code = sym ruling.lawful ∙ is in
+    absurd (cc clash))

@@ -1,14 +1,19 @@
-use Rattle.std.proofs.Common.{◌≡◌, ◌==◌, ◌∙◌, subst, true}
-use Rattle.std.proofs.lemmas.Bool.{not_from_false, ne_eqb}
+use Rattle.std.proofs.Common.{◌≡◌, subst, refl, true}
 use Rattle.cube_core.specs.Layout.{is_listed}
-use Rattle.cube_cells.specs.Codes.{IsDictionary, no_code}
-use Rattle.cube_cells.proofs.Codes.DictionaryLaws.{is_code-is_listed}
+use Rattle.cube_cells.specs.Codes.{IsDictionary}
+use Rattle.cube_cells.proofs.Codes.DictionaryLaws.{IsCodeOf-StandsAt, is_listed-StandsAt}
 use Rattle.cube_cells.proofs.cube.dictionary.Dictionary.code_with.Goals as goal
 
-pub returns-clause-valid : goal.returns-clause-valid
-returns-clause-valid c =
-    let is : IsDictionary c.args.self.now = subst IsDictionary c.self.view_is c.self.invariant in
-    let code = c.code_of_text-code.result in
+pub returns-then-stands_at-clause-texts : goal.returns-then-stands_at-clause-texts
+returns-then-stands_at-clause-texts c =
+    let found = c.stands_at.ensures c.if-stands_at.true in
     let listed : is_listed c.in-Some.text.now c.args.self.now ≡ true =
-    c.code_of_text-code.ensures.listed ∙ not_from_false (code == no_code) (ne_eqb code no_code c.if-code.false) in
-    is_code-is_listed c.args.self.now c.in-Some.text.now code is c.code_of_text-code.ensures.code listed
+    is_listed-StandsAt c.in-Some.text.now c.args.self.now _ (record { below = found.0; is_text = found.1 }) in
+    rw (c.in-Some.is, listed) refl
+
+pub returns-then-stands_at-clause-code : goal.returns-then-stands_at-clause-code
+returns-then-stands_at-clause-code c =
+    let is : IsDictionary c.args.self.now = subst IsDictionary c.self.view_is c.self.invariant in
+    let found = c.stands_at.ensures c.if-stands_at.true in
+    rw c.in-Some.is (IsCodeOf-StandsAt c.args.self.now c.in-Some.text.now _ is
+    (record { below = found.0; is_text = found.1 }))

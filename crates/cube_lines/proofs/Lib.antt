@@ -1,0 +1,7 @@
+pub mod AnswerTextsLaws
+mod AppendLaws
+mod ParseLaws
+mod PieceLaws
+pub mod ScaleLaws
+pub mod TextLaws
+pub mod UnitTextLaws

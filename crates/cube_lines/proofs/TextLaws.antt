@@ -1,0 +1,276 @@
+-- How a line grows in memory, field by field.
+use Rattle.std.proofs.Common.{◌≡◌, ◌++◌, ◌+◌, ◌^◌, ◌<◌, ◌≤◌, ◌%◌, ◌∷◌, [], ℕ, ℤ, pos, negsuc, suc, true, false, List}
+use Rattle.std.proofs.Common.{length, map, take, get_or, refl, sym, ap, ◌∙◌, append_assoc, length-append, arith}
+use Rattle.std.proofs.Common.{decimal, codes, FitsSigned, drop, inl, inr, int_div, neg_ℤ, replicate, unsigned_abs, zero}
+use Rattle.std.proofs.Common.{◌*◌, ◌-◌, ◌/◌, ◌==◌}
+use Rattle.std.specs.List.{list_any}
+use Rattle.std.specs.Int.{w128}
+use Rattle.std.specs.Fmt.{signed_decimal}
+use Rattle.std.proofs.lemmas.Bool.{cases_Bool, ne_eqb, or_parts}
+use Rattle.std.proofs.lemmas.Fmt.{decimal_by_steps_wide}
+use Rattle.std.proofs.lemmas.Grind.{flat_map-append}
+use Rattle.std.proofs.lemmas.Int.{ints}
+use Rattle.std.proofs.lemmas.List.{append-nil, append_cancel_right, length-map, take-append-drop, take_more, map-append}
+use Rattle.std.proofs.lemmas.List.Folds.{list_any-append}
+use Rattle.std.proofs.Math.Nat.{div-le_self, mul-le-mul, pow-le-pow_right}
+use Rattle.csv.specs.Writing.{default_writer, escaped, field_text, fields_text, is_blank, needs_byte, needs_quotes}
+use Rattle.csv.specs.Writing.{row_body, row_text}
+use Rattle.csv.proofs.WriteFacts.{escaped-append, escaped-other}
+use Rattle.cube_core.specs.Layout.{Layout}
+use Rattle.cube_core.specs.Text.{answer_texts, common_with_ten, coord_text, digits_of_answers, fraction_text}
+use Rattle.cube_core.specs.Text.{grouping_text, line, padded, row_fields, row_line, signed_units_text, units_text}
+use Rattle.cube_core.specs.declared.key.Row.{Row}
+use Rattle.cube_lines.specs.Parts.{AddsParts, EndsLine, part, parts}
+
+-- one more field of those that a list gives
+pub AddsParts-more : {X : Type 0} (f : X → List ℕ) (xs : List X) (i : ℕ) (x : X) (start old new : List ℕ)
+    → i < length xs → x ≡ get_or xs i x
+    → old ≡ start ++ parts (map f (take i xs)) → AddsParts (f x ∷ []) old new
+    → new ≡ start ++ parts (map f (take (i + 1) xs))
+AddsParts-more f xs i x start old new inside is so_far adds =
+    let more : map f (take (i + 1) xs) ≡ map f (take i xs) ++ f x ∷ []
+    = ap (map f) (take_more xs i x inside) ∙ map-append f (take i xs) (get_or xs i x ∷ [])
+    ∙ ap (λ y. map f (take i xs) ++ f y ∷ []) (sym is) in
+    adds ∙ ap (λ t. t ++ parts (f x ∷ [])) so_far
+    ∙ append_assoc start (parts (map f (take i xs))) (parts (f x ∷ []))
+    ∙ ap (λ t. start ++ t) (sym (flat_map-append part (map f (take i xs)) (f x ∷ [])) ∙ ap parts (sym more))
+
+-- one more field behind others
+pub AddsParts-push : (fields : List (List ℕ)) (field : List ℕ) (start old new : List ℕ)
+    → old ≡ start ++ parts fields → AddsParts (field ∷ []) old new → new ≡ start ++ parts (fields ++ field ∷ [])
+AddsParts-push fields field start old new so_far adds =
+    adds ∙ ap (λ t. t ++ parts (field ∷ [])) so_far ∙ append_assoc start (parts fields) (parts (field ∷ []))
+    ∙ ap (λ t. start ++ t) (sym (flat_map-append part fields (field ∷ [])))
+
+map-id : (xs : List (List ℕ)) → map (λ x. x) xs ≡ xs
+map-id [] = refl
+map-id (x ∷ xs) = ap (λ t. x ∷ t) (map-id xs)
+
+-- one more field of those of a list
+pub AddsParts-take : (xs : List (List ℕ)) (i : ℕ) (x : List ℕ) (start old new : List ℕ) → i < length xs
+    → x ≡ get_or xs i x
+    → old ≡ start ++ parts (take i xs) → AddsParts (x ∷ []) old new → new ≡ start ++ parts (take (i + 1) xs)
+AddsParts-take xs i x start old new inside is so_far adds =
+    AddsParts-more (λ x. x) xs i x start old new inside is
+    (so_far ∙ ap (λ t. start ++ parts t) (sym (map-id (take i xs)))) adds
+    ∙ ap (λ t. start ++ parts t) (map-id (take (i + 1) xs))
+
+-- one more byte of a field between quotes
+pub escaped-more : (xs : List ℕ) (i : ℕ) (d : ℕ) (start old new : List ℕ) → i < length xs
+    → old ≡ start ++ escaped default_writer (take i xs) → new ≡ old ++ escaped default_writer (get_or xs i d ∷ [])
+    → new ≡ start ++ escaped default_writer (take (i + 1) xs)
+escaped-more xs i d start old new inside so_far adds =
+    adds ∙ ap (λ t. t ++ escaped default_writer (get_or xs i d ∷ [])) so_far
+    ∙ append_assoc start (escaped default_writer (take i xs)) (escaped default_writer (get_or xs i d ∷ []))
+    ∙ ap (λ t. start ++ t) (sym (escaped-append default_writer (take i xs) (get_or xs i d ∷ []))
+    ∙ ap (escaped default_writer) (sym (take_more xs i d inside)))
+
+-- a quote is doubled, any other byte stands for itself
+pub escaped-quote : escaped default_writer (34 ∷ []) ≡ 34 ∷ 34 ∷ []
+unfolding escaped
+escaped-quote = refl
+
+pub escaped-plain : (b : ℕ) → (b ≡ 34 → ⊥) → escaped default_writer (b ∷ []) ≡ b ∷ []
+escaped-plain b other = escaped-other default_writer b other
+
+pub escaped-none : escaped default_writer [] ≡ []
+unfolding escaped
+escaped-none = refl
+
+-- a field's part alone
+pub parts-one : (field : List ℕ) → parts (field ∷ []) ≡ field_text default_writer field ++ 44 ∷ []
+parts-one field = append-nil (part field)
+
+-- a field that needs no quotes
+pub AddsParts-plain : (field old new : List ℕ) → needs_quotes default_writer field ≡ false
+    → new ≡ (old ++ field) ++ 44 ∷ [] → AddsParts (field ∷ []) old new
+AddsParts-plain field old new plain is =
+    is ∙ append_assoc old field (44 ∷ [])
+    ∙ ap (λ t. old ++ t) (sym (parts-one field ∙ rw plain refl))
+
+-- a field in quotes
+pub AddsParts-quoted : (field old new : List ℕ) → needs_quotes default_writer field ≡ true
+    → new ≡ (((old ++ 34 ∷ []) ++ escaped default_writer field) ++ 34 ∷ []) ++ 44 ∷ [] → AddsParts (field ∷ []) old new
+AddsParts-quoted field old new quotes is =
+    is ∙ ap (λ t. (t ++ 34 ∷ []) ++ 44 ∷ []) (append_assoc old (34 ∷ []) (escaped default_writer field))
+    ∙ ap (λ t. t ++ 44 ∷ []) (append_assoc old (34 ∷ escaped default_writer field) (34 ∷ []))
+    ∙ append_assoc old (34 ∷ (escaped default_writer field ++ 34 ∷ [])) (44 ∷ [])
+    ∙ ap (λ t. old ++ t) (sym (parts-one field ∙ rw quotes refl))
+
+-- parts are a line's body and a comma
+parts-fields_text : (fields : List (List ℕ)) → 44 ∷ parts fields ≡ fields_text default_writer fields ++ 44 ∷ []
+unfolding fields_text
+parts-fields_text [] = refl
+parts-fields_text (field ∷ fields) =
+    ap (λ t. 44 ∷ t) (append_assoc (field_text default_writer field) (44 ∷ []) (parts fields)
+    ∙ ap (λ t. field_text default_writer field ++ t) (parts-fields_text fields)
+    ∙ sym (append_assoc (field_text default_writer field) (fields_text default_writer fields) (44 ∷ [])))
+
+pub parts-row_body : (field : List ℕ) (fields : List (List ℕ))
+    → parts (field ∷ fields) ≡ row_body default_writer (field ∷ fields) ++ 44 ∷ []
+parts-row_body field fields =
+    append_assoc (field_text default_writer field) (44 ∷ []) (parts fields)
+    ∙ ap (λ t. field_text default_writer field ++ t) (parts-fields_text fields)
+    ∙ sym (append_assoc (field_text default_writer field) (fields_text default_writer fields) (44 ∷ []))
+
+-- a line of two fields and more is its body and LF
+row_text-row_body : (fields : List (List ℕ)) → 2 ≤ length fields
+    → row_text default_writer fields ≡ row_body default_writer fields ++ 10 ∷ []
+unfolding is_blank
+row_text-row_body [] many = absurd (omega arith)
+row_text-row_body (field ∷ []) many = absurd (omega arith)
+row_text-row_body (field ∷ other ∷ fields) many = refl
+
+parts-body : (fields : List (List ℕ)) → 2 ≤ length fields → parts fields ≡ row_body default_writer fields ++ 44 ∷ []
+parts-body [] many = absurd (omega arith)
+parts-body (field ∷ fields) many = parts-row_body field fields
+
+-- a line whose last comma became its end, where the text of its row's fields ended with that comma
+pub EndsLine-row : (s : Layout) (row : Row) (text : List ℕ) → text ≡ parts (row_fields s row)
+    → 1 ≤ length row.key.coords → EndsLine text (row_line s row)
+EndsLine-row s row text shown some fields is =
+    let a = map coord_text row.key.coords in
+    let b = map grouping_text row.key.coords in
+    let c = answer_texts (digits_of_answers s) row.answers in
+    let many : 2 ≤ length (row_fields s row) = omega (
+      arith,
+      some,
+      length-append (a ++ b) c,
+      length-append a b,
+      length-map row.key.coords coord_text,
+      length-map row.key.coords grouping_text,
+    ) in
+    row_text-row_body (row_fields s row) many
+    ∙ ap (λ t. t ++ 10 ∷ []) (append_cancel_right (row_body default_writer (row_fields s row)) fields (44 ∷ [])
+    (sym (shown ∙ parts-body (row_fields s row) many) ∙ is))
+
+-- three runs of fields and the line's end
+pub EndsLine-line : (a b c : List (List ℕ)) (old first second third new : List ℕ) → 1 ≤ length a → 1 ≤ length b
+    → AddsParts a old first → AddsParts b first second → AddsParts c second third → EndsLine third new
+    → new ≡ old ++ line (a ++ b ++ c)
+EndsLine-line a b c old first second third new some_a some_b one two three ended =
+    let fields = a ++ b ++ c in
+    let many : 2 ≤ length fields = omega (arith, some_a, some_b, length-append (a ++ b) c, length-append a b) in
+    let body = row_body default_writer fields in
+    let all : third ≡ (old ++ body) ++ 44 ∷ []
+    = three ∙ ap (λ t. t ++ parts c) (two ∙ ap (λ t. t ++ parts b) one ∙ append_assoc old (parts a) (parts b)
+    ∙ ap (λ t. old ++ t) (sym (flat_map-append part a b)))
+    ∙ append_assoc old (parts (a ++ b)) (parts c)
+    ∙ ap (λ t. old ++ t) (sym (flat_map-append part (a ++ b) c) ∙ parts-body fields many)
+    ∙ sym (append_assoc old body (44 ∷ [])) in
+    ended (old ++ body) all ∙ append_assoc old body (10 ∷ []) ∙ ap (λ t. old ++ t) (sym (row_text-row_body fields many))
+
+-- digits need no quotes
+plain-digit : (b : ℕ) → 45 ≤ b → needs_byte default_writer b ≡ false
+plain-digit b high = rw (
+  ne_eqb b 44 (λ e. omega arith),
+  ne_eqb b 34 (λ e. omega arith),
+  ne_eqb b 13 (λ e. omega arith),
+  ne_eqb b 10 (λ e. omega arith),
+) refl
+
+pub plain-decimal : (n : ℕ) → n < 10 ^ 64 → needs_quotes default_writer (decimal n) ≡ false
+plain-decimal n small =
+    decimal_by_steps_wide (λ _ ds. list_any (needs_byte default_writer) ds ≡ false)
+    (λ d _. rw (plain-digit (48 + d) (omega arith)) refl)
+    (λ m ds _ before. rw (
+      list_any-append (needs_byte default_writer) ds ((48 + m % 10) ∷ []),
+      before,
+      plain-digit (48 + m % 10) (omega arith),
+    ) refl)
+    n small
+
+pub plain-signed_decimal : (z : ℤ) → FitsSigned w128 z → needs_quotes default_writer (signed_decimal z) ≡ false
+plain-signed_decimal (pos n) fits = plain-decimal n (omega (arith, ints))
+plain-signed_decimal (negsuc n) fits = rw (plain-digit 45 (omega arith)) (plain-decimal (suc n) (omega (arith, ints)))
+
+-- nor does a fraction
+pub plain-fraction : (z : ℤ) (q : ℕ) → FitsSigned w128 z → q < 10 ^ 64
+    → needs_quotes default_writer (signed_decimal z ++ codes "/" ++ decimal q) ≡ false
+plain-fraction z q fits small =
+    rw (
+      list_any-append (needs_byte default_writer) (signed_decimal z ++ codes "/") (decimal q),
+      list_any-append (needs_byte default_writer) (signed_decimal z) (codes "/"),
+      plain-signed_decimal z fits,
+      plain-decimal q small,
+    ) refl
+
+-- nor does a number with digits behind a point
+plain-zeros : (n : ℕ) → needs_quotes default_writer (replicate n 48) ≡ false
+plain-zeros zero = refl
+plain-zeros (suc n) = plain-zeros n
+
+plain-point : (i : ℕ) (digits : List ℕ) → needs_quotes default_writer digits ≡ false
+    → needs_quotes default_writer (take i digits ++ codes "." ++ drop i digits) ≡ false
+plain-point i digits plain =
+    let both = or_parts (list_any (needs_byte default_writer) (take i digits))
+    (list_any (needs_byte default_writer) (drop i digits))
+    (sym (list_any-append (needs_byte default_writer) (take i digits) (drop i digits))
+    ∙ ap (list_any (needs_byte default_writer)) (take-append-drop i digits) ∙ plain) in
+    rw (
+      list_any-append (needs_byte default_writer) (take i digits ++ codes ".") (drop i digits),
+      list_any-append (needs_byte default_writer) (take i digits) (codes "."),
+      both.0,
+      both.1,
+    ) refl
+
+plain-units : (k n : ℕ) → n < 10 ^ 64 → needs_quotes default_writer (units_text k n) ≡ false
+plain-units k n small = elim (cases_Bool (k == 0)) [
+  | inl none ↦ rw none (plain-decimal n small)
+  | inr some ↦ rw some (plain-point (length (padded (k + 1) (decimal n)) - k) (padded (k + 1) (decimal n)) (rw (
+    list_any-append (needs_byte default_writer) (replicate (k + 1 - length (decimal n)) 48) (decimal n),
+    plain-zeros (k + 1 - length (decimal n)),
+    plain-decimal n small,
+  ) refl))
+]
+
+pub plain-signed_units : (k : ℕ) (z : ℤ) → FitsSigned w128 z
+    → needs_quotes default_writer (signed_units_text k z) ≡ false
+plain-signed_units k (pos n) fits = plain-units k n (omega (arith, ints))
+plain-signed_units k (negsuc n) fits = rw (plain-digit 45 (omega arith)) (plain-units k (suc n) (omega (arith, ints)))
+
+-- nor does a fraction of units
+plain-signed : (z : ℤ) → unsigned_abs z < 10 ^ 64 → needs_quotes default_writer (signed_decimal z) ≡ false
+plain-signed (pos n) small = plain-decimal n small
+plain-signed (negsuc n) small = rw (plain-digit 45 (omega arith)) (plain-decimal (suc n) small)
+
+unsigned_abs-neg : (n : ℕ) → unsigned_abs (neg_ℤ (pos n)) ≡ n
+unsigned_abs-neg zero = refl
+unsigned_abs-neg (suc n) = refl
+
+unsigned_abs-div : (z : ℤ) (n : ℕ) → unsigned_abs (int_div z (pos n)) ≤ unsigned_abs z
+unsigned_abs-div (pos m) n = div-le_self m n
+unsigned_abs-div (negsuc m) n = rw (unsigned_abs-neg (suc m / n)) (div-le_self (suc m) n)
+
+unsigned_abs-small : (z : ℤ) → FitsSigned w128 z → unsigned_abs z < 2 ^ 128
+unsigned_abs-small (pos n) fits = omega (arith, ints)
+unsigned_abs-small (negsuc n) fits = omega (arith, ints)
+
+pub plain-fraction_text : (k : ℕ) (p : ℤ) (q : ℕ) → FitsSigned w128 p → q < 2 ^ 64 → k ≤ 18
+    → needs_quotes default_writer (fraction_text k p q) ≡ false
+plain-fraction_text k p q fits small few =
+    let common = common_with_ten k (unsigned_abs p) in
+    let numerator = int_div p (pos common) in
+    let rest : 10 ^ k / common ≤ 10 ^ k = div-le_self (10 ^ k) common in
+    let power : 10 ^ k ≤ 10 ^ 18 = pow-le-pow_right (omega arith) few in
+    let product : q * (10 ^ k / common) ≤ 2 ^ 64 * 10 ^ 18
+    = mul-le-mul {n₁ = q} {m₁ = 10 ^ k / common} {n₂ = 2 ^ 64} {m₂ = 10 ^ 18} (omega (arith, small))
+    (omega (arith, rest, power)) in
+    let short : unsigned_abs numerator < 10 ^ 64
+    = omega (arith, unsigned_abs-div p common, unsigned_abs-small p fits) in
+    rw (
+      list_any-append (needs_byte default_writer) (signed_decimal numerator ++ codes "/")
+          (decimal (q * (10 ^ k / common))),
+      list_any-append (needs_byte default_writer) (signed_decimal numerator) (codes "/"),
+      plain-signed numerator short,
+      plain-decimal (q * (10 ^ k / common)) (omega (arith, product)),
+    ) refl
+
+-- what a row shows of its key, its answers, and the line's end
+pub EndsLine-keyed : (a b c : List (List ℕ)) (old key first second new : List ℕ) → 1 ≤ length a → 1 ≤ length b
+    → key ≡ parts (a ++ b) → first ≡ old ++ key → AddsParts c first second → EndsLine second new
+    → new ≡ old ++ line (a ++ b ++ c)
+EndsLine-keyed a b c old key first second new some_a some_b key_is one two ended =
+    let both : first ≡ (old ++ parts a) ++ parts b =
+    one ∙ ap (λ t. old ++ t) (key_is ∙ flat_map-append part a b) ∙ sym (append_assoc old (parts a) (parts b)) in
+    EndsLine-line a b c old (old ++ parts a) first second new some_a some_b refl both two ended

@@ -1,0 +1,21 @@
+//! What goes out: the lines of rows, written at the end of a text and read again, and a text written whole.
+//!
+//! [`push_header`] and [`push_line`] put a line at the end of a text, [`push_field`] and [`push_answer`] a field of one, which
+//! [`end_line`] ends, and [`parse_row`] reads the row of a line that is spelled so, and not otherwise. Numbers
+//! of units of 10^-k stand there with k digits behind a point.
+//!
+//! [`write_whole`] writes a text and counts what went out of it. [`Pieces`] is a text in pieces, each of which a thread
+//! may have made ([`Pieces::of`]), and [`write_pieces`] writes it.
+#![tactic(auto)]
+
+mod parse;
+mod pieces;
+mod scale;
+mod text;
+mod units;
+mod write;
+
+pub use parse::{empty_row, parse_row};
+pub use pieces::Pieces;
+pub use text::{end_line, push_answer, push_field, push_header, push_line};
+pub use write::{WriteFault, write_pieces, write_whole};

@@ -1,3 +1,0 @@
-pub mod AnswerTextsLaws
-pub mod ScaleLaws
-pub mod UnitTextLaws

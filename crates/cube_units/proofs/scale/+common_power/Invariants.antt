@@ -1,4 +1,0 @@
-use Rattle.cube_units.proofs.scale.+common_power.Given as goal
-
-abbrev pub decreases-common_power : goal.decreases-common_power
-decreases-common_power l = l.digits

@@ -1,2 +1,0 @@
-mod AppendLaws
-mod PieceLaws

@@ -1,2 +1,0 @@
-mod ParseLaws
-pub mod TextLaws

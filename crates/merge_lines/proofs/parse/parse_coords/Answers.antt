@@ -1,4 +1,0 @@
-use Rattle.merge_lines.proofs.parse.parse_coords.Goals as goal
-
-pub loop-init : goal.loop-init
-loop-init c = rw c.clear.ensures.items

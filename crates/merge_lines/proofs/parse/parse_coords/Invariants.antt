@@ -1,7 +1,0 @@
-use Rattle.std.proofs.Common.{◌≡◌, ◌++◌, map}
-use Rattle.cube_core.specs.Text.{coord_text}
-use Rattle.merge_lines.specs.Parts.{parts}
-use Rattle.merge_lines.proofs.parse.parse_coords.Given as goal
-
-abbrev pub invariant-loop : goal.invariant-loop
-invariant-loop l = l.text ≡ parts (map coord_text l.coords.items) ++ l.rest
