@@ -14,8 +14,8 @@ import sys
 
 ROOT = os.path.dirname(os.path.dirname(os.path.realpath(__file__)))
 # the crates of the library, from the values up
-CRATES = ["cube_core", "cube_files", "cube_feed", "cube_values", "cube_cells", "cube_ledger", "cube_rings", "cube_build", "cube_console", "cube_writing",
-          "cube_text", "cube_tool", "cube_page", "cube_live", "merge_lines", "cube_merge", "cube_library", "cube_store", "cube_store_commands"]
+CRATES = ["cube_core", "cube_files", "cube_feed", "cube_values", "cube_cells", "cube_ledger", "cube_rings", "cube_build", "cube_console", "cube_lines",
+          "cube_text", "cube_tool", "cube_page", "cube_live", "cube_merge", "cube_library", "cube_store", "cube_store_commands"]
 # (the longest clause that stands in a table, in characters)
 LONGEST = 120
 PLACE = re.compile(r"(<!-- promises -->\n).*?(<!-- end of promises -->)", re.DOTALL)
