@@ -23,7 +23,7 @@ pub use cube_core::{
 };
 pub use cube_feed::{Feed, FeedFault, read_condition};
 pub use cube_ledger::{BuildFault, Ledger};
+pub use cube_lines::{WriteFault, write_whole};
 pub use cube_merge::{InputFault, MergeFault, merge};
 pub use cube_text::{print_cells, print_rows};
 pub use cube_tool::{Question, Reporter, RunFault, TextFault, answer, run, run_plain};
-pub use cube_lines::{WriteFault, write_whole};

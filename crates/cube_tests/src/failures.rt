@@ -1,8 +1,8 @@
 //! Commands whose readers fail, and the lines of failures that no command can be made to show.
 use cube_core::SchemaFault;
+use cube_lines::WriteFault;
 use cube_tool::RunFault;
 use cube_tool::command::{Failure, check};
-use cube_lines::WriteFault;
 use std::io;
 use std::io::Read;
 use std::test::Fail;
