@@ -29,6 +29,11 @@ def pytest_addoption(parser):
     parser.addoption("--seed", type=int, default=1, help="the seed of the trials of a store")
     parser.addoption("--records", type=int, metavar="N", help="try a session of so many records")
     parser.addoption("--found", metavar="FOLDER", help="where the smallest cases that fail are written")
+    parser.addoption("--library", metavar="PATH", help="the driver of calls of the library, where it isn't the one that was built here")
+    parser.addoption("--rows", type=int, default=1_000_000, help="the lines of the large cube that the explorer opens")
+    parser.addoption("--all-cases", action="store_true", help="ask the page for files of one's own for all cases, and not each fifth")
+    parser.addoption("--large", action="store_true", help="drop large files on that page, and say what they took")
+    parser.addoption("--screenshots", action="store_true", help="take the pictures of docs/explorer/ anew")
 
 
 @pytest.hookimpl(tryfirst=True)
@@ -69,7 +74,7 @@ class Tally:
             self.left_out[report.longrepr[2].removeprefix("Skipped: ")] = None
 
     def pytest_sessionfinish(self, session, exitstatus):
-        if exitstatus == pytest.ExitCode.NO_TESTS_COLLECTED and self.left_out and not self.failed:
+        if exitstatus in (pytest.ExitCode.OK, pytest.ExitCode.NO_TESTS_COLLECTED) and self.left_out and not self.passed:
             session.exitstatus = LEFT_OUT
 
     def pytest_unconfigure(self):
