@@ -1,5 +1,4 @@
 """Where the program stands that the scripts run, by what Python its tests are, a folder in which it is run, and files as bytes."""
-import argparse
 import functools
 import os
 import shutil
@@ -42,22 +41,6 @@ def pytest(program, *words, shares=1):
 def python_package(program, *words):
     """The same for the tests of the Python package, which mostly wait."""
     return pytest(program, "python/tests", *words, shares=2 * len(os.sched_getaffinity(0)))
-
-
-def by_pytest(about, file):
-    """What a script does whose trials are tests: runs those of a file that its words say, and gives the status. Words that it
-    doesn't know are for pytest."""
-    asks = argparse.ArgumentParser(description=about, formatter_class=argparse.RawDescriptionHelpFormatter)
-    asks.add_argument("--program")
-    asks.add_argument("--short", action="store_true", help="the short form")
-    asks.add_argument("--only", default="", help="only the trials whose name has these words")
-    given, more = asks.parse_known_args()
-    form, only = [] if given.short else ["--long"], ["-k", " and ".join(given.only.split())] if given.only else []
-    command = pytest(os.path.abspath(given.program or datacube()), file, "-vv", *form, *only, *more)
-    if not command:
-        print("Debian's package python3-pytest isn't installed\n0 passed, 0 failed")
-        return 77
-    return subprocess.run(command, cwd=ROOT).returncode
 
 
 def read(path):
