@@ -69,7 +69,7 @@ def test_large_load(page, cube, request, tell):
     page.js("document.getElementById('cancel').click()")
     assert page.text("#summary") == "Reading was stopped."
     page.js(BEATS)
-    asked, start = [], time.monotonic()
+    asked, start = [0], time.monotonic()
     page.at("#chosen").send_keys(cube)
     while time.monotonic() - start < AWAIT and not page.js("return document.title.startsWith('large')"):
         before = time.monotonic()
@@ -80,7 +80,7 @@ def test_large_load(page, cube, request, tell):
     lines = number_of(re.search(r": ([\d,]+) lines", page.text("#about"))[1])
     assert lines >= request.config.getoption("--rows")
     tell(f"{lines:,} lines were read in {took:.1f} s; the page's longest pause was {paused:.2f} s, "
-         f"and it answered {len(asked)} times, within {max(asked):.2f} s")
+         f"and it answered {len(asked) - 1} times, within {max(asked):.2f} s")
     assert max(paused, *asked) < pause_for(took), "the page answers while it reads"
 
 
@@ -103,6 +103,7 @@ def test_large_views(large, folder):
 def test_large_table(large, finest, tell):
     show = lambda it: [*("[null]" if text == "\\N" else text for text in it[:3]), *map(shown_answer, it[6:])]
     large.go("#slice=%3F,%3F,%3F")
+    large.js("window.longest = 0")
     assert large.shown()["count"] == len(finest) + 2, "every row of the finest set"
     for part in (0.25, 0.5, 0.75, 1, 0):
         large.js("const it = document.getElementById('scroller'); it.scrollTop = arguments[0] * it.scrollHeight", part)
@@ -111,7 +112,7 @@ def test_large_table(large, finest, tell):
         first = shown["first"]
         assert shown["body"] == [show(it) for it in finest[first : first + len(shown["body"])]], f"rows at {part}"
         assert abs(first / len(finest) - part) < 0.02, f"place at {part}"
-    large.js("document.getElementById('scroller').scrollTop = 3e6")
+    large.js("const it = document.getElementById('scroller'); it.scrollTop = Math.min(3e6, it.scrollHeight / 2)")
     time.sleep(0.4)
     top = large.js("return rowsSeen.top")
     large.js("document.getElementById('scroller').scrollTop += 100")
