@@ -7,7 +7,7 @@ import gc
 import io
 import re
 from collections import deque
-from decimal import Decimal
+from decimal import Decimal, localcontext
 from fractions import Fraction
 from itertools import repeat
 from math import gcd
@@ -15,7 +15,7 @@ from operator import is_not
 from typing import TYPE_CHECKING, Any, Callable, Dict, Iterator, List, Optional, Sequence, TypeVar, Union
 
 from ._cells import ALL
-from ._numbers import Number, number_of, whole_of
+from ._numbers import EXACT, Number, number_of, whole_of
 from ._records import GREATEST, LEAST, NULL, Columns, head_of, lines_behind, long_fields, records_of, unescaped, unreadable
 
 if TYPE_CHECKING:
@@ -278,9 +278,9 @@ def decimals_of(units: Any, places: int) -> Any:
     codes, known = None, units
     if 10 * len(numpy.unique(units[:SAMPLE])) < 9 * len(units[:SAMPLE]):
         codes, known = pandas.factorize(units)
-    power = f"e-{places}"
-    texts = (f"{power} ".join(map(str, known.tolist())) + power).split() if len(known) else []
-    made = objects(list(map(Decimal, texts)))
+    # (exact, whatever the caller's own context rounds to)
+    with localcontext(EXACT):
+        made = known.astype(object) * Decimal((0, (1,), -places))
     return made if codes is None else made[codes]
 
 
