@@ -15,6 +15,7 @@ os.environ.setdefault("DATACUBE", DATACUBE)
 CARDS = 400, 60, 25
 DIMENSIONS = "city", "product", "day"
 PLAIN = ["count(*)", "sum(m)", "min(m)", "max(m)"]
+APART = ["count(*)", "sum(m)", "sum(n)", "sum(o)"]
 MEANS = ["count(*)", "sum(m)", "avg(m)"]
 
 
@@ -30,7 +31,7 @@ def quoted(name, at):
     return f'"{name}, ""the {at}th"""'
 
 
-# how texts are spelled, how many decimals the measure has, the share of nulls among its numbers, and the aggregates
+# how texts are spelled, how many decimals the measures have, the share of nulls among its numbers, and the aggregates
 KINDS = {
     "whole numbers": (plain, 0, 0.0, PLAIN),
     "whole numbers and null": (plain, 0, 0.3, PLAIN),
@@ -38,6 +39,7 @@ KINDS = {
     "quoted texts": (quoted, 0, 0.0, PLAIN),
     "decimals": (plain, 2, 0.0, PLAIN),
     "decimals and null": (plain, 2, 0.3, PLAIN),
+    "decimals of three measures": (plain, 2, 0.0, APART),
     "means of whole numbers": (plain, 0, 0.0, MEANS),
     "means of decimals": (plain, 2, 0.0, MEANS),
     "means and null": (plain, 2, 0.3, MEANS),
@@ -50,15 +52,16 @@ def printed(folder, kind, rows):
 
     spelled, places, nulls, aggregates = KINDS[kind]
     draw = random.Random(kind)
+    measures = [it for it in "mno" if f"sum({it})" in aggregates]
+    made = lambda units: r"\N" if draw.random() < nulls else f"{units / 100:.2f}" if places else str(units)
     path = f"{folder}/feed.csv"
     with open(path, "w", encoding="utf-8") as file:
-        print(",".join(["op", "id", *DIMENSIONS, "m"]), file=file)
+        print(",".join(["op", "id", *DIMENSIONS, *measures]), file=file)
         for number in range(rows * 5 // 4):
             texts = [spelled(name, draw.randrange(card)) for name, card in zip(DIMENSIONS, CARDS)]
-            units = draw.randrange(-(10**6), 10**8)
-            value = f"{units / 100:.2f}" if places else str(units)
-            print(",".join(["I", str(number), *texts, r"\N" if draw.random() < nulls else value]), file=file)
-    schema = jackraisin.Schema(DIMENSIONS, ["m"], aggregates, decimals={"m": places} if places else {})
+            values = [made(draw.randrange(-(10**6), 10**8)) for _ in measures]
+            print(",".join(["I", str(number), *texts, *values]), file=file)
+    schema = jackraisin.Schema(DIMENSIONS, measures, aggregates, decimals=dict.fromkeys(measures, places) if places else {})
     lines = jackraisin.cube(schema, path).text.splitlines(keepends=True)
     if len(lines) <= rows:
         sys.exit(f"{kind}: the cube has {len(lines) - 1} rows alone")

@@ -9,7 +9,7 @@ import sys
 import tempfile
 import threading
 import unittest
-from decimal import Decimal
+from decimal import Decimal, localcontext
 from fractions import Fraction
 from unittest import mock
 
@@ -294,6 +294,16 @@ class Pandas(unittest.TestCase):
         means = list(cube.to_pandas()["avg(m)"])
         self.assertEqual((means, [it.denominator for it in means], [hash(it) for it in means]), ([Fraction(1, 2), -3], [2, 1], [hash(0.5), hash(-3)]))
 
+    def test_means_of_any_size(self):
+        """They are what Python reads, whether or not they fit 64 bits, and whatever stands around their digits."""
+        for means in (["1/3", f"{2**63}/7"], [f"{-(2**63)}/3", "1/2"], [f"{10**38 + 1}/10"], ["1/3", "\\N", "-0/1"], [" 1/2", "+3/4"], ["007/02", "1"]):
+            cube = jackraisin.Cube("a,grouping(a),avg(m)\n" + "".join(f"t{at},0,{it}\n" for at, it in enumerate(means)))
+            self.assertEqual(repr(cube.to_pandas()["avg(m)"].tolist()), repr([it.answers[0] for it in cube]))
+        for mean in ("", "1/", "/2", "1/2/3", '"1,2"', "1.0/2", "1e1/2", "nan/1", "True/True", '"1/2\n3/4"', "0x1/2", "1;2", "\ufeff1/2"):
+            for means in ([mean], ["1/2", mean], [mean, "1/2"]):
+                cube = jackraisin.Cube("a,grouping(a),avg(m)\n" + "".join(f"t{at},0,{it}\n" for at, it in enumerate(means)))
+                self.assertRaises(jackraisin.Unreadable, cube.to_pandas)
+
     def test_texts_that_are_no_cube(self):
         head = "a,grouping(a),sum(m),avg(m)\n"
         for line in ("x,0,1\n", "x,0,1,1/1,1\n", "x,0,1,1/1\n\nx,0,1,1/1\n", "x,0,one,1/1\n", "x,0,1.x,1/1\n", "x,0,1.5.0,1/1\n", "x,0,1,1/0\n", "x,0,1,a/b\n", "x,0,1,1/2/3\n", "x,0,\\N,1/1\ny,0,1.y,1/1\n"):
@@ -489,6 +499,10 @@ class Decimals(unittest.TestCase):
                 cube = jackraisin.Cube(f"t,grouping(t),sum(m),sum(k),max(m),count(*)\n{lines}")
                 got = list(cube.to_pandas().itertuples(index=False, name=None))
                 self.assertEqual([repr(it) for it in got], [repr(it.answers) for it in cube])
+        cube = jackraisin.Cube("a,grouping(a),min(m)\nx,0,92233720368547758.07\ny,0,-0.01\nz,0,0.00\n")
+        with localcontext() as context:
+            context.prec, context.Emin = 3, 0
+            self.assertEqual(list(map(str, cube.to_pandas()["min(m)"])), ["92233720368547758.07", "-0.01", "0.00"])
         for number in ("NaN", "Infinity", "1e5", "1.5.0", "1 .50", ".50.", "1..5", "--1.50", "0x.50"):
             cube = jackraisin.Cube(f"a,grouping(a),sum(m)\nx,0,0.50\ny,0,{number}\n")
             self.assertRaises(jackraisin.Unreadable, cube.to_pandas)
