@@ -295,6 +295,9 @@ def has(name):
     """Whether something of NEEDS is there."""
     if name == "pandas":
         return python() is not None
+    if name == "parallel":
+        # (moreutils has another program of that name)
+        return bool(shutil.which(name)) and "GNU" in subprocess.run([name, "--version"], capture_output=True, text=True).stdout
     return bool(sql.newest_server()) if name == "psql" else bool(shutil.which(name))
 
 

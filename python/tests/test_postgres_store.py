@@ -371,7 +371,9 @@ class GoesOn(Stored, test_postgres.Base):
             raise SystemExit("broken off")
 
         few = mock.patch("jackraisin.postgres._anew.FEWEST_CHANGES", 20)
-        with few, mock.patch(f"jackraisin.postgres.{place}", broken), mock.patch.object(follower, "_finish", lambda _: None):
+        # (a store that couldn't be made anew, as where the table was altered meanwhile, is tried again at once)
+        soon = mock.patch("jackraisin.postgres._follower.SECONDS_AFTER_FAILURE", 0.0)
+        with few, soon, mock.patch(f"jackraisin.postgres.{place}", broken), mock.patch.object(follower, "_finish", lambda _: None):
             self.run_sql(*statements)
             until(lambda: follower.state.failure, SECONDS)
         follower.close()
