@@ -113,7 +113,7 @@ def parts_of(texts: Sequence[str]) -> Optional[List[Any]]:
 
 
 def wholes_by_pandas(lines: str, count: int) -> Optional[List[Any]]:
-    """The same as pandas reads them of lines, three times as fast as Python; None where it reads anything but two numbers of 64 bits
+    """The same as pandas reads them of lines, which is quicker than Python; None where it reads anything but two numbers of 64 bits
     in each."""
     import pandas
 
