@@ -371,10 +371,25 @@ class GoesOn(Stored, test_postgres.Base):
             raise SystemExit("broken off")
 
         few = mock.patch("jackraisin.postgres._anew.FEWEST_CHANGES", 20)
-        # (a store that couldn't be made anew, as where the table was altered meanwhile, is tried again at once)
-        soon = mock.patch("jackraisin.postgres._follower.SECONDS_AFTER_FAILURE", 0.0)
-        with few, soon, mock.patch(f"jackraisin.postgres.{place}", broken), mock.patch.object(follower, "_finish", lambda _: None):
+        with few, mock.patch(f"jackraisin.postgres.{place}", broken), mock.patch.object(follower, "_finish", lambda _: None):
             self.run_sql(*statements)
+            until(lambda: follower.state.failure, SECONDS)
+        follower.close()
+
+    def test_what_fails_just_when_a_store_made_anew_is_there(self):
+        """It ends the follower, as at any other moment."""
+        follower = self.stored()
+
+        def broken(*_):
+            ended = threading.Event()
+            ended.set()
+            follower._anew = mock.Mock(has_ended=ended, copy=None, rows=0, failure=None)
+            # (until what reads has seen that)
+            time.sleep(0.5)
+            raise SystemExit("broken off")
+
+        with mock.patch("jackraisin.postgres._store.Store.clean", broken), mock.patch.object(follower, "_finish", lambda _: None):
+            self.run_sql("TRUNCATE {table}", "INSERT INTO {table} VALUES (1, 'York', 'tea', 1)")
             until(lambda: follower.state.failure, SECONDS)
         follower.close()
 

@@ -420,6 +420,9 @@ class Follower(Asked, Running):
                 pause = FIRST_PAUSE if self._mirror.lsn > before else min(2 * pause, LONGEST_PAUSE)
                 if not self._is_over():
                     self._ending.wait(pause)
+        # (what takes changes may have failed just when the store made anew was there)
+        if not self._ending.is_set():
+            taker.check()
 
     def _is_over(self) -> bool:
         """Whether it isn't to be gone on with what takes changes now."""
