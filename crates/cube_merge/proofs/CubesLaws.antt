@@ -15,8 +15,9 @@ use Rattle.cube_core.specs.Text.{header_fields, line, row_line, text_of_rows}
 use Rattle.cube_core.specs.declared.aggregate.Agg.{Agg}
 use Rattle.cube_core.specs.declared.key.Row.{Row}
 use Rattle.cube_core.proofs.ListLaws.{AllZip-length}
-use Rattle.cube_merge.specs.Lawful.{IsLawfulRow}
-use Rattle.cube_merge.specs.Merging.{InputView, nothing_left, IsMergeOf, IsLeastSoFar}
+use Rattle.cube_merge.specs.Lawful.{IsLawfulRow, IsRightRow}
+use Rattle.cube_merge.specs.Merging.{HasConsistentAnswers, InputView, nothing_left, IsMergeOf, IsLeastSoFar}
+use Rattle.cube_merge.proofs.MergedLaws.{AllByRecursion-map}
 use Rattle.cube_merge.specs.Merging.{IsNotBelow, Gave, IsEnded, TookHeader, TookHeaders, AllMove, IsMerging}
 use Rattle.cube_merge.specs.Merging.{MergesInputs}
 use Rattle.cube_merge.specs.Merging.{IsToldTextOf}
@@ -156,6 +157,10 @@ IsMergeOf-ends remaining given wanted readers inputs old new taken merges =
     let starts = map (λ (i : InputView). i.left) inputs in
     let m = merges starts (taken-TookHeaders remaining header readers inputs taken) in
     let merging = m.3 in
+    let of_schema : (k : ℕ) → AllByRecursion (IsRightRow given) (get_or merging.cubes k []) =
+    λ k. subst (λ rs. AllByRecursion (IsRightRow given) rs)
+    (ap (λ o. get_or merging.cubes k [] ++ option_to_list o) (m.4 k) ∙ append-nil (get_or merging.cubes k []))
+    (merging.of_schema k) in
     record {
       cubes = merging.cubes;
       parts = merging.parts;
@@ -165,9 +170,10 @@ IsMergeOf-ends remaining given wanted readers inputs old new taken merges =
       read = λ k. text-of_ended given (get_or (map remaining readers) k None) (get_or starts k None)
           (get_or m.0 k nothing_left) (get_or merging.cubes k [])
           (taken-header remaining header readers inputs taken k) (merging.gave k) (merging.ended k) (m.4 k);
-      of_schema = λ k. subst (λ rs. AllByRecursion (IsLawfulRow given) rs)
-          (ap (λ o. get_or merging.cubes k [] ++ option_to_list o) (m.4 k) ∙ append-nil (get_or merging.cubes k []))
-          (merging.of_schema k);
+      of_schema = λ k. AllByRecursion-map (IsRightRow given) (IsLawfulRow given) (get_or merging.cubes k [])
+          (λ row right. right.lawful) (of_schema k);
+      consistent = λ k. AllByRecursion-map (IsRightRow given) (HasConsistentAnswers given) (get_or merging.cubes k [])
+          (λ row right. right.consistent) (of_schema k);
       ordered = λ k. subst (λ rs. IsStrictlySortedBy key_cmp (map key_of rs))
           (ap (λ o. get_or merging.cubes k [] ++ option_to_list o) (m.4 k) ∙ append-nil (get_or merging.cubes k []))
           (merging.ordered k);

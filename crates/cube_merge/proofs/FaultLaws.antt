@@ -27,7 +27,7 @@ use Rattle.cube_merge.specs.Faults.{FailsToTakeHeader, GoesWrong, HasFault, HasN
 use Rattle.cube_merge.specs.Faults.{InputsFail, IsFaultAt, IsMetFirst, IsOutOfOrder, IsTooLarge, IsTooLargeAt, SplitsAt}
 use Rattle.cube_merge.specs.Faults.{FailsAfter, StepFails, TellsOverflow, WroteFirstRows}
 use Rattle.cube_merge.specs.Joint.{rows_of}
-use Rattle.cube_merge.specs.Lawful.{IsLawfulRow}
+use Rattle.cube_merge.specs.Lawful.{IsRightRow}
 use Rattle.cube_merge.specs.Merging.{InputView, AreInKeyOrder, AreOfSchema, AreUses, Gave, TookHeader, IsAbove}
 use Rattle.cube_merge.specs.Merging.{IsCounted}
 use Rattle.cube_merge.specs.Merging.{IsMerging, IsUse, nothing_left, used_rows}
@@ -161,7 +161,7 @@ module _ (s : Layout) (input : InputView) (rows : List Row) where
             text_is = at.2.text_is ∙ ap (λ l. (header ++ l) ++ at.0) all
                 ∙ ap (λ l. l ++ at.0) (sym (append_assoc header lines (row_line s row)))
                 ∙ append_assoc (header ++ lines) (row_line s row) at.0;
-            of_schema = AllByRecursion-first (IsLawfulRow s) rows (option_to_list input.row) are;
+            of_schema = AllByRecursion-first (IsRightRow s) rows (option_to_list input.row) are;
             ordered = sorted-first (map key_of rows) (map key_of (option_to_list input.row))
                 (subst (IsStrictlySortedBy key_cmp) (map-append key_of rows (option_to_list input.row)) sorted);
             number_is = counted;

@@ -33,7 +33,7 @@ use Rattle.cube_core.proofs.ReorderedLaws.{Reordered, none, next, exchange, both
 use Rattle.cube_core.proofs.ReorderedLaws.{filter-IsPermutation}
 use Rattle.cube_merge.specs.Faults.{BeginsWith, CameTo, CameToPlace, CanBeReadTo, CanMove, EndsAtRecord, EndsWith}
 use Rattle.cube_merge.specs.Faults.{IsReadNext, IsReadTo, IsTooLarge, IsWholeText, SplitsAt}
-use Rattle.cube_merge.specs.Lawful.{IsLawfulRow}
+use Rattle.cube_merge.specs.Lawful.{IsRightRow}
 use Rattle.cube_merge.specs.Merging.{InputView, AreInKeyOrder, AreOfSchema, AreUses, Gave, IsBelow, IsEnded, IsMadeInRange}
 use Rattle.cube_merge.specs.Merging.{IsMerging, IsUse, IsWhole, Moves, all_rows, nothing_left, used_row, used_rows}
 use Rattle.cube_merge.specs.Range.{AreInRange, AreTooLarge, IsInRange}
@@ -46,7 +46,7 @@ use Rattle.cube_merge.proofs.StepLaws.{Gave-Moves, IsWhole-Moves, below-Moves, b
 -- a text behind the lines of rows
 pub stands-at : (s : Layout) (text start left : Option (List ℕ)) (rows : List Row) (number : ℕ)
     → Consumes text start (line (header_fields s)) → Consumes start left (flat_map (row_line s) rows)
-    → AllByRecursion (IsLawfulRow s) rows → IsStrictlySortedBy key_cmp (map key_of rows) → number ≡ length rows + 2
+    → AllByRecursion (IsRightRow s) rows → IsStrictlySortedBy key_cmp (map key_of rows) → number ≡ length rows + 2
     → IfSome text (λ t. (rest : List ℕ) × (left ≡ Some rest) × SplitsAt s t rows rest number)
 stands-at s None start left rows number head gave are sorted is = tt
 stands-at s (Some t) None left rows number head gave are sorted is = absurd head

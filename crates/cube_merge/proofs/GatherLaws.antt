@@ -17,6 +17,7 @@ use Rattle.cube_core.specs.declared.aggregate.Answer.{Answer}
 use Rattle.cube_core.specs.declared.aggregate.Answer.TheVariants as answer
 use Rattle.cube_core.specs.declared.key.Row.{Row}
 use Rattle.cube_core.proofs.ListLaws.{Contains-head, AllZip-push}
+use Rattle.cube_merge.specs.Lawful.{sum_answered}
 use Rattle.cube_merge.specs.Made.{AreMadeOfRows, JoinsAnswer}
 use Rattle.cube_merge.specs.Source.{IsSourceOf}
 use Rattle.cube_merge.specs.declared.source.Source.TheVariants as source
@@ -54,21 +55,26 @@ pub total_of-push : (xs : List ℤ) (x : ℤ) → total_of (xs ++ x ∷ []) ≡ 
 total_of-push [] x = omega (arith, ints)
 total_of-push (y ∷ xs) x = omega (arith, ints, total_of-push xs x)
 
--- the sum is the total, where there is one
-pub IsSum-total : (values : List ℤ) (a : Answer) (sum : ℤ) → IsSum values a → number_in a ≡ Some sum
-    → total_of values ≡ sum
-IsSum-total [] a sum is some =
-    let clash : None ≡ Some sum = sym (ap number_in is) ∙ some in
-    absurd (cc)
-IsSum-total (v ∷ vs) a sum is some =
-    let whole : Some (total_of (v ∷ vs)) ≡ Some sum = sym (ap number_in is) ∙ some in
-    cc
+-- the sum is the total
+pub IsSum-total : (values : List ℤ) (a : Answer) → IsSum values a → total_of values ≡ sum_answered a
+IsSum-total [] a is = sym (ap sum_answered is)
+IsSum-total (v ∷ vs) a is = sym (ap sum_answered is)
 
-pub IsSum-total_none : (values : List ℤ) (a : Answer) → IsSum values a → number_in a ≡ None → total_of values ≡ pos 0
-IsSum-total_none [] a is none = refl
-IsSum-total_none (v ∷ vs) a is none =
-    let clash : Some (total_of (v ∷ vs)) ≡ None = sym (ap number_in is) ∙ none in
-    absurd (cc)
+-- the sum that an answer is, where it is a number, and where it is none
+pub sum_answered-number : (a : Answer) (number : ℤ) → number_in a ≡ Some number → number ≡ sum_answered a
+sum_answered-number (answer.Whole z) number is =
+    let some : Some z ≡ Some number = is in
+    let same : z ≡ number = cc in
+    sym same
+sum_answered-number answer.Null number is = let clash : None ≡ Some number = is in absurd (cc)
+sum_answered-number (answer.Count n) number is = let clash : None ≡ Some number = is in absurd (cc)
+sum_answered-number (answer.Ratio p q) number is = let clash : None ≡ Some number = is in absurd (cc)
+
+pub sum_answered-none : (a : Answer) → number_in a ≡ None → pos 0 ≡ sum_answered a
+sum_answered-none (answer.Whole z) is = let clash : Some z ≡ None = is in absurd (cc)
+sum_answered-none answer.Null is = refl
+sum_answered-none (answer.Count n) is = refl
+sum_answered-none (answer.Ratio p q) is = refl
 
 module _ (R : ℤ → ℤ → Type 0) where
   AllByRecursion-push : (m : ℤ) (xs : List ℤ) (x : ℤ) → AllByRecursion (R m) xs → R m x
@@ -184,16 +190,17 @@ IsMerged-Made given rows (Max m) made place are is = (place, is, are place (Max 
 
 pub IsMerged-Mean : (given : List Agg) (rows : List Row) (agg : Agg) (made : List Answer) (sums counts : ℕ) (a : Answer)
     → AreMadeOfRows given rows made → IsSourceOf given agg (source.Mean sums counts)
-    → ((ss cs : List Answer) → MakesAnswer (Sum 0) ss (get_or made sums answer.Null)
-    → MakesAnswer (Count 0) cs (get_or made counts answer.Null) → IsMeanOf (total_of (numbers_of ss))
-    (sum_of_counts cs) a)
+    → IsMeanOf (sum_answered (get_or made sums answer.Null)) (count_answered (get_or made counts answer.Null)) a
     → IsMerged given rows agg a
 IsMerged-Mean given rows (Avg m) made sums counts a are is mean = (
   sums,
   counts,
   is.0,
   is.1,
-  mean (column sums rows) (column counts rows) (are sums (Sum m) is.0) (are counts (Count m) is.1),
+  subst (λ total. IsMeanOf total (sum_of_counts (column counts rows)) a)
+      (sym (IsSum-total (numbers_of (column sums rows)) (get_or made sums answer.Null) (are sums (Sum m) is.0)))
+      (subst (λ count. IsMeanOf (sum_answered (get_or made sums answer.Null)) count a)
+      (ap count_answered (are counts (Count m) is.1)) mean),
 )
 IsMerged-Mean given rows CountAll made sums counts a are is mean = absurd is
 IsMerged-Mean given rows (Count m) made sums counts a are is mean = absurd is

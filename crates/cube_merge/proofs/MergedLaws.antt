@@ -80,7 +80,7 @@ AllByRecursion-push P Q (y ∷ xs) x all step one = (
   AllByRecursion-push P Q xs x all.1 (λ z p among. step z p (Contains-append_right (y ∷ []) xs z among)) one,
 )
 
-AllByRecursion-map : {X : Type 0} (P Q : X → Type 0) (xs : List X) → ((x : X) → P x → Q x) → AllByRecursion P xs
+pub AllByRecursion-map : {X : Type 0} (P Q : X → Type 0) (xs : List X) → ((x : X) → P x → Q x) → AllByRecursion P xs
     → AllByRecursion Q xs
 AllByRecursion-map P Q [] step all = tt
 AllByRecursion-map P Q (x ∷ xs) step all = (step x all.0, AllByRecursion-map P Q xs step all.1)

@@ -26,7 +26,7 @@ use Rattle.cube_core.specs.declared.key.Key.{Key}
 use Rattle.cube_core.specs.declared.key.Row.{Row}
 use Rattle.cube_core.proofs.KeyOrderLaws.{key_cmp-IsTotalOrder}
 use Rattle.cube_core.proofs.ListLaws.{Contains-nil, Contains-cases, Contains-head, AllByRecursion-Contains}
-use Rattle.cube_merge.specs.Lawful.{IsLawfulRow}
+use Rattle.cube_merge.specs.Lawful.{IsRightRow}
 use Rattle.cube_merge.specs.Range.{AreInRange}
 use Rattle.cube_merge.specs.Merging.{AreOfSchema, InputView, IsAbove, TakesLine, Moves, AllMove, IsUse, AreUses}
 use Rattle.cube_merge.specs.Merging.{used_row, used_of_each, used_rows, Gave, IsCounted, IsEnded, IsBelow}
@@ -103,11 +103,11 @@ AreOfSchema-Moves s false old new rows are same =
     subst (λ (input : InputView). AreOfSchema s input (rows ++ [])) (sym same)
     (subst (λ rs. AreOfSchema s old rs) (sym (append-nil rows)) are)
 AreOfSchema-Moves s true old new rows are moved =
-    AllByRecursion-append (IsLawfulRow s) (rows ++ option_to_list old.row) (option_to_list new.row) are
+    AllByRecursion-append (IsRightRow s) (rows ++ option_to_list old.row) (option_to_list new.row) are
     (by_row new.row moved)
   where
     by_row : (row : Option Row) → TakesLine s old (record { left = new.left; row = row; lines = new.lines })
-        → AllByRecursion (IsLawfulRow s) (option_to_list row)
+        → AllByRecursion (IsRightRow s) (option_to_list row)
     by_row None m = tt
     by_row (Some r) m = (m.3, tt)
 
@@ -285,15 +285,15 @@ is_total-all dimensions row long all =
 
 -- rows of an input that took no further line are a whole cube's
 AreWhole-end : (s : Layout) (rows : List Row) (last : Option Row)
-    → AllByRecursion (IsLawfulRow s) (rows ++ option_to_list last) → MayEnd s last
+    → AllByRecursion (IsRightRow s) (rows ++ option_to_list last) → MayEnd s last
     → AreWhole s (rows ++ option_to_list last)
 AreWhole-end s rows None are may kept = absurd (may kept)
 AreWhole-end s rows (Some row) are may kept = (
   rows,
   row,
   refl,
-  is_total-all (length s.dimensions) row (AllByRecursion-Contains (IsLawfulRow s) (rows ++ row ∷ []) row are
-      (Contains-append_right rows (row ∷ []) row (Contains-head row []))).coords (may kept),
+  is_total-all (length s.dimensions) row (AllByRecursion-Contains (IsRightRow s) (rows ++ row ∷ []) row are
+      (Contains-append_right rows (row ∷ []) row (Contains-head row []))).lawful.coords (may kept),
 )
 
 -- an input that took no further line gave a whole cube's rows
@@ -392,7 +392,7 @@ unfolding IsStrictlySortedBy
 AreInKeyOrder-none input none = subst (λ o. IsStrictlySortedBy key_cmp (map key_of (option_to_list o))) (sym none) tt
 
 pub AreOfSchema-none : (s : Layout) (input : InputView) → input.row ≡ None → AreOfSchema s input []
-AreOfSchema-none s input none = subst (λ o. AllByRecursion (IsLawfulRow s) (option_to_list o)) (sym none) tt
+AreOfSchema-none s input none = subst (λ o. AllByRecursion (IsRightRow s) (option_to_list o)) (sym none) tt
 
 -- nothing is merged yet, and each input took its first line
 replicate_empty : List InputView → List (List Row)

@@ -13,7 +13,7 @@ use Rattle.cube_core.specs.Text.{header_fields, line, row_line, text_of_rows}
 use Rattle.cube_core.specs.declared.aggregate.Agg.{Agg}
 use Rattle.cube_core.specs.declared.key.Key.{Key}
 use Rattle.cube_core.specs.declared.key.Row.{Row}
-use Rattle.cube_merge.specs.Lawful.{IsLawfulRow}
+use Rattle.cube_merge.specs.Lawful.{IsRightRow}
 use Rattle.cube_merge.specs.Joint.{rows_of}
 use Rattle.cube_merge.specs.Merging.{InputView, TookHeaders, AreUses, AreWhole, IsAbove, IsMerging, IsToldTextOf, Moves}
 use Rattle.cube_merge.specs.Merging.{all_rows, nothing_left, used_rows}
@@ -44,7 +44,7 @@ pub record HasRowBelow (s : Layout) (input : InputView) : Type 0 where
   pub row : Row
   pub left : Option (List ℕ)
   pub taken : Consumes input.left left (row_line s row)
-  pub of_schema : IsLawfulRow s row
+  pub of_schema : IsRightRow s row
   pub below : IsAbove input.row row → ⊥
 
 -- an input has no line left, and its last row isn't the grand total, which the schema keeps
@@ -176,7 +176,7 @@ StepFails s inputs (Write sent) = ⊥
 -- whose first line is the record of this number, the header being the first
 pub record SplitsAt (s : Layout) (text : List ℕ) (rows : List Row) (rest : List ℕ) (number : ℕ) : Type 0 where
   pub text_is : text ≡ text_of_rows s rows ++ rest
-  pub of_schema : AllByRecursion (IsLawfulRow s) rows
+  pub of_schema : AllByRecursion (IsRightRow s) rows
   pub ordered : IsStrictlySortedBy key_cmp (map key_of rows)
   pub number_is : number ≡ length rows + 2
 
@@ -194,7 +194,7 @@ pub record IsOutOfOrder (s : Layout) (number : ℕ) (text : List ℕ) : Type 0 w
   pub row : Row
   pub rest : List ℕ
   pub stands : SplitsAt s text (rows ++ before ∷ []) (row_line s row ++ rest) number
-  pub of_schema : IsLawfulRow s row
+  pub of_schema : IsRightRow s row
   pub below : key_cmp before.key row.key ≢ Less
 
 -- behind the lines of rows the line of a row follows

@@ -1,11 +1,12 @@
 -- The rows that the cube of a schema may have (this project's choice: counts of 64 bits, sums of 128, measures of 64).
-use Rattle.std.specs.Prelude.{◌≡◌, ◌<◌, ◌≤ℤ◌, ◌^◌, ⊤, ℕ, Bool, true, false, not, IsTrue, List, length}
+use Rattle.std.specs.Prelude.{◌≡◌, ◌<◌, ◌≤ℤ◌, ◌^◌, ⊤, ℕ, ℤ, pos, Bool, true, false, not, IsTrue, List, length}
 use Rattle.std.specs.Prelude.{◌==◌, Option, Some, None, IfSome, FitsSigned, unsigned_abs}
 use Rattle.std.specs.Int.{w64, w128, IsGcd}
 use Rattle.std.specs.List.{AllZip, list_all}
 use Rattle.std.specs.Str.{bytes_eq}
 use Rattle.cube_core.specs.GroupingSet.{is_all_coord}
 use Rattle.cube_core.specs.Layout.{Layout, keeps}
+use Rattle.cube_core.specs.Merged.{IsMeanOf, count_answered}
 use Rattle.cube_core.specs.Takes.{null_text}
 use Rattle.cube_core.specs.declared.aggregate.Agg.{Agg}
 use Rattle.cube_core.specs.declared.aggregate.Agg.TheVariants.{CountAll, Count, Sum, Min, Max, Avg}
@@ -148,3 +149,64 @@ pub record IsLawfulRow (s : Layout) (row : Row) : Type 0 where
   pub in_order : AreInOrder s.aggregates row.answers
   pub none_together : AreNoneTogether s.aggregates row.answers
   pub counted : list_all is_all_coord row.key.coords ≡ false → AllZip CountsFacts s.aggregates row.answers
+
+-- an answer, where it is one to this aggregate, is this one
+abbrev pub IsSameAnswer : Agg → Answer → Agg → Answer → Type 0
+IsSameAnswer agg a other b = other ≡ agg → b ≡ a
+
+-- each answer to this aggregate among answers is this one
+abbrev pub IsOnlyAnswer : List Agg → List Answer → Agg → Answer → Type 0
+IsOnlyAnswer aggregates answers agg a = AllZip (IsSameAnswer agg a) aggregates answers
+
+-- an aggregate that stands twice has the same answer
+abbrev pub AreAlike : List Agg → List Answer → Type 0
+AreAlike aggregates answers = AllZip (IsOnlyAnswer aggregates answers) aggregates answers
+
+-- the sum that an answer is; 0 of any other
+abbrev pub sum_answered : Answer → ℤ
+sum_answered (answer.Whole z) = z
+sum_answered answer.Null = pos 0
+sum_answered (answer.Count n) = pos 0
+sum_answered (answer.Ratio p q) = pos 0
+
+-- a mean of a measure is this sum by this answer, where that is the measure's count
+abbrev pub IsMeanByCount : ℕ → Answer → Answer → Agg → Answer → Type 0
+IsMeanByCount m mean sum (Count other) a = other ≡ m → IsMeanOf (sum_answered sum) (count_answered a) mean
+IsMeanByCount m mean sum CountAll a = ⊤
+IsMeanByCount m mean sum (Sum other) a = ⊤
+IsMeanByCount m mean sum (Min other) a = ⊤
+IsMeanByCount m mean sum (Max other) a = ⊤
+IsMeanByCount m mean sum (Avg other) a = ⊤
+
+-- a mean of a measure is this answer, where that is the measure's sum, by the measure's count among answers
+abbrev pub IsMeanOfSum : List Agg → List Answer → ℕ → Answer → Agg → Answer → Type 0
+IsMeanOfSum aggregates answers m mean (Sum other) a = other ≡ m → AllZip (IsMeanByCount m mean a) aggregates answers
+IsMeanOfSum aggregates answers m mean CountAll a = ⊤
+IsMeanOfSum aggregates answers m mean (Count other) a = ⊤
+IsMeanOfSum aggregates answers m mean (Min other) a = ⊤
+IsMeanOfSum aggregates answers m mean (Max other) a = ⊤
+IsMeanOfSum aggregates answers m mean (Avg other) a = ⊤
+
+-- an answer, where it is a mean, is the sum by the count of its measure among answers
+abbrev pub IsMeanAmong : List Agg → List Answer → Agg → Answer → Type 0
+IsMeanAmong aggregates answers (Avg m) a = AllZip (IsMeanOfSum aggregates answers m a) aggregates answers
+IsMeanAmong aggregates answers CountAll a = ⊤
+IsMeanAmong aggregates answers (Count m) a = ⊤
+IsMeanAmong aggregates answers (Sum m) a = ⊤
+IsMeanAmong aggregates answers (Min m) a = ⊤
+IsMeanAmong aggregates answers (Max m) a = ⊤
+
+-- each mean is the sum by the count of its measure, where these stand beside it
+abbrev pub AreMeans : List Agg → List Answer → Type 0
+AreMeans aggregates answers = AllZip (IsMeanAmong aggregates answers) aggregates answers
+
+-- answers don't gainsay one another: an aggregate that stands twice has the same answer,
+-- and a mean is its sum by its count
+pub record AreConsistent (aggregates : List Agg) (answers : List Answer) : Type 0 where
+  pub alike : AreAlike aggregates answers
+  pub means : AreMeans aggregates answers
+
+-- a cube of a schema may have this row, and its answers don't gainsay one another
+pub record IsRightRow (s : Layout) (row : Row) : Type 0 where
+  pub lawful : IsLawfulRow s row
+  pub consistent : AreConsistent s.aggregates row.answers

@@ -14,7 +14,7 @@ use Rattle.cube_core.specs.Text.{row_line, text_of_rows}
 use Rattle.cube_core.specs.declared.aggregate.Agg.{Agg}
 use Rattle.cube_core.specs.declared.key.Key.{Key}
 use Rattle.cube_core.specs.declared.key.Row.{Row}
-use Rattle.cube_merge.specs.Lawful.{IsLawfulRow}
+use Rattle.cube_merge.specs.Lawful.{AreConsistent, IsLawfulRow, IsRightRow}
 use Rattle.cube_merge.specs.Range.{AreInRange}
 use Rattle.cube_merge.specs.Source.{IsSourceOf}
 use Rattle.cube_merge.specs.declared.source.Source.{Source}
@@ -53,7 +53,7 @@ TakesNone s old new =
 abbrev pub TakesLine : Layout → InputView → InputView → Type 0
 TakesLine s old new =
     MatchOption new.row (TakesNone s old new) (λ row.
-    Consumes old.left new.left (row_line s row) × IsAbove old.row row × (new.lines ≡ old.lines + 1) × IsLawfulRow s row)
+    Consumes old.left new.left (row_line s row) × IsAbove old.row row × (new.lines ≡ old.lines + 1) × IsRightRow s row)
 
 -- an input whose line was used took the next one, and any other stays
 abbrev pub Moves : Layout → Bool → InputView → InputView → Type 0
@@ -114,7 +114,7 @@ AreInKeyOrder input rows = IsStrictlySortedBy key_cmp (map key_of (rows ++ optio
 
 -- the rows that an input gave, and its row, are rows of the schema
 abbrev pub AreOfSchema : Layout → InputView → List Row → Type 0
-AreOfSchema s input rows = AllByRecursion (IsLawfulRow s) (rows ++ option_to_list input.row)
+AreOfSchema s input rows = AllByRecursion (IsRightRow s) (rows ++ option_to_list input.row)
 
 -- the row of an input is that of the line taken last, behind the header and the lines of the rows that it gave
 abbrev pub IsCounted : InputView → List Row → Type 0
@@ -222,9 +222,13 @@ MergesInputs given wanted inputs old new =
 abbrev pub IsToldTextOf : Layout → Option (List ℕ) → List Row → Type 0
 IsToldTextOf s text rows = IfSome text (λ known. known ≡ text_of_rows s rows)
 
+-- the answers of a row to a schema's aggregates don't gainsay one another
+abbrev pub HasConsistentAnswers : Layout → Row → Type 0
+HasConsistentAnswers s row = AreConsistent s.aggregates row.answers
+
 -- what was written is the text, under the wanted schema,
 -- of the merged rows of cubes whose texts under the given one were read, each of rows of that schema in key order,
--- of which the last is the grand total, where the schema keeps that;
+-- whose answers don't gainsay one another, and of which the last is the grand total, where the schema keeps that;
 -- each count and each sum that the rows with one key make is in range
 pub record IsMergeOf (given wanted : Layout) (texts : List (Option (List ℕ))) (old new : Option (List ℕ)) : Type 0 where
   pub cubes : List (List Row)
@@ -233,6 +237,7 @@ pub record IsMergeOf (given wanted : Layout) (texts : List (Option (List ℕ))) 
   pub as_many : length cubes ≡ length texts
   pub read : (k : ℕ) → IsToldTextOf given (get_or texts k None) (get_or cubes k [])
   pub of_schema : (k : ℕ) → AllByRecursion (IsLawfulRow given) (get_or cubes k [])
+  pub consistent : (k : ℕ) → AllByRecursion (HasConsistentAnswers given) (get_or cubes k [])
   pub ordered : (k : ℕ) → IsStrictlySortedBy key_cmp (map key_of (get_or cubes k []))
   pub complete : (k : ℕ) → k < length texts → AreWhole given (get_or cubes k [])
   pub drawn : IsPermutation (all_rows cubes) parts

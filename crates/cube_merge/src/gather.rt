@@ -1,9 +1,9 @@
 //! What the answers of parts make of the whole.
-ghost use Rattle.std.specs.Prelude.{◌≡◌, List, IfErr, IfOk, IfSome, get_or, FitsSigned};
+ghost use Rattle.std.specs.Prelude.{◌≡◌, IfErr, IfOk, IfSome, get_or, FitsSigned};
 ghost use Rattle.std.specs.Int.{w128};
-ghost use Rattle.cube_core.specs.Group.{total_of};
-ghost use Rattle.cube_core.specs.Merged.{MakesAnswer, IsMeanOf, count_answered, sum_of_counts, number_in, numbers_of};
+ghost use Rattle.cube_core.specs.Merged.{MakesAnswer, IsMeanOf, count_answered, number_in};
 ghost use Rattle.cube_core.specs.declared.aggregate.Answer.{Answer};
+ghost use Rattle.cube_merge.specs.Lawful.{sum_answered};
 ghost use Rattle.cube_merge.specs.Made.{JoinsAnswer};
 ghost use Rattle.cube_merge.specs.Range.{IsInRange};
 
@@ -131,9 +131,7 @@ fn greatest(made: &Answer, answer: &Answer) -> Answer
 
 /// The mean of the values of which there are this sum and this count; null where there is none.
 pub(crate) fn mean_of(sum: &Answer, count: &Answer) -> Answer
-    ensures { (sums counts : List Answer) →
-        MakesAnswer (Agg.Sum 0) sums sum.now → MakesAnswer (Agg.Count 0) counts count.now →
-        IsMeanOf (total_of (numbers_of sums)) (sum_of_counts counts) result }
+    ensures { IsMeanOf (sum_answered sum.now) (count_answered count.now) result }
 {
     let values = count_in(count);
     if values == 0 {
@@ -145,8 +143,7 @@ pub(crate) fn mean_of(sum: &Answer, count: &Answer) -> Answer
 
 // The total of the values that a sum is of; 0 where there is none.
 fn total_in(sum: &Answer) -> i128
-    ensures { (sums : List Answer) → MakesAnswer (Agg.Sum 0) sums sum.now →
-        total_of (numbers_of sums) ≡ result }
+    ensures { result ≡ sum_answered sum.now }
 {
     let Some(total) = number_in(sum) else {
         return 0;

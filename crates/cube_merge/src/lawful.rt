@@ -3,82 +3,29 @@ ghost use Rattle.std.specs.Prelude.{◌≡◌, ◌<◌, length, true, unsigned_a
 ghost use Rattle.std.specs.Int.{IsGcd};
 ghost use Rattle.std.specs.List.{AllZip, list_all};
 ghost use Rattle.cube_core.specs.GroupingSet.{is_all_coord};
-ghost use Rattle.cube_merge.specs.Lawful.{AreInOrder, AreNoneTogether, CountsFacts, IsNoneAmong, TellsNone, measure_of, tells_none, IsAtLeast, IsFraction, IsInOrder, IsWithin, IsNumber, IsOfKind, IsLawfulRow, IsValue, has_no_null_text, is_no_null_text};
+ghost use Rattle.cube_merge.specs.Lawful.{AreAlike, AreConsistent, AreMeans, IsMeanAmong, IsMeanByCount, IsMeanOfSum, IsOnlyAnswer, IsRightRow, IsSameAnswer, AreInOrder, AreNoneTogether, CountsFacts, IsNoneAmong, TellsNone, measure_of, tells_none, IsAtLeast, IsFraction, IsInOrder, IsWithin, IsNumber, IsOfKind, IsLawfulRow, IsValue, has_no_null_text, is_no_null_text};
 
-use crate::gather::{answer_at, mean_of};
-use crate::source::place_of;
+use crate::gather::mean_of;
 use cube_core::{Agg, Answer, Coord, Key, Row, Schema, reduced};
-use std::alloc::{AllocError, Global};
 
-/// Where the answers of a row stand that must not gainsay one another.
-#[derive(Drop)]
-pub(crate) struct Laws {
-    // Each aggregate that stood before, and the first time that it stood.
-    repeats: Vec<(usize, usize)>,
-    measures: Vec<MeasurePlaces>,
+/// Whether a printed cube of the schema can have this row, as far as the row alone tells: that it is a row of the schema, its
+/// grouping set, and that its answers don't gainsay one another.
+pub(crate) fn is_right(schema: &Schema, row: &Row) -> bool
+    ensures { result ≡ true → IsRightRow schema.now row.now }
+{
+    is_lawful(schema, row) && is_row_consistent(schema, row)
 }
 
-// Where the count, the sum and the mean of a measure stand.
-#[derive(Clone, Copy)]
-struct MeasurePlaces {
-    count: Option<usize>,
-    sum: Option<usize>,
-    mean: Option<usize>,
-}
-
-impl Laws {
-    /// The places of a schema's aggregates.
-    pub(crate) fn of(alloc: Global, schema: &Schema) -> Result<Laws, AllocError> {
-        let aggregates = schema.aggregates();
-        Ok(Laws {
-            repeats: repeats_of(alloc, aggregates)?,
-            measures: measures_of(alloc, aggregates, schema.measures().len())?,
-        })
-    }
-}
-
-fn repeats_of(alloc: Global, aggregates: &[Agg]) -> Result<Vec<(usize, usize)>, AllocError> {
-    let mut repeats = Vec::new(alloc);
-    for (place, aggregate) in aggregates.iter().enumerate() {
-        match place_of(aggregates, aggregate) {
-            Some(first) if first != place => repeats.push((place, first))?,
-            _ => {}
-        }
-    }
-    Ok(repeats)
-}
-
-fn measures_of(
-    alloc: Global,
-    aggregates: &[Agg],
-    count: usize,
-) -> Result<Vec<MeasurePlaces>, AllocError> {
-    let mut measures = Vec::with_capacity(alloc, count)?;
-    for measure in 0..count {
-        measures.push(MeasurePlaces {
-            count: place_of(aggregates, &Agg::Count(measure)),
-            sum: place_of(aggregates, &Agg::Sum(measure)),
-            mean: place_of(aggregates, &Agg::Avg(measure)),
-        })?;
-    }
-    Ok(measures)
-}
-
-/// Whether a printed cube of the schema, with its laws, can have this row, as far as the row alone tells: that it is a row
-/// of the schema, its grouping set, and that its answers don't gainsay one another.
-pub(crate) fn is_lawful(schema: &Schema, laws: &Laws, row: &Row) -> bool
+fn is_lawful(schema: &Schema, row: &Row) -> bool
     ensures { result ≡ true → IsLawfulRow schema.now row.now }
 {
     if !is_row_of(schema, row) {
         return false;
     }
-    let answers = row.answers.as_slice();
     schema.keeps(&row.key)
         && is_row_in_order(schema, row)
         && is_row_none_together(schema, row)
-        && are_repeats_same(laws.repeats.as_slice(), answers)
-        && are_means_consistent(laws.measures.as_slice(), answers)
-        && (is_total(row) || count_facts(schema.aggregates(), answers))
+        && (is_total(row) || count_facts(schema.aggregates(), row.answers.as_slice()))
 }
 
 fn is_row_of(schema: &Schema, row: &Row) -> bool
@@ -191,21 +138,6 @@ fn is_all_coord(coord: &Coord) -> bool
     matches!(coord, Coord::All)
 }
 
-// Whether an aggregate that stands twice has the same answer.
-fn are_repeats_same(repeats: &[(usize, usize)], answers: &[Answer]) -> bool {
-    for (place, first) in repeats {
-        if answer_at(answers, *place) != answer_at(answers, *first) {
-            return false;
-        }
-    }
-    true
-}
-
-// The answer at a place, where there is a place.
-fn answer_in(answers: &[Answer], place: Option<usize>) -> Option<Answer> {
-    Some(answer_at(answers, place?))
-}
-
 // Whether no answer to `count(*)` is 0.
 fn count_facts(aggregates: &[Agg], answers: &[Answer]) -> bool
     ensures { result ≡ true → AllZip CountsFacts aggregates.now answers.now }
@@ -228,23 +160,6 @@ fn counts_facts(aggregate: &Agg, answer: Answer) -> bool
         (Agg::CountAll, Answer::Count(count)) => count > 0,
         _ => true,
     }
-}
-
-fn are_means_consistent(measures: &[MeasurePlaces], answers: &[Answer]) -> bool {
-    for places in measures {
-        if !is_mean_consistent(places, answers) {
-            return false;
-        }
-    }
-    true
-}
-
-// Whether the mean of a measure is that of its sum and its count.
-fn is_mean_consistent(places: &MeasurePlaces, answers: &[Answer]) -> bool {
-    let count = answer_in(answers, places.count);
-    let sum = answer_in(answers, places.sum);
-    let mean = answer_in(answers, places.mean);
-    is_mean_of(&mean, &sum, &count)
 }
 
 // Whether the answers of a measure in a row are null together, and exactly where its count is 0.
@@ -388,9 +303,153 @@ fn is_in_order(least: Answer, greatest: Answer) -> bool
     }
 }
 
-fn is_mean_of(mean: &Option<Answer>, sum: &Option<Answer>, count: &Option<Answer>) -> bool {
-    match (mean, sum, count) {
-        (Some(mean), Some(sum), Some(count)) => *mean == mean_of(sum, count),
+// Whether the answers of a row don't gainsay one another.
+fn is_row_consistent(schema: &Schema, row: &Row) -> bool
+    ensures { result ≡ true → AreConsistent schema.now.aggregates row.now.answers }
+{
+    are_consistent(schema.aggregates(), row.answers.as_slice())
+}
+
+fn are_consistent(aggregates: &[Agg], answers: &[Answer]) -> bool
+    ensures { result ≡ true → AreConsistent aggregates.now answers.now }
+{
+    are_alike(aggregates, answers) && are_means(aggregates, answers)
+}
+
+// Whether an aggregate that stands twice has the same answer.
+fn are_alike(aggregates: &[Agg], answers: &[Answer]) -> bool
+    ensures { result ≡ true → AreAlike aggregates.now answers.now }
+{
+    if aggregates.len() != answers.len() {
+        return false;
+    }
+    for place in 0..aggregates.len() {
+        if !is_only_answer(aggregates, answers, &aggregates[place], answers[place]) {
+            return false;
+        }
+    }
+    true
+}
+
+// Whether each answer to an aggregate among answers is this one.
+fn is_only_answer(aggregates: &[Agg], answers: &[Answer], aggregate: &Agg, answer: Answer) -> bool
+    ensures { result ≡ true → IsOnlyAnswer aggregates.now answers.now aggregate.now answer }
+{
+    if aggregates.len() != answers.len() {
+        return false;
+    }
+    for place in 0..aggregates.len() {
+        if !is_same_answer(aggregate, answer, &aggregates[place], answers[place]) {
+            return false;
+        }
+    }
+    true
+}
+
+fn is_same_answer(aggregate: &Agg, answer: Answer, other: &Agg, its_answer: Answer) -> bool
+    ensures { result ≡ true → IsSameAnswer aggregate.now answer other.now its_answer }
+{
+    *other != *aggregate || its_answer == answer
+}
+
+// Whether each mean is the sum by the count of its measure, where these stand beside it.
+fn are_means(aggregates: &[Agg], answers: &[Answer]) -> bool
+    ensures { result ≡ true → AreMeans aggregates.now answers.now }
+{
+    if aggregates.len() != answers.len() {
+        return false;
+    }
+    for place in 0..aggregates.len() {
+        if !is_mean_among(aggregates, answers, &aggregates[place], answers[place]) {
+            return false;
+        }
+    }
+    true
+}
+
+fn is_mean_among(aggregates: &[Agg], answers: &[Answer], aggregate: &Agg, answer: Answer) -> bool
+    ensures { result ≡ true → IsMeanAmong aggregates.now answers.now aggregate.now answer }
+{
+    match aggregate {
+        Agg::Avg(measure) => is_mean(aggregates, answers, *measure, answer),
+        _ => true,
+    }
+}
+
+// Whether an answer is the mean of a measure, by its sum and its count among answers.
+fn is_mean(aggregates: &[Agg], answers: &[Answer], measure: usize, mean: Answer) -> bool
+    ensures { result ≡ true → AllZip (IsMeanOfSum aggregates.now answers.now measure mean) aggregates.now answers.now }
+{
+    if aggregates.len() != answers.len() {
+        return false;
+    }
+    for place in 0..aggregates.len() {
+        let aggregate = &aggregates[place];
+        if !is_mean_of_sum(
+            aggregates,
+            answers,
+            measure,
+            mean,
+            aggregate,
+            answers[place],
+        ) {
+            return false;
+        }
+    }
+    true
+}
+
+// The same, where this answer is that sum.
+fn is_mean_of_sum(
+    aggregates: &[Agg],
+    answers: &[Answer],
+    measure: usize,
+    mean: Answer,
+    aggregate: &Agg,
+    answer: Answer,
+) -> bool
+    ensures { result ≡ true → IsMeanOfSum aggregates.now answers.now measure mean aggregate.now answer }
+{
+    match aggregate {
+        Agg::Sum(other) => {
+            *other != measure || is_mean_by(aggregates, answers, measure, mean, answer)
+        }
+        _ => true,
+    }
+}
+
+// Whether an answer is the mean of a measure that has this sum, by its count among answers.
+fn is_mean_by(
+    aggregates: &[Agg],
+    answers: &[Answer],
+    measure: usize,
+    mean: Answer,
+    sum: Answer,
+) -> bool
+    ensures { result ≡ true → AllZip (IsMeanByCount measure mean sum) aggregates.now answers.now }
+{
+    if aggregates.len() != answers.len() {
+        return false;
+    }
+    for place in 0..aggregates.len() {
+        if !is_mean_by_count(measure, mean, sum, &aggregates[place], answers[place]) {
+            return false;
+        }
+    }
+    true
+}
+
+fn is_mean_by_count(
+    measure: usize,
+    mean: Answer,
+    sum: Answer,
+    aggregate: &Agg,
+    answer: Answer,
+) -> bool
+    ensures { result ≡ true → IsMeanByCount measure mean sum aggregate.now answer }
+{
+    match aggregate {
+        Agg::Count(other) => *other != measure || mean == mean_of(&sum, &answer),
         _ => true,
     }
 }

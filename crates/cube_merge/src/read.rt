@@ -5,12 +5,12 @@ ghost use Rattle.std.specs.Io.KnownBytes.{Consumes, IsAtEnd};
 ghost use Rattle.std.specs.Io.Buffered.{reader_remaining};
 ghost use Rattle.cube_core.specs.Text.{row_line};
 ghost use Rattle.cube_merge.specs.Faults.{IsReadFault};
-ghost use Rattle.cube_merge.specs.Lawful.{IsLawfulRow};
+ghost use Rattle.cube_merge.specs.Lawful.{IsRightRow};
 ghost use Rattle.cube_lines.specs.Parts.{key_parts};
 ghost use Rattle.cube_merge.specs.NextLine.{IsNextLine, is_quoted_after, is_quoted_behind};
 
 use crate::fault::InputFault;
-use crate::lawful::{Laws, is_lawful};
+use crate::lawful::is_right;
 use cube_core::{Row, Schema};
 use cube_lines::parse_row;
 use std::alloc::{AllocError, Global};
@@ -18,16 +18,15 @@ use std::io;
 use std::io::{BufRead, BufReader, ErrorKind, Read};
 
 /// The row whose printed line a line is, in the memory of a spare row, and how many bytes of the line show its key; None
-/// where it is that of no lawful row. The line gets a comma in place of its end.
+/// where it is that of no right row. The line gets a comma in place of its end.
 pub(crate) fn read_row(
     alloc: Global,
     schema: &Schema,
-    laws: &Laws,
     line: &mut Vec<u8>,
     spare: Row,
 ) -> Result<Option<(Row, usize)>, AllocError>
     ensures line { IfOk result (λ found. IfSome found (λ read. row_line schema.now read.0 ≡ line.old.items)) }
-    ensures of_schema { IfOk result (λ found. IfSome found (λ read. IsLawfulRow schema.now read.0)) }
+    ensures of_schema { IfOk result (λ found. IfSome found (λ read. IsRightRow schema.now read.0)) }
     ensures key { IfOk result (λ found. IfSome found (λ read.
         take read.1 line.new.items ≡ key_parts read.0.key)) }
 {
@@ -38,7 +37,7 @@ pub(crate) fn read_row(
     let Some((row, key_len)) = parse_row(alloc, schema, line.as_slice(), spare)? else {
         return Ok(None);
     };
-    if !is_lawful(schema, laws, &row) {
+    if !is_right(schema, &row) {
         return Ok(None);
     }
     Ok(Some((row, key_len)))
