@@ -1,6 +1,6 @@
 -- The rows that the cube of a schema may have (this project's choice: counts of 64 bits, sums of 128, measures of 64).
-use Rattle.std.specs.Prelude.{◌≡◌, ◌<◌, ◌≤ℤ◌, ◌^◌, ⊤, ℕ, ℤ, pos, Bool, true, false, not, IsTrue, List, length}
-use Rattle.std.specs.Prelude.{◌==◌, Option, Some, None, IfSome, FitsSigned, unsigned_abs}
+use Rattle.std.specs.Prelude.{◌≡◌, ◌<◌, ◌≤ℤ◌, ◌+◌, ◌*◌, ◌%◌, ◌^◌, ⊤, ℕ, ℤ, pos, Bool, true, false, not, IsTrue, List, length}
+use Rattle.std.specs.Prelude.{◌==◌, Option, Some, None, IfSome, FitsSigned, get_or, unsigned_abs}
 use Rattle.std.specs.Int.{w64, w128, IsGcd}
 use Rattle.std.specs.List.{AllZip, list_all}
 use Rattle.std.specs.Str.{bytes_eq}
@@ -149,6 +149,19 @@ pub record IsLawfulRow (s : Layout) (row : Row) : Type 0 where
   pub in_order : AreInOrder s.aggregates row.answers
   pub none_together : AreNoneTogether s.aggregates row.answers
   pub counted : list_all is_all_coord row.key.coords ≡ false → AllZip CountsFacts s.aggregates row.answers
+
+-- the number by which an aggregate's place is found
+abbrev pub number_of : Agg → ℕ
+number_of CountAll = 0
+number_of (Count m) = m % 4 * 5 + 1
+number_of (Sum m) = m % 4 * 5 + 2
+number_of (Min m) = m % 4 * 5 + 3
+number_of (Max m) = m % 4 * 5 + 4
+number_of (Avg m) = m % 4 * 5 + 5
+
+-- an answer is the one at the place of its aggregate
+abbrev pub IsAtPlace : List ℕ → List Answer → Agg → Answer → Type 0
+IsAtPlace places answers agg a = get_or answers (get_or places (number_of agg) 0) answer.Null ≡ a
 
 -- an answer, where it is one to this aggregate, is this one
 abbrev pub IsSameAnswer : Agg → Answer → Agg → Answer → Type 0

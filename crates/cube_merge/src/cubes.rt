@@ -63,7 +63,7 @@ pub fn merge<R: Read + Drop, W: Write>(
     };
     let mut header = Vec::new(alloc);
     push_header(alloc, &mut header, given)?;
-    let mut inputs = open_inputs(alloc, header.as_slice(), readers)?;
+    let mut inputs = open_inputs(alloc, given, header.as_slice(), readers)?;
     merge_inputs(
         alloc,
         given,
@@ -110,6 +110,7 @@ fn new_desk(alloc: Global, schema: &Schema) -> Result<Desk, AllocError>
 
 fn open_inputs<R: Read + Drop>(
     alloc: Global,
+    schema: &Schema,
     header: &[u8],
     readers: Vec<R>,
 ) -> Result<Vec<Input<R>>, MergeFault>
@@ -119,7 +120,7 @@ fn open_inputs<R: Read + Drop>(
 {
     let mut inputs = Vec::with_capacity(alloc, readers.len())?;
     for reader in readers {
-        let input = open_input(alloc, header, reader, inputs.len())?;
+        let input = open_input(alloc, schema, header, reader, inputs.len())?;
         inputs.push(input)?;
     }
     Ok(inputs)
@@ -128,6 +129,7 @@ fn open_inputs<R: Read + Drop>(
 // The input at a place, whose header was taken.
 fn open_input<R: Read + Drop>(
     alloc: Global,
+    schema: &Schema,
     header: &[u8],
     reader: R,
     place: usize,
@@ -135,7 +137,7 @@ fn open_input<R: Read + Drop>(
     ensures ok { IfOk result (TookHeader R.remaining header.now reader) }
     ensures err { IfErr result (FailsToOpen header.now place (R.remaining reader)) }
 {
-    let Ok(mut input) = Input::new(alloc, reader) else {
+    let Ok(mut input) = Input::new(alloc, schema, reader) else {
         return Err(MergeFault::Memory);
     };
     match input.take_header(header) {

@@ -9,6 +9,7 @@ ghost use Rattle.cube_lines.specs.Parts.{key_parts};
 
 use crate::fault::InputFault;
 use crate::lawful::is_total;
+use crate::places::places_of;
 use crate::read::{read_line, read_row};
 use cube_core::{Row, Schema};
 use cube_lines::empty_row;
@@ -28,6 +29,8 @@ pub(crate) struct Input<R: Read> {
     row: Option<Row>,
     spare: Row,
     lines: u64,
+    // The places of the schema's aggregates.
+    places: Vec<usize>,
 }
 
 impl<R: Read> Model for Input<R> {
@@ -44,12 +47,13 @@ impl<R: Read> Model for Input<R> {
 }
 
 impl<R: Read + Drop> Input<R> {
-    /// An input of what a reader gives, of which nothing is read.
-    pub(crate) fn new(alloc: Global, reader: R) -> Result<Input<R>, InputFault>
+    /// An input of what a reader gives, a cube of the schema, of which nothing is read.
+    pub(crate) fn new(alloc: Global, schema: &Schema, reader: R) -> Result<Input<R>, InputFault>
         ensures left { IfOk result (λ input. input.left ≡ R.remaining reader) }
         ensures row { IfOk result (λ input. input.row ≡ None) }
         ensures lines { IfOk result (λ input. input.lines ≡ 0) }
     {
+        let places = places_of(alloc, schema.aggregates())?;
         let Ok(reader) = BufReader::with_capacity(alloc, 65536, reader) else {
             return Err(InputFault::Memory);
         };
@@ -60,6 +64,7 @@ impl<R: Read + Drop> Input<R> {
             row: None,
             spare: empty_row(alloc),
             lines: 0,
+            places,
         })
     }
 }
@@ -156,7 +161,8 @@ impl<R: Read> Input<R> {
             return Ok(());
         }
         let spare = mem::replace(&mut self.spare, empty_row(alloc));
-        let Some((row, key_len)) = read_row(alloc, schema, &mut self.line, spare)? else {
+        let places = self.places.as_slice();
+        let Some((row, key_len)) = read_row(alloc, schema, places, &mut self.line, spare)? else {
             return Err(InputFault::Line);
         };
         self.key_len = key_len;

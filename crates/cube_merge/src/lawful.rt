@@ -3,17 +3,18 @@ ghost use Rattle.std.specs.Prelude.{◌≡◌, ◌<◌, length, true, unsigned_a
 ghost use Rattle.std.specs.Int.{IsGcd};
 ghost use Rattle.std.specs.List.{AllZip, list_all};
 ghost use Rattle.cube_core.specs.GroupingSet.{is_all_coord};
-ghost use Rattle.cube_merge.specs.Lawful.{AreAlike, AreConsistent, AreMeans, IsMeanAmong, IsMeanByCount, IsMeanOfSum, IsOnlyAnswer, IsRightRow, IsSameAnswer, AreInOrder, AreNoneTogether, CountsFacts, IsNoneAmong, TellsNone, measure_of, tells_none, IsAtLeast, IsFraction, IsInOrder, IsWithin, IsNumber, IsOfKind, IsLawfulRow, IsValue, has_no_null_text, is_no_null_text};
+ghost use Rattle.cube_merge.specs.Lawful.{AreAlike, AreConsistent, AreMeans, IsMeanAmong, IsMeanByCount, IsMeanOfSum, IsOnlyAnswer, IsRightRow, IsSameAnswer, AreInOrder, AreNoneTogether, IsAtPlace, CountsFacts, IsNoneAmong, TellsNone, measure_of, tells_none, IsAtLeast, IsFraction, IsInOrder, IsWithin, IsNumber, IsOfKind, IsLawfulRow, IsValue, has_no_null_text, is_no_null_text};
 
-use crate::gather::mean_of;
+use crate::gather::{answer_at, mean_of};
+use crate::places::place_in;
 use cube_core::{Agg, Answer, Coord, Key, Row, Schema, reduced};
 
 /// Whether a printed cube of the schema can have this row, as far as the row alone tells: that it is a row of the schema, its
-/// grouping set, and that its answers don't gainsay one another.
-pub(crate) fn is_right(schema: &Schema, row: &Row) -> bool
+/// grouping set, and that its answers don't gainsay one another. The places are those of the schema's aggregates.
+pub(crate) fn is_right(schema: &Schema, places: &[usize], row: &Row) -> bool
     ensures { result ≡ true → IsRightRow schema.now row.now }
 {
-    is_lawful(schema, row) && is_row_consistent(schema, row)
+    is_lawful(schema, row) && is_row_consistent(schema, places, row)
 }
 
 fn is_lawful(schema: &Schema, row: &Row) -> bool
@@ -304,20 +305,48 @@ fn is_in_order(least: Answer, greatest: Answer) -> bool
 }
 
 // Whether the answers of a row don't gainsay one another.
-fn is_row_consistent(schema: &Schema, row: &Row) -> bool
+fn is_row_consistent(schema: &Schema, places: &[usize], row: &Row) -> bool
     ensures { result ≡ true → AreConsistent schema.now.aggregates row.now.answers }
 {
-    are_consistent(schema.aggregates(), row.answers.as_slice())
+    are_consistent(schema.aggregates(), places, row.answers.as_slice())
 }
 
-fn are_consistent(aggregates: &[Agg], answers: &[Answer]) -> bool
+fn are_consistent(aggregates: &[Agg], places: &[usize], answers: &[Answer]) -> bool
     ensures { result ≡ true → AreConsistent aggregates.now answers.now }
 {
-    are_alike(aggregates, answers) && are_means(aggregates, answers)
+    are_alike(aggregates, places, answers) && are_means(aggregates, answers)
 }
 
-// Whether an aggregate that stands twice has the same answer.
-fn are_alike(aggregates: &[Agg], answers: &[Answer]) -> bool
+// Whether an aggregate that stands twice has the same answer. Where each answer is that at its aggregate's place, all have;
+// else each is compared with each.
+#[tactic(auto, using(crate::proofs::LawfulLaws::alike_at_places))]
+fn are_alike(aggregates: &[Agg], places: &[usize], answers: &[Answer]) -> bool
+    ensures { result ≡ true → AreAlike aggregates.now answers.now }
+{
+    are_at_places(aggregates, places, answers) || is_each_alike(aggregates, answers)
+}
+
+fn are_at_places(aggregates: &[Agg], places: &[usize], answers: &[Answer]) -> bool
+    ensures { result ≡ true → AllZip (IsAtPlace places.now answers.now) aggregates.now answers.now }
+{
+    if aggregates.len() != answers.len() {
+        return false;
+    }
+    for place in 0..aggregates.len() {
+        if !is_at_place(places, answers, &aggregates[place], answers[place]) {
+            return false;
+        }
+    }
+    true
+}
+
+fn is_at_place(places: &[usize], answers: &[Answer], aggregate: &Agg, answer: Answer) -> bool
+    ensures { result ≡ true → IsAtPlace places.now answers.now aggregate.now answer }
+{
+    answer_at(answers, place_in(places, aggregate)) == answer
+}
+
+fn is_each_alike(aggregates: &[Agg], answers: &[Answer]) -> bool
     ensures { result ≡ true → AreAlike aggregates.now answers.now }
 {
     if aggregates.len() != answers.len() {

@@ -7,6 +7,7 @@ mod front;
 mod gather;
 mod input;
 mod lawful;
+mod places;
 mod read;
 mod source;
 mod step;

@@ -18,10 +18,12 @@ use std::io;
 use std::io::{BufRead, BufReader, ErrorKind, Read};
 
 /// The row whose printed line a line is, in the memory of a spare row, and how many bytes of the line show its key; None
-/// where it is that of no right row. The line gets a comma in place of its end.
+/// where it is that of no right row. The places are those of the schema's aggregates. The line gets a comma in place of its
+/// end.
 pub(crate) fn read_row(
     alloc: Global,
     schema: &Schema,
+    places: &[usize],
     line: &mut Vec<u8>,
     spare: Row,
 ) -> Result<Option<(Row, usize)>, AllocError>
@@ -37,7 +39,7 @@ pub(crate) fn read_row(
     let Some((row, key_len)) = parse_row(alloc, schema, line.as_slice(), spare)? else {
         return Ok(None);
     };
-    if !is_right(schema, &row) {
+    if !is_right(schema, places, &row) {
         return Ok(None);
     }
     Ok(Some((row, key_len)))

@@ -23,6 +23,7 @@ CanBeMerged-merged given wanted texts old new merged = (
     as_many = merged.as_many;
     read = merged.read;
     of_schema = merged.of_schema;
+    consistent = merged.consistent;
     ordered = merged.ordered;
     complete = merged.complete;
     drawn = merged.drawn;

@@ -1,7 +1,7 @@
 use Rattle.std.proofs.Common.{◌<◌, ◌≡◌, true, length, rules, arith}
 use Rattle.cube_merge.proofs.LawfulLaws.{AllZip-next}
 use Rattle.cube_merge.specs.Lawful.{IsOnlyAnswer}
-use Rattle.cube_merge.proofs.lawful.are_alike.Goals as goal
+use Rattle.cube_merge.proofs.lawful.is_each_alike.Goals as goal
 
 pub loop-place-preserved : goal.loop-place-preserved
 loop-place-preserved c =

@@ -1,0 +1,45 @@
+//! A place for each aggregate, where the answer stands with which each other of its answers has to agree.
+ghost use Rattle.std.specs.Prelude.{◌≡◌, ◌<◌, get_or};
+ghost use Rattle.cube_merge.specs.Lawful.{number_of};
+
+use cube_core::Agg;
+use std::alloc::{AllocError, Global};
+
+// How many numbers aggregates have.
+const NUMBERS: usize = 21;
+
+/// The last place where each aggregate stands, by the aggregate's number. Only how soon a row is known to be right rests
+/// on it.
+pub(crate) fn places_of(alloc: Global, aggregates: &[Agg]) -> Result<Vec<usize>, AllocError> {
+    let mut places = vec![in alloc; 0usize; NUMBERS]?;
+    for place in 0..aggregates.len() {
+        if let Some(last) = places.get_mut(number_of(&aggregates[place])) {
+            *last = place;
+        }
+    }
+    Ok(places)
+}
+
+/// The place of an aggregate.
+pub(crate) fn place_in(places: &[usize], aggregate: &Agg) -> usize
+    ensures { result ≡ get_or places.now (number_of aggregate.now) 0 }
+{
+    match places.get(number_of(aggregate)) {
+        Some(place) => *place,
+        None => 0,
+    }
+}
+
+// The number of an aggregate; those of the four measures of a schema differ.
+fn number_of(aggregate: &Agg) -> usize
+    ensures { result ≡ number_of aggregate.now }
+{
+    match aggregate {
+        Agg::CountAll => 0,
+        Agg::Count(measure) => *measure % 4 * 5 + 1,
+        Agg::Sum(measure) => *measure % 4 * 5 + 2,
+        Agg::Min(measure) => *measure % 4 * 5 + 3,
+        Agg::Max(measure) => *measure % 4 * 5 + 4,
+        Agg::Avg(measure) => *measure % 4 * 5 + 5,
+    }
+}
