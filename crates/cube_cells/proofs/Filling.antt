@@ -4,3 +4,4 @@ pub mod FinerLaws
 pub mod FilledLaws
 pub mod LevelLaws
 pub mod ShareLaws
+pub mod BottomUpLaws

@@ -12,3 +12,4 @@ pub mod Levels
 pub mod Fill
 pub mod Places
 pub mod Shares
+pub mod BottomUp

@@ -11,6 +11,7 @@ ghost use Rattle.cube_core.specs.declared.key.Key.{Key};
 ghost use Rattle.cube_cells.specs.Codes.{IsDictionary, AreCodesOf, are_codes, coord_of_value};
 ghost use Rattle.cube_cells.specs.Cube.{Lattice, IsLattice, IsCubeOf, HoldsFact, AddsFact, TakesFact, AddsTexts, MayAddTexts, SameCells, cell_at, count_in, IsNewLattice};
 
+mod bottom_up;
 mod cell_key;
 mod codes;
 mod dictionary;

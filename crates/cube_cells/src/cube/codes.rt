@@ -2,12 +2,16 @@
 ghost use Rattle.std.specs.Prelude.{◌≡◌, ◌≤◌, ◌<◌, ◌+◌, ◌*◌, ◌++◌, ◌%◌, ◌==◌, length, slice_index_or, if◌then◌else◌};
 ghost use Rattle.cube_cells.specs.Coded.{is_total_code, total_codes};
 ghost use Rattle.std.specs.Hash as fed;
+ghost use Rattle.std.specs.Cmp.Lexicographic.{slice_cmp};
+ghost use Rattle.std.specs.Ordering.{nat_cmp};
 ghost use Rattle.std.specs.Cmp.Rules.{comparing, hashing};
 ghost use Rattle.std.proofs.Common.{rules};
 ghost use Rattle.cube_cells.specs.Codes.{all_code};
+ghost use Rattle.cube_cells.specs.BottomUp.{all_at};
 ghost use Rattle.cube_cells.specs.Levels.{mask_of_codes};
 ghost use Rattle.cube_cells.specs.Walk.{key_in};
 
+use std::cmp::Ordering;
 use std::hash::{Hash, Hasher};
 
 /// The code of ALL, in each place past the last dimension too.
@@ -45,6 +49,23 @@ impl Codes {
         ensures { result ≡ mask_of_codes self.now.codes }
     {
         mask_of(&self.codes)
+    }
+
+    /// These codes with ALL in a dimension.
+    pub fn with_all(&self, dimension: usize) -> Codes
+        requires { dimension < 8 }
+        ensures { result ≡ all_at dimension self.now }
+    {
+        let mut codes = self.codes;
+        codes[dimension] = ALL;
+        Codes { codes }
+    }
+
+    /// How these codes stand to others: the first that differ decide.
+    pub fn cmp(&self, other: &Codes) -> Ordering
+        ensures { result ≡ slice_cmp nat_cmp self.now.codes other.now.codes }
+    {
+        self.codes.cmp(&other.codes)
     }
 
     /// These codes in the dimensions of a grouping set, and ALL in the others.

@@ -338,7 +338,10 @@ fn put_copy<N: Numbers>(
 }
 
 // Merges a cell, unless its facts couldn't be counted.
-fn merge_counted<N: Numbers>(cell: &mut Cell<N>, more: &Cell<N>) -> Result<(), AllocError>
+pub(super) fn merge_counted<N: Numbers>(
+    cell: &mut Cell<N>,
+    more: &Cell<N>,
+) -> Result<(), AllocError>
     requires { length more.now.bags ≡ length cell.old.bags }
     ensures { OnOk result (PlusTally cell.old cell.new more.now) }
 {

@@ -1,0 +1,70 @@
+use Rattle.std.proofs.Common.{rules, ◌≡◌, ◌<◌, ◌≤◌, ◌+◌, arith, length, subst}
+use Rattle.std.specs.Prelude.{slice_range}
+use Rattle.std.proofs.lemmas.Result.{on_ok_weaker}
+use Rattle.cube_cells.specs.BottomUp.{CanWalk, TakesWalk, cells_of_items, run_of}
+use Rattle.cube_cells.specs.Coded.{CodedCells}
+use Rattle.cube_cells.proofs.Filling.BottomUpLaws.{CanWalk-raised, CanWalk-run, IsWalking-run, IsWalking-start}
+use Rattle.cube_cells.proofs.Filling.BottomUpLaws.{TakesWalk-kept, TakesWalk-raised, cells_of_items-range}
+use Rattle.cube_cells.proofs.Filling.BottomUpLaws.{length-cells_of_items}
+use Rattle.cube_cells.proofs.cube.bottom_up.+walk.Goals as goal
+
+pub returns-then-from-dimensions : goal.returns-then-from-dimensions
+returns-then-from-dimensions g t c =
+    let all : c.args.from ≡ c.args.dimensions = search rules in
+    on_ok_weaker c.take_kept.result (λ taken. TakesWalk-kept g.S.TakesCells.takes c.args.kept.now c.args.dimensions
+    c.args.from (cells_of_items c.args.items.now) c.args.sink.now c.take_kept.new.sink all c.requires.items taken)
+    c.take_kept.ensures
+
+pub loop-start-init : goal.loop-start-init
+loop-start-init g t c =
+    let below : c.args.from < c.args.dimensions = omega (arith, c.requires.from, c.if-from-dimensions.false) in
+    IsWalking-start g.S.TakesCells.takes c.args.kept.now c.args.dimensions c.args.from (cells_of_items c.args.items.now)
+    c.args.sink.now c.requires.items below
+
+pub walk-requires : goal.walk-requires
+walk-requires g t c κs within =
+    let items = cells_of_items c.args.items.now in
+    let start = c.loop-start.start in
+    let end = c.end_of_run-end.result in
+    let can : CanWalk c.args.dimensions (c.args.from + 1) (run_of items start end) =
+    CanWalk-run g.S.TakesCells.takes c.args.kept.now c.args.dimensions c.args.from items start end c.args.sink.now
+    c.loop-start.sink c.loop-start.invariant c.end_of_run-end.ensures in
+    let here : CanWalk c.args.dimensions (c.args.from + 1) (cells_of_items (slice_range c.args.items.now start end)) =
+    rw cells_of_items-range can in
+    let below : c.args.from < c.args.dimensions = omega (arith, c.requires.from, c.if-from-dimensions.false) in
+    search rules
+
+pub loop-start-preserved : goal.loop-start-preserved
+loop-start-preserved g t c =
+    let items = cells_of_items c.args.items.now in
+    let start = c.loop-start.start in
+    let end = c.end_of_run-end.result in
+    let walked : TakesWalk g.S.TakesCells.takes c.args.kept.now c.args.dimensions (c.args.from + 1)
+    (run_of items start end) c.loop-start.sink c.walk.new.sink =
+    subst (λ (l : CodedCells). TakesWalk g.S.TakesCells.takes c.args.kept.now c.args.dimensions (c.args.from + 1) l
+    c.loop-start.sink c.walk.new.sink) (cells_of_items-range c.args.items.now start end) c.in_ok-walk.ensures in
+    IsWalking-run g.S.TakesCells.takes c.args.kept.now c.args.dimensions c.args.from items start end c.args.sink.now
+    c.loop-start.sink c.walk.new.sink c.loop-start.invariant c.end_of_run-end.ensures walked
+
+pub walk-requires-2 : goal.walk-requires-2
+walk-requires-2 g t c κs within =
+    let items = cells_of_items c.args.items.now in
+    let raised = cells_of_items c.in_ok-raised.raised.items in
+    let can : CanWalk c.args.dimensions (c.args.from + 1) raised =
+    CanWalk-raised g.S.TakesCells.takes c.args.kept.now c.args.dimensions c.args.from items raised c.loop-start.start
+    c.args.sink.now c.loop-start.sink c.loop-start.invariant c.in_ok-raised.ensures in
+    let here : CanWalk c.args.dimensions (c.args.from + 1) (cells_of_items c.deref.result.now) =
+    rw c.deref.ensures.value can in
+    let below : c.args.from < c.args.dimensions = omega (arith, c.requires.from, c.if-from-dimensions.false) in
+    search rules
+
+pub returns : goal.returns
+returns g t c =
+    let items = cells_of_items c.args.items.now in
+    let raised = cells_of_items c.in_ok-raised.raised.items in
+    let below : c.args.from < c.args.dimensions = omega (arith, c.requires.from, c.if-from-dimensions.false) in
+    let past : length items ≤ c.loop-start.start =
+    omega (arith, length-cells_of_items c.args.items.now, c.loop-start-test.false) in
+    on_ok_weaker c.walk-2.result (λ walked. TakesWalk-raised g.S.TakesCells.takes c.args.kept.now c.args.dimensions
+    c.args.from items raised c.loop-start.start c.args.sink.now c.loop-start.sink c.walk-2.new.sink below
+    c.loop-start.invariant past c.in_ok-raised.ensures walked) (rw c.deref.ensures.value at c.walk-2.ensures)

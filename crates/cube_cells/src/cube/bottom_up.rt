@@ -1,0 +1,253 @@
+//! The cells of all kept grouping sets in the order of their codes, by a walk over lists of the finest cells (Beyer and
+//! Ramakrishnan 1999): no cell is hashed, and none is kept but those of the lists that are walked over.
+ghost use Rattle.std.specs.Prelude.{◌≡◌, ◌<◌, ◌≤◌, ◌∷◌, ◌++◌, [], ℕ, false, All, IfOk, OnOk, map, filter, length, if◌then◌else◌};
+ghost use Rattle.std.specs.Cmp.Lexicographic.{slice_cmp};
+ghost use Rattle.std.specs.List.Sorted.{IsSortedBy};
+ghost use Rattle.std.specs.Ordering.{nat_cmp, is_lt};
+ghost use Rattle.cube_cells.specs.BottomUp.{AreJoined, AreRaised, CanWalk, IsItem, IsRun, JoinsLast, TakesAll, TakesWalk, cells_of_items, cells_of_lent, column_of, is_kept_by, raise};
+ghost use Rattle.cube_cells.specs.Tally.{PlusTally, SameTally, Tally};
+ghost use Rattle.cube_cells.specs.declared.cube.codes.Codes.{Codes};
+
+use super::codes::Codes;
+use super::fill::merge_counted;
+use crate::cell::Cell;
+use cube_values::Numbers;
+use std::alloc::{AllocError, Global};
+
+/// What takes the cells of a walk, one at a time, in the order of their codes.
+pub trait TakesCells<N: Numbers> {
+    // What it is after a cell more.
+    ghost takes: { Self → Codes → Tally → Self → Type 0 };
+
+    /// Takes a cell. The only error is that memory ran out.
+    fn take_cell(&mut self, codes: &Codes, cell: &Cell<N>) -> Result<(), AllocError>
+        ensures { OnOk result (takes self.old codes.now cell.now self.new) };
+}
+
+/// A cell, and the codes of its key.
+#[derive(Drop)]
+pub struct Item<N: Numbers> {
+    pub codes: Codes,
+    pub cell: Cell<N>,
+}
+
+/// A cell that lies elsewhere, and the codes of its key.
+#[derive(Drop)]
+pub struct Lent<'c, N: Numbers> {
+    pub codes: Codes,
+    pub cell: &'c Cell<N>,
+}
+
+/// Hands the cells of the kept sets over, from a dimension on of so many, for items that agree in those before it.
+///
+/// Runs of one code come first, then the items with ALL in the dimension. The only error is that memory ran out.
+pub fn walk<N: Numbers, S: TakesCells<N>>(
+    alloc: Global,
+    kept: &[bool],
+    dimensions: usize,
+    from: usize,
+    items: &[Item<N>],
+    sink: &mut S,
+) -> Result<(), AllocError>
+    requires from { from ≤ dimensions }
+    requires items { CanWalk dimensions from (cells_of_items items.now) }
+    ensures { OnOk result (TakesWalk S.takes kept.now dimensions from (cells_of_items items.now) sink.old sink.new) }
+{
+    if from == dimensions {
+        return take_kept(kept, items, sink);
+    }
+    if items.len() == 1 {
+        let item = &items[0];
+        return walk_one(kept, dimensions, from, &item.codes, &item.cell, sink);
+    }
+    let mut start = 0;
+    while start < items.len() {
+        let end = end_of_run(items, from, start);
+        walk(alloc, kept, dimensions, from + 1, &items[start..end], sink)?;
+        start = end;
+    }
+    let raised = raised(alloc, from, items)?;
+    walk(alloc, kept, dimensions, from + 1, &raised, sink)
+}
+
+// The same for one item: all keys above it have its cell.
+fn walk_one<N: Numbers, S: TakesCells<N>>(
+    kept: &[bool],
+    dimensions: usize,
+    from: usize,
+    codes: &Codes,
+    cell: &Cell<N>,
+    sink: &mut S,
+) -> Result<(), AllocError>
+    requires from { from ≤ dimensions }
+    requires item { CanWalk dimensions from ((codes.now, cell.now) ∷ []) }
+    ensures { OnOk result (TakesWalk S.takes kept.now dimensions from ((codes.now, cell.now) ∷ []) sink.old sink.new) }
+{
+    if from == dimensions {
+        return take_if_kept(kept, codes, cell, sink);
+    }
+    walk_one(kept, dimensions, from + 1, codes, cell, sink)?;
+    walk_one(
+        kept,
+        dimensions,
+        from + 1,
+        &codes.with_all(from),
+        cell,
+        sink,
+    )
+}
+
+// Hands the items of kept sets over.
+fn take_kept<N: Numbers, S: TakesCells<N>>(
+    kept: &[bool],
+    items: &[Item<N>],
+    sink: &mut S,
+) -> Result<(), AllocError>
+    ensures { OnOk result (TakesAll S.takes sink.old
+        (filter (λ item. is_kept_by kept.now item.0) (cells_of_items items.now)) sink.new) }
+{
+    for item in items {
+        take_if_kept(kept, &item.codes, &item.cell, sink)?;
+    }
+    Ok(())
+}
+
+// Hands a cell over if its set is kept.
+fn take_if_kept<N: Numbers, S: TakesCells<N>>(
+    kept: &[bool],
+    codes: &Codes,
+    cell: &Cell<N>,
+    sink: &mut S,
+) -> Result<(), AllocError>
+    ensures { OnOk result (TakesAll S.takes sink.old
+        (if is_kept_by kept.now codes.now then (codes.now, cell.now) ∷ [] else []) sink.new) }
+{
+    if is_kept(kept, codes) {
+        return sink.take_cell(codes, cell);
+    }
+    Ok(())
+}
+
+// Whether the set of codes is kept.
+fn is_kept(kept: &[bool], codes: &Codes) -> bool
+    ensures { result ≡ is_kept_by kept.now codes.now }
+{
+    match kept.get(usize::from(codes.mask())) {
+        Some(is) => *is,
+        None => false,
+    }
+}
+
+// Where the run ends that begins at a place: the items with its code in a dimension.
+fn end_of_run<N: Numbers>(items: &[Item<N>], from: usize, start: usize) -> usize
+    requires dimension { from < 8 }
+    requires start { start < length items.now }
+    ensures { IsRun (column_of from (cells_of_items items.now)) start result }
+{
+    let code = items[start].codes.codes[from];
+    let mut end = start + 1;
+    while end < items.len() && items[end].codes.codes[from] == code {
+        end += 1;
+    }
+    end
+}
+
+// The items with ALL in a dimension, in the order of their codes; those of the same codes are merged.
+fn raised<N: Numbers>(
+    alloc: Global,
+    from: usize,
+    items: &[Item<N>],
+) -> Result<Vec<Item<N>>, AllocError>
+    requires dimension { from < 8 }
+    requires items { (measures : ℕ) × All (IsItem measures) (cells_of_items items.now) }
+    ensures { IfOk result (λ raised. AreRaised from (cells_of_items items.now) (cells_of_items raised.items)) }
+{
+    let mut lent = lent_with_all(alloc, from, items)?;
+    lent.sort_unstable_by(|a, b| a.codes.cmp(&b.codes));
+    joined(alloc, &lent)
+}
+
+// The items with ALL in a dimension.
+fn lent_with_all<N: Numbers>(
+    alloc: Global,
+    from: usize,
+    items: &[Item<N>],
+) -> Result<Vec<Lent<'_, N>>, AllocError>
+    requires { from < 8 }
+    ensures { IfOk result (λ lent. cells_of_lent lent.items ≡ raise from (cells_of_items items.now)) }
+{
+    let mut lent = Vec::with_capacity(alloc, items.len())?;
+    for item in items {
+        lent.push(Lent {
+            codes: item.codes.with_all(from),
+            cell: &item.cell,
+        })?;
+    }
+    Ok(lent)
+}
+
+// Cells in the order of their codes, with those of the same codes merged.
+fn joined<N: Numbers>(alloc: Global, lent: &[Lent<'_, N>]) -> Result<Vec<Item<N>>, AllocError>
+    requires order { IsSortedBy (λ a b. is_lt (slice_cmp nat_cmp a.codes.codes b.codes.codes)) lent.now }
+    requires items { (measures : ℕ) × All (IsItem measures) (cells_of_lent lent.now) }
+    ensures { IfOk result (λ joined. AreJoined (cells_of_lent lent.now) (cells_of_items joined.items)) }
+{
+    let mut joined = Vec::new(alloc);
+    for one in lent {
+        join_last(alloc, &mut joined, one)?;
+    }
+    Ok(joined)
+}
+
+// Merges a cell into the last one if that has its codes, else puts it behind it.
+fn join_last<N: Numbers>(
+    alloc: Global,
+    items: &mut Vec<Item<N>>,
+    one: &Lent<'_, N>,
+) -> Result<(), AllocError>
+    requires { (measures : ℕ) × All (IsItem measures) ((one.now.codes, one.now.cell.now) ∷ cells_of_items items.old.items) }
+    ensures { OnOk result (JoinsLast (one.now.codes, one.now.cell.now)
+        (cells_of_items items.old.items) (cells_of_items items.new.items)) }
+{
+    let Some(last) = items.pop() else {
+        return put_copy(alloc, items, one);
+    };
+    if last.codes == one.codes {
+        return put_merged(items, last, one);
+    }
+    items.push(last)?;
+    put_copy(alloc, items, one)
+}
+
+// Puts an item behind others with a cell of the same codes merged into it.
+fn put_merged<N: Numbers>(
+    items: &mut Vec<Item<N>>,
+    item: Item<N>,
+    one: &Lent<'_, N>,
+) -> Result<(), AllocError>
+    requires { length item.cell.bags ≡ length one.now.cell.now.bags }
+    ensures { OnOk result ((sum : Tally) × PlusTally item.cell sum one.now.cell.now
+        × (cells_of_items items.new.items ≡ cells_of_items items.old.items ++ (item.codes, sum) ∷ [])) }
+{
+    let mut item = item;
+    merge_counted(&mut item.cell, one.cell)?;
+    items.push(item)?;
+    Ok(())
+}
+
+// Puts a copy of a cell behind others.
+fn put_copy<N: Numbers>(
+    alloc: Global,
+    items: &mut Vec<Item<N>>,
+    one: &Lent<'_, N>,
+) -> Result<(), AllocError>
+    ensures { OnOk result ((copy : Tally) × SameTally one.now.cell.now copy
+        × (cells_of_items items.new.items ≡ cells_of_items items.old.items ++ (one.now.codes, copy) ∷ [])) }
+{
+    let cell = one.cell.copy(alloc)?;
+    items.push(Item {
+        codes: one.codes,
+        cell,
+    })?;
+    Ok(())
+}
