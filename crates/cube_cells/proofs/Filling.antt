@@ -5,3 +5,5 @@ pub mod FilledLaws
 pub mod LevelLaws
 pub mod ShareLaws
 pub mod BottomUpLaws
+pub mod BottomUpCellLaws
+pub mod BottomUpCubeLaws

@@ -3,3 +3,4 @@ pub mod PlaceLaws
 pub mod RowLaws
 pub mod DrillLaws
 pub mod SliceLaws
+pub mod BottomUpRowLaws

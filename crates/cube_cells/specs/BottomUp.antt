@@ -7,7 +7,10 @@ use Rattle.std.specs.List.Sorted.{IsStrictlySortedBy}
 use Rattle.std.specs.Ordering.{nat_cmp}
 use Rattle.std.specs.declared.cmp.Ordering.{Ordering}
 use Rattle.cube_cells.specs.Codes.{all_code}
-use Rattle.cube_cells.specs.Coded.{CodedCells}
+use Rattle.cube_core.specs.declared.fact.Fact.{Fact}
+use Rattle.cube_cells.specs.Coded.{CodedCells, IsCodedCell, lattice_of}
+use Rattle.cube_cells.specs.Cube.{IsCubeOf, Lattice}
+use Rattle.cube_cells.specs.Fill.{IsCubeOfAll}
 use Rattle.cube_cells.specs.Levels.{mask_of_codes}
 use Rattle.cube_cells.specs.Tally.{Tally, PlusTally, SameTally}
 use Rattle.cube_cells.specs.declared.cube.bottom_up.Item.{Item}
@@ -169,3 +172,17 @@ pub record TakesWalk {S : Type 0} (takes : S → Codes → Tally → S → Type 
   pub cells : CodedCells
   pub are : IsWalkOf (is_kept_by kept) (dimensions - from) from items cells
   pub taken : TakesAll takes old cells new
+
+-- the texts of a dimension differ and stand in their order, so that their codes are their ranks
+pub record AreInTextOrder (texts : List (List ℕ)) : Type 0 where
+  pub rises : IsStrictlySortedBy (slice_cmp nat_cmp) texts
+
+-- the cells of the cube of the facts of a lattice over these grouping sets are taken, in the order of their codes
+pub record TakesCube {S : Type 0} (takes : S → Codes → Tally → S → Type 0) (sets : List ℕ) (finest : Lattice)
+    (old new : S) : Type 0 where
+  pub cells : CodedCells
+  pub taken : TakesAll takes old cells new
+  pub in_order : IsStrictlySortedBy codes_cmp cells
+  pub each : All (IsCodedCell finest.dictionaries (length finest.schema.measures)) cells
+  pub cube : (facts : List Fact) → 0 < length facts → IsCubeOfAll facts finest
+      → IsCubeOf (lattice_of finest.schema sets (length facts) finest.dictionaries cells) facts

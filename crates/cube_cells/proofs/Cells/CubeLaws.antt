@@ -40,7 +40,7 @@ group_of-list_any key (fact ∷ facts) none =
     let parts = or_parts (covers key fact) (list_any (covers key) facts) none in
     group_of-failed key fact facts parts.0 ∙ group_of-list_any key facts parts.1
 
-list_any-group_of : (key : Key) (facts : List Fact)
+pub list_any-group_of : (key : Key) (facts : List Fact)
     → list_any (covers key) facts ≡ nat_lt 0 (length (group_of key facts))
 list_any-group_of key [] = refl
 list_any-group_of key (fact ∷ facts) = elim (cases_Bool (covers key fact)) [

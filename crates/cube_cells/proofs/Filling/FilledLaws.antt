@@ -69,7 +69,7 @@ pub record HasGroup (schema : Layout) (dictionaries : Dictionaries) (set : ℕ) 
   pub valid : are_codes dictionaries (key_in cell.0 set).codes ≡ true
   pub width : length cell.1.bags ≡ length schema.measures
 
-group_of-all : (key : Key) (first : Fact) (group : List Fact) → All (λ fact. covers key fact ≡ covers key first) group
+pub group_of-all : (key : Key) (first : Fact) (group : List Fact) → All (λ fact. covers key fact ≡ covers key first) group
     → covers key first ≡ true → group_of key group ≡ group
 group_of-all key first [] alike stands = refl
 group_of-all key first (fact ∷ group) alike stands =
@@ -78,7 +78,7 @@ group_of-all key first (fact ∷ group) alike stands =
     ∙ ap (λ (g : List Fact). fact ∷ g)
     (group_of-all key first group (All-tail (λ (f : Fact). covers key f ≡ covers key first) fact group alike) stands)
 
-group_of-none : (key : Key) (first : Fact) (group : List Fact) → All (λ fact. covers key fact ≡ covers key first) group
+pub group_of-none : (key : Key) (first : Fact) (group : List Fact) → All (λ fact. covers key fact ≡ covers key first) group
     → covers key first ≡ false → (group_of key group ≡ []) × (list_any (covers key) group ≡ false)
 group_of-none key first [] alike apart = (refl, refl)
 group_of-none key first (fact ∷ group) alike apart =
@@ -531,7 +531,7 @@ IsSetCell-coded_at schema dictionaries facts set cells codes t base filled found
   ]
 
 -- each cell is so
-IsSetCell-HaveAll : (schema : Layout) (dictionaries : Dictionaries) (facts : List Fact) (set : ℕ) (cells : CodedCells)
+pub IsSetCell-HaveAll : (schema : Layout) (dictionaries : Dictionaries) (facts : List Fact) (set : ℕ) (cells : CodedCells)
     → IsBase schema dictionaries facts → HaveAll schema dictionaries facts (set ∷ []) cells
     → All (IsSetCell schema dictionaries facts set) cells
 IsSetCell-HaveAll schema dictionaries facts set cells base filled =
@@ -568,10 +568,10 @@ covers-covering_key key finer a b same within stands =
     ap (λ (k : Key). covers k b) is ∙ all_stand_for-ancestor_of b.dims (mask_of key)
 
 -- the group of a cell, for a coarser set
-HasFinerGroup-IsSetCell : (schema : Layout) (dictionaries : Dictionaries) (facts : List Fact) (finer set : ℕ)
-    (cell : Codes × Tally) → IsBase schema dictionaries facts → IsFiner finer set
+pub HasFinerGroup-IsSetCell : (schema : Layout) (dictionaries : Dictionaries) (facts : List Fact) (finer set : ℕ)
+    (cell : Codes × Tally) → IsBase schema dictionaries facts → 0 < finer → bit_and finer set ≡ set
     → IsSetCell schema dictionaries facts finer cell → HasFinerGroup schema dictionaries facts set cell
-HasFinerGroup-IsSetCell schema dictionaries facts finer set cell base within is = record {
+HasFinerGroup-IsSetCell schema dictionaries facts finer set cell base some within is = record {
   codes = codes.0;
   same = same;
   group = record {
@@ -593,7 +593,7 @@ HasFinerGroup-IsSetCell schema dictionaries facts finer set cell base within is 
   group = group_of (cell_key dictionaries cell) facts
 
   found : (first : Fact) × (others : List Fact) × (group_of (cell_key dictionaries cell) facts ≡ first ∷ others)
-  found = group_of-first (cell_key dictionaries cell) facts (is.covers_one (omega (arith, within.0)))
+  found = group_of-first (cell_key dictionaries cell) facts (is.covers_one some)
 
   covered : All (λ fact. covers (cell_key dictionaries cell) fact ≡ true) group
   covered = covers-group_of (cell_key dictionaries cell) facts
@@ -634,7 +634,7 @@ HasFinerGroup-IsSetCell schema dictionaries facts finer set cell base within is 
   same =
       let make : List ℕ → Codes = λ xs. record { codes = xs } in
       ap (λ (xs : List ℕ). make (kept_codes set xs)) lists
-      ∙ ap make (kept_codes-within codes.0.codes finer set within.1)
+      ∙ ap make (kept_codes-within codes.0.codes finer set within)
 
   alike : (key : Key) → mask_of key ≡ set → (fact : Fact) → covers (cell_key dictionaries cell) fact ≡ true
       → covers key fact ≡ covers key found.0
@@ -642,7 +642,7 @@ HasFinerGroup-IsSetCell schema dictionaries facts finer set cell base within is 
       let both : covering_key fact finer ≡ covering_key found.0 finer =
       sym (at_key fact stands) ∙ at_key found.0 first_covered in
       let inside : bit_and finer (mask_of key) ≡ mask_of key =
-      subst (λ (s : ℕ). bit_and finer s ≡ s) (sym mask) within.1 in
+      subst (λ (s : ℕ). bit_and finer s ≡ s) (sym mask) within in
       elim (cases_Bool (covers key fact)) [
         | inl stands_also ↦ stands_also ∙ sym (covers-covering_key key finer fact found.0 both inside stands_also)
         | inr apart ↦ apart ∙ sym (false_from_ne_true (covers key found.0) (λ also.
@@ -671,7 +671,7 @@ list_any-get_or p (fact ∷ facts) zero d inside passes = or_left (p fact) (list
 list_any-get_or p (fact ∷ facts) (suc k) d inside passes =
     or_right (p fact) (list_any p facts) (list_any-get_or p facts k d (omega (arith, inside)) passes)
 
-one_covers-HaveAll : (schema : Layout) (dictionaries : Dictionaries) (facts : List Fact) (set : ℕ) (cells : CodedCells)
+pub one_covers-HaveAll : (schema : Layout) (dictionaries : Dictionaries) (facts : List Fact) (set : ℕ) (cells : CodedCells)
     → set < 2 ^ length schema.dimensions → IsBase schema dictionaries facts
     → HaveAll schema dictionaries facts (set ∷ []) cells → All (λ fact. one_covers dictionaries cells fact ≡ true) facts
 one_covers-HaveAll schema dictionaries facts set cells below base filled =
@@ -749,8 +749,8 @@ HaveAll-AreMadeFrom schema dictionaries facts finer set others cells base below 
   done : IsFilled schema (set ∷ []) dictionaries gathered_here cells
   done = IsFilled-FillsSet schema (set ∷ []) dictionaries facts set others made.start cells (λ _. []) frame
       (or_left (set == set) false (eq-eqb set set refl))
-      (λ k d inside. HasFinerGroup-IsSetCell schema dictionaries facts finer set (get_or others k d) base within
-      (each k d inside)) made.fills start
+      (λ k d inside. HasFinerGroup-IsSetCell schema dictionaries facts finer set (get_or others k d) base
+      (omega (arith, within.0)) within.1 (each k d inside)) made.fills start
 
   in_set : (s : ℕ) → is_among s (set ∷ []) ≡ true → gathered_here s ≡ all
   in_set s among = elim (or_cases (set == s) false among) [ inl same ↦ rw same refl | inr never ↦ cc never ]

@@ -781,7 +781,7 @@ cell_at-IsPermutation schema dictionaries facts a b key base moved apart each =
       | inr other ↦ no_cell-width dictionaries b key other ∙ sym (no_cell-width dictionaries a key other)
     ]
 
-HaveAll-IsPermutation : (schema : Layout) (dictionaries : Dictionaries) (facts : List Fact) (sets : List ℕ)
+pub HaveAll-IsPermutation : (schema : Layout) (dictionaries : Dictionaries) (facts : List Fact) (sets : List ℕ)
     (a b : CodedCells) → IsBase schema dictionaries facts → IsPermutation a b → HaveAll schema dictionaries facts sets a
     → HaveAll schema dictionaries facts sets b
 HaveAll-IsPermutation schema dictionaries facts sets a b base moved of_a = record {
