@@ -137,8 +137,8 @@ pub record PutsLast (cell : Codes × Tally) (old new : CodedCells) : Type 0 wher
 abbrev pub JoinsLast : Codes × Tally → CodedCells → CodedCells → Type 0
 JoinsLast cell old new = MergesLast cell old new ⊎ PutsLast cell old new
 
--- cells in order, of which those with the same codes are joined
-pub record AreJoined (cells joined : CodedCells) : Type 0 where
+-- cells in order, of which those with the same codes are united
+pub record AreUnited (cells joined : CodedCells) : Type 0 where
   pub weighs : (part : Tally → ℕ) → IsPart part → (weight : Codes → ℕ)
       → weigh weight part joined ≡ weigh weight part cells
   pub in_order : IsStrictlySortedBy codes_cmp joined

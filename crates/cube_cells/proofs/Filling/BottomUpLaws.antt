@@ -35,7 +35,7 @@ use Rattle.std.proofs.lemmas.List.{drop-map, get_or_default, take-map, take_all}
 use Rattle.std.specs.List.Sorted.{IsSortedBy}
 use Rattle.std.proofs.lemmas.List.Sorted.{ranks_by, sorted_far}
 use Rattle.cube_cells.specs.BottomUp.{all_at, codes_cmp, column_of, only, raise, run_of, spread, weigh}
-use Rattle.cube_cells.specs.BottomUp.{AreJoined, JoinsLast}
+use Rattle.cube_cells.specs.BottomUp.{AreUnited, JoinsLast}
 use Rattle.cube_cells.specs.Codes.{all_code}
 use Rattle.cube_cells.specs.Coded.{CodedCells, same_codes}
 use Rattle.cube_cells.specs.Tally.{Tally, PlusTally, SameTally, bag_at}
@@ -481,9 +481,9 @@ codes-raise from [] = refl
 codes-raise from (item ∷ items) = ap (λ (rest : List Codes). all_at from item.0 ∷ rest) (codes-raise from items)
 
 -- no cell is joined
-pub AreJoined-nil : AreJoined [] []
+pub AreUnited-nil : AreUnited [] []
 unfolding IsStrictlySortedBy
-AreJoined-nil = record {
+AreUnited-nil = record {
   weighs = λ part is weight. refl;
   in_order = tt;
   among = All-nil (λ (cell : Codes × Tally). Contains [] cell.0);
@@ -579,9 +579,9 @@ unfolding IsStrictlySortedBy
 sorted-one x = (tt, tt)
 
 -- one cell more
-pub AreJoined-more : (cells joined new : CodedCells) (cell : Codes × Tally) → AreJoined cells joined
-    → All (λ c. is_lt (codes_cmp cell c) ≡ false) cells → JoinsLast cell joined new → AreJoined (cells ++ cell ∷ []) new
-AreJoined-more cells joined new cell are up (inl merges) = record {
+pub AreUnited-more : (cells joined new : CodedCells) (cell : Codes × Tally) → AreUnited cells joined
+    → All (λ c. is_lt (codes_cmp cell c) ≡ false) cells → JoinsLast cell joined new → AreUnited (cells ++ cell ∷ []) new
+AreUnited-more cells joined new cell are up (inl merges) = record {
   weighs = λ part is weight. omega (
     arith,
     ap (weigh weight part) merges.is,
@@ -625,7 +625,7 @@ AreJoined-more cells joined new cell are up (inl merges) = record {
       → codes_cmp x (get_or ((cell.0, merges.sum) ∷ []) j e) ≡ Less
   at_last x zero e within below = below 0 e (omega arith)
   at_last x (suc j) e within below = absurd (omega (arith, within))
-AreJoined-more cells joined new cell are up (inr puts) = record {
+AreUnited-more cells joined new cell are up (inr puts) = record {
   weighs = λ part is weight. omega (
     arith,
     ap (weigh weight part) puts.is,
@@ -676,9 +676,9 @@ All-raise measures from items each =
     })
 
 -- the items with ALL, put in order and joined
-pub AreRaised-AreJoined : (from : ℕ) (items sorted raised : CodedCells) → IsPermutation (raise from items) sorted
-    → AreJoined sorted raised → AreRaised from items raised
-AreRaised-AreJoined from items sorted raised moved are = record {
+pub AreRaised-AreUnited : (from : ℕ) (items sorted raised : CodedCells) → IsPermutation (raise from items) sorted
+    → AreUnited sorted raised → AreRaised from items raised
+AreRaised-AreUnited from items sorted raised moved are = record {
   weighs = λ part is weight. are.weighs part is weight
       ∙ sum_by-IsPermutation (λ (cell : Codes × Tally). weight cell.0 * part cell.1) (raise from items) sorted moved
       ∙ weigh-raise from part weight items;
@@ -877,7 +877,7 @@ JoinsLast-put old rest now new last cell was is apart made = inr (record {
 -- what the next one asks
 pub joined-requires : {N : Type 0} (measures : ℕ) (lent : List (Lent N)) (i : ℕ) (one : Lent N) (joined : CodedCells)
     → one ≡ get_or lent i one → i < length lent → All (IsItem measures) (cells_of_lent lent)
-    → AreJoined (cells_of_lent (take i lent)) joined → All (IsItem measures) ((one.codes, one.cell.now) ∷ joined)
+    → AreUnited (cells_of_lent (take i lent)) joined → All (IsItem measures) ((one.codes, one.cell.now) ∷ joined)
 joined-requires {N} measures lent i one joined is inside each are =
     let P : Codes × Tally → Type 0 = IsItem measures in
     let f : Lent N → Codes × Tally = λ a. (a.codes, a.cell.now) in
@@ -891,15 +891,15 @@ joined-requires {N} measures lent i one joined is inside each are =
 pub joined-more : {N : Type 0} (lent : List (Lent N)) (i : ℕ) (one : Lent N) (joined new : CodedCells)
     → one ≡ get_or lent i one → i < length lent
     → IsSortedBy (λ a b. is_lt (slice_cmp nat_cmp a.codes.codes b.codes.codes)) lent
-    → AreJoined (cells_of_lent (take i lent)) joined → JoinsLast (one.codes, one.cell.now) joined new
-    → AreJoined (cells_of_lent (take (i + 1) lent)) new
+    → AreUnited (cells_of_lent (take i lent)) joined → JoinsLast (one.codes, one.cell.now) joined new
+    → AreUnited (cells_of_lent (take (i + 1) lent)) new
 joined-more {N} lent i one joined new is inside sorted are joins =
     let f : Lent N → Codes × Tally = λ a. (a.codes, a.cell.now) in
     let upper : All (λ c. is_lt (codes_cmp (f one) c) ≡ false) (cells_of_lent (take i lent)) =
     subst (λ (a : Lent N). All (λ c. is_lt (codes_cmp (f a) c) ≡ false) (cells_of_lent (take i lent))) (sym is)
     (All-upper lent i one sorted inside) in
-    subst (λ (l : CodedCells). AreJoined l new) (sym (cells_of_lent-more lent i one is inside))
-    (AreJoined-more (cells_of_lent (take i lent)) joined new (f one) are upper joins)
+    subst (λ (l : CodedCells). AreUnited l new) (sym (cells_of_lent-more lent i one is inside))
+    (AreUnited-more (cells_of_lent (take i lent)) joined new (f one) are upper joins)
 
 -- items that are lent with ALL and put in order
 pub lent-IsPermutation : {N : Type 0} (from : ℕ) (items : CodedCells) (lent sorted : List (Lent N))

@@ -4,7 +4,7 @@ ghost use Rattle.std.specs.Prelude.{◌≡◌, ◌<◌, ◌≤◌, ◌^◌, ◌�
 ghost use Rattle.std.specs.Cmp.Lexicographic.{slice_cmp};
 ghost use Rattle.std.specs.List.Sorted.{IsPermutation, IsSortedBy};
 ghost use Rattle.std.specs.Ordering.{nat_cmp, is_lt};
-ghost use Rattle.cube_cells.specs.BottomUp.{AreJoined, AreRaised, CanWalk, IsItem, IsRun, JoinsLast, TakesAll, TakesCube, TakesWalk, cells_of_items, cells_of_lent, column_of, is_kept_by, raise};
+ghost use Rattle.cube_cells.specs.BottomUp.{AreUnited, AreRaised, CanWalk, IsItem, IsRun, JoinsLast, TakesAll, TakesCube, TakesWalk, cells_of_items, cells_of_lent, column_of, is_kept_by, raise};
 ghost use Rattle.cube_core.specs.GroupingSet.{is_among};
 ghost use Rattle.cube_core.specs.declared.fact.Fact.{Fact};
 ghost use Rattle.cube_cells.specs.Fill.{IsCubeOfAll, finest_set};
@@ -255,7 +255,7 @@ fn lent_with_all<N: Numbers>(
 fn joined<N: Numbers>(alloc: Global, lent: &[Lent<'_, N>]) -> Result<Vec<Item<N>>, AllocError>
     requires order { IsSortedBy (λ a b. is_lt (slice_cmp nat_cmp a.codes.codes b.codes.codes)) lent.now }
     requires items { (measures : ℕ) × All (IsItem measures) (cells_of_lent lent.now) }
-    ensures { IfOk result (λ joined. AreJoined (cells_of_lent lent.now) (cells_of_items joined.items)) }
+    ensures { IfOk result (λ joined. AreUnited (cells_of_lent lent.now) (cells_of_items joined.items)) }
 {
     let mut joined = Vec::new(alloc);
     for one in lent {

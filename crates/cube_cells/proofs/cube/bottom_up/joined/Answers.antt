@@ -1,10 +1,10 @@
 use Rattle.std.proofs.Common.{◌<◌, arith, length}
 use Rattle.cube_cells.specs.BottomUp.{cells_of_items}
-use Rattle.cube_cells.proofs.Filling.BottomUpLaws.{AreJoined-nil, joined-more, joined-requires}
+use Rattle.cube_cells.proofs.Filling.BottomUpLaws.{AreUnited-nil, joined-more, joined-requires}
 use Rattle.cube_cells.proofs.cube.bottom_up.joined.Goals as goal
 
 pub loop-one-init : goal.loop-one-init
-loop-one-init g c = rw c.new-joined.ensures.items AreJoined-nil
+loop-one-init g c = rw c.new-joined.ensures.items AreUnited-nil
 
 pub join_last-requires : goal.join_last-requires
 join_last-requires g c =

@@ -1,9 +1,9 @@
 use Rattle.std.proofs.Common.{rules}
 use Rattle.std.proofs.lemmas.Cmp.{nat_list_cmp_total}
 use Rattle.std.proofs.lemmas.Result.{IfOk-weaker}
-use Rattle.cube_cells.specs.BottomUp.{AreJoined, AreRaised, cells_of_items, cells_of_lent}
+use Rattle.cube_cells.specs.BottomUp.{AreUnited, AreRaised, cells_of_items, cells_of_lent}
 use Rattle.cube_cells.proofs.Codes.RankLaws.{IsSortedBy-key}
-use Rattle.cube_cells.proofs.Filling.BottomUpLaws.{All-lent, AreRaised-AreJoined, lent-IsPermutation}
+use Rattle.cube_cells.proofs.Filling.BottomUpLaws.{All-lent, AreRaised-AreUnited, lent-IsPermutation}
 use Rattle.cube_cells.proofs.cube.bottom_up.raised.Goals as goal
 
 pub joined-requires-clause-order : goal.joined-requires-clause-order
@@ -22,8 +22,8 @@ pub returns : goal.returns
 returns g c =
     let items = cells_of_items c.args.items.now in
     let sorted = c.sort_unstable_by.new.self.items in
-    IfOk-weaker c.joined.result (λ raised. AreJoined (cells_of_lent sorted) (cells_of_items raised.items))
+    IfOk-weaker c.joined.result (λ raised. AreUnited (cells_of_lent sorted) (cells_of_items raised.items))
     (λ raised. AreRaised c.args.from items (cells_of_items raised.items))
-    (λ raised are. AreRaised-AreJoined c.args.from items (cells_of_lent sorted) (cells_of_items raised.items)
+    (λ raised are. AreRaised-AreUnited c.args.from items (cells_of_lent sorted) (cells_of_items raised.items)
     (lent-IsPermutation c.args.from items c.in_ok-lent.lent.items sorted c.in_ok-lent.ensures
     c.sort_unstable_by.ensures.permutation) are) (rw c.deref.ensures.value at c.joined.ensures)
