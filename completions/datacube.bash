@@ -22,6 +22,7 @@ F2
 F3
 F4
 F5
+F6
 P1
 P2
 P3
@@ -79,22 +80,22 @@ _datacube() {
     local word=${COMP_WORDS[COMP_CWORD]} command=${COMP_WORDS[1]} words IFS=$' \t\n'
     COMPREPLY=()
     case $command in
-    table) words='--by --of --ring --shard --builders --threads --quiet --why --json --aligned --width --where --strict -h --help' ;;
+    table) words='--by --of --ring --shard --max-record --builders --threads --quiet --why --json --aligned --width --where --strict -h --help' ;;
     schema) words='--by --of --why -h --help' ;;
     check) words='--why -h --help' ;;
-    print) words='--ring --shard --builders --threads --quiet --why --store --wary --partial --json --aligned --width --where --strict -h --help' ;;
-    refusals) words='--ring --shard --builders --threads --quiet --why --store --wary -h --help' ;;
-    slice) words='--ring --shard --builders --threads --quiet --why --store --wary --json --aligned --width --where --strict -h --help' ;;
-    drill) words='--ring --shard --builders --threads --quiet --why --store --wary --json --aligned --width --where --strict -h --help' ;;
-    rollup) words='--ring --shard --builders --threads --quiet --why --store --wary --json --aligned --width --where --strict -h --help' ;;
-    live) words='--ring --shard --threads --quiet --why --store --wary --commit-every -h --help' ;;
+    print) words='--ring --shard --max-record --builders --threads --quiet --why --store --wary --partial --json --aligned --width --where --strict -h --help' ;;
+    refusals) words='--ring --shard --max-record --builders --threads --quiet --why --store --wary -h --help' ;;
+    slice) words='--ring --shard --max-record --builders --threads --quiet --why --store --wary --json --aligned --width --where --strict -h --help' ;;
+    drill) words='--ring --shard --max-record --builders --threads --quiet --why --store --wary --json --aligned --width --where --strict -h --help' ;;
+    rollup) words='--ring --shard --max-record --builders --threads --quiet --why --store --wary --json --aligned --width --where --strict -h --help' ;;
+    live) words='--ring --shard --max-record --threads --quiet --why --store --wary --commit-every -h --help' ;;
     merge) words='--partial --check --quiet --why -h --help' ;;
     explain) words='--why -h --help' ;;
     *) words= ;;
     esac
     if [ "$COMP_CWORD" -eq 1 ]; then
         COMPREPLY=($(compgen -W 'table schema check print refusals slice drill rollup live merge explain -h --help -V --version' -- "$word"))
-    elif [[ ${COMP_WORDS[COMP_CWORD - 1]} == @(--builders|--by|--commit-every|--of|--ring|--shard|--threads|--where|--width) ]]; then
+    elif [[ ${COMP_WORDS[COMP_CWORD - 1]} == @(--builders|--by|--commit-every|--max-record|--of|--ring|--shard|--threads|--where|--width) ]]; then
         compopt +o default
     elif [[ $word == -* ]]; then
         COMPREPLY=($(compgen -W "$words" -- "$word"))

@@ -17,6 +17,7 @@ complete -c datacube -n '__fish_seen_subcommand_from table' -l by -x -d 'The col
 complete -c datacube -n '__fish_seen_subcommand_from table' -l of -x -d 'The columns that are measures, 1 to 4, with `:` and a number that many decimals; guessed where left out'
 complete -c datacube -n '__fish_seen_subcommand_from table' -l ring -x -d 'How many records may wait between a feed and a builder, 1 to 65536 [default: 64]'
 complete -c datacube -n '__fish_seen_subcommand_from table' -l shard -x -d 'Reads only the lines whose id is in share J of N, N up to 65536; the prints of all shares, made with --partial, merge to the whole'
+complete -c datacube -n '__fish_seen_subcommand_from table' -l max-record -x -d 'How many bytes a record of a feed may have before its line end, as 500, 64K, 1M or 2G, 1024G at most; a longer one is the fault F6. Where left out 1M with columns by name, else as many as there are'
 complete -c datacube -n '__fish_seen_subcommand_from table' -l builders -x -d 'How many threads build the cube, 1 to 8; what is printed is the same [default: 1]'
 complete -c datacube -n '__fish_seen_subcommand_from table' -l threads -x -d 'How many threads, 1 to 16, fill, sort and print the cube, and for one builder take the feeds, 8 at most; where left out as many as the machine has, in live half as many more, and at most 16'
 complete -c datacube -n '__fish_seen_subcommand_from table' -l quiet -d 'Shows no progress on standard error, where that is a terminal'
@@ -36,6 +37,7 @@ complete -c datacube -n '__fish_seen_subcommand_from check' -s h -l help -d 'Pri
 complete -c datacube -n '__fish_seen_subcommand_from check' -F
 complete -c datacube -n '__fish_seen_subcommand_from print' -l ring -x -d 'How many records may wait between a feed and a builder, 1 to 65536 [default: 64]'
 complete -c datacube -n '__fish_seen_subcommand_from print' -l shard -x -d 'Reads only the lines whose id is in share J of N, N up to 65536; the prints of all shares, made with --partial, merge to the whole'
+complete -c datacube -n '__fish_seen_subcommand_from print' -l max-record -x -d 'How many bytes a record of a feed may have before its line end, as 500, 64K, 1M or 2G, 1024G at most; a longer one is the fault F6. Where left out 1M with columns by name, else as many as there are'
 complete -c datacube -n '__fish_seen_subcommand_from print' -l builders -x -d 'How many threads build the cube, 1 to 8; what is printed is the same [default: 1]'
 complete -c datacube -n '__fish_seen_subcommand_from print' -l threads -x -d 'How many threads, 1 to 16, fill, sort and print the cube, and for one builder take the feeds, 8 at most; where left out as many as the machine has, in live half as many more, and at most 16'
 complete -c datacube -n '__fish_seen_subcommand_from print' -l quiet -d 'Shows no progress on standard error, where that is a terminal'
@@ -52,6 +54,7 @@ complete -c datacube -n '__fish_seen_subcommand_from print' -s h -l help -d 'Pri
 complete -c datacube -n '__fish_seen_subcommand_from print' -F
 complete -c datacube -n '__fish_seen_subcommand_from refusals' -l ring -x -d 'How many records may wait between a feed and a builder, 1 to 65536 [default: 64]'
 complete -c datacube -n '__fish_seen_subcommand_from refusals' -l shard -x -d 'Reads only the lines whose id is in share J of N, N up to 65536; the prints of all shares, made with --partial, merge to the whole'
+complete -c datacube -n '__fish_seen_subcommand_from refusals' -l max-record -x -d 'How many bytes a record of a feed may have before its line end, as 500, 64K, 1M or 2G, 1024G at most; a longer one is the fault F6. Where left out 1M with columns by name, else as many as there are'
 complete -c datacube -n '__fish_seen_subcommand_from refusals' -l builders -x -d 'How many threads build the cube, 1 to 8; what is printed is the same [default: 1]'
 complete -c datacube -n '__fish_seen_subcommand_from refusals' -l threads -x -d 'How many threads, 1 to 16, fill, sort and print the cube, and for one builder take the feeds, 8 at most; where left out as many as the machine has, in live half as many more, and at most 16'
 complete -c datacube -n '__fish_seen_subcommand_from refusals' -l quiet -d 'Shows no progress on standard error, where that is a terminal'
@@ -62,6 +65,7 @@ complete -c datacube -n '__fish_seen_subcommand_from refusals' -s h -l help -d '
 complete -c datacube -n '__fish_seen_subcommand_from refusals' -F
 complete -c datacube -n '__fish_seen_subcommand_from slice' -l ring -x -d 'How many records may wait between a feed and a builder, 1 to 65536 [default: 64]'
 complete -c datacube -n '__fish_seen_subcommand_from slice' -l shard -x -d 'Reads only the lines whose id is in share J of N, N up to 65536; the prints of all shares, made with --partial, merge to the whole'
+complete -c datacube -n '__fish_seen_subcommand_from slice' -l max-record -x -d 'How many bytes a record of a feed may have before its line end, as 500, 64K, 1M or 2G, 1024G at most; a longer one is the fault F6. Where left out 1M with columns by name, else as many as there are'
 complete -c datacube -n '__fish_seen_subcommand_from slice' -l builders -x -d 'How many threads build the cube, 1 to 8; what is printed is the same [default: 1]'
 complete -c datacube -n '__fish_seen_subcommand_from slice' -l threads -x -d 'How many threads, 1 to 16, fill, sort and print the cube, and for one builder take the feeds, 8 at most; where left out as many as the machine has, in live half as many more, and at most 16'
 complete -c datacube -n '__fish_seen_subcommand_from slice' -l quiet -d 'Shows no progress on standard error, where that is a terminal'
@@ -77,6 +81,7 @@ complete -c datacube -n '__fish_seen_subcommand_from slice' -s h -l help -d 'Pri
 complete -c datacube -n '__fish_seen_subcommand_from slice' -F
 complete -c datacube -n '__fish_seen_subcommand_from drill' -l ring -x -d 'How many records may wait between a feed and a builder, 1 to 65536 [default: 64]'
 complete -c datacube -n '__fish_seen_subcommand_from drill' -l shard -x -d 'Reads only the lines whose id is in share J of N, N up to 65536; the prints of all shares, made with --partial, merge to the whole'
+complete -c datacube -n '__fish_seen_subcommand_from drill' -l max-record -x -d 'How many bytes a record of a feed may have before its line end, as 500, 64K, 1M or 2G, 1024G at most; a longer one is the fault F6. Where left out 1M with columns by name, else as many as there are'
 complete -c datacube -n '__fish_seen_subcommand_from drill' -l builders -x -d 'How many threads build the cube, 1 to 8; what is printed is the same [default: 1]'
 complete -c datacube -n '__fish_seen_subcommand_from drill' -l threads -x -d 'How many threads, 1 to 16, fill, sort and print the cube, and for one builder take the feeds, 8 at most; where left out as many as the machine has, in live half as many more, and at most 16'
 complete -c datacube -n '__fish_seen_subcommand_from drill' -l quiet -d 'Shows no progress on standard error, where that is a terminal'
@@ -92,6 +97,7 @@ complete -c datacube -n '__fish_seen_subcommand_from drill' -s h -l help -d 'Pri
 complete -c datacube -n '__fish_seen_subcommand_from drill' -F
 complete -c datacube -n '__fish_seen_subcommand_from rollup' -l ring -x -d 'How many records may wait between a feed and a builder, 1 to 65536 [default: 64]'
 complete -c datacube -n '__fish_seen_subcommand_from rollup' -l shard -x -d 'Reads only the lines whose id is in share J of N, N up to 65536; the prints of all shares, made with --partial, merge to the whole'
+complete -c datacube -n '__fish_seen_subcommand_from rollup' -l max-record -x -d 'How many bytes a record of a feed may have before its line end, as 500, 64K, 1M or 2G, 1024G at most; a longer one is the fault F6. Where left out 1M with columns by name, else as many as there are'
 complete -c datacube -n '__fish_seen_subcommand_from rollup' -l builders -x -d 'How many threads build the cube, 1 to 8; what is printed is the same [default: 1]'
 complete -c datacube -n '__fish_seen_subcommand_from rollup' -l threads -x -d 'How many threads, 1 to 16, fill, sort and print the cube, and for one builder take the feeds, 8 at most; where left out as many as the machine has, in live half as many more, and at most 16'
 complete -c datacube -n '__fish_seen_subcommand_from rollup' -l quiet -d 'Shows no progress on standard error, where that is a terminal'
@@ -107,6 +113,7 @@ complete -c datacube -n '__fish_seen_subcommand_from rollup' -s h -l help -d 'Pr
 complete -c datacube -n '__fish_seen_subcommand_from rollup' -F
 complete -c datacube -n '__fish_seen_subcommand_from live' -l ring -x -d 'How many records may wait between a feed and a builder, 1 to 65536 [default: 64]'
 complete -c datacube -n '__fish_seen_subcommand_from live' -l shard -x -d 'Reads only the lines whose id is in share J of N, N up to 65536; the prints of all shares, made with --partial, merge to the whole'
+complete -c datacube -n '__fish_seen_subcommand_from live' -l max-record -x -d 'How many bytes a record of a feed may have before its line end, as 500, 64K, 1M or 2G, 1024G at most; a longer one is the fault F6. Where left out 1M with columns by name, else as many as there are'
 complete -c datacube -n '__fish_seen_subcommand_from live' -l threads -x -d 'How many threads, 1 to 16, fill, sort and print the cube, and for one builder take the feeds, 8 at most; where left out as many as the machine has, in live half as many more, and at most 16'
 complete -c datacube -n '__fish_seen_subcommand_from live' -l quiet -d 'Shows no progress on standard error, where that is a terminal'
 complete -c datacube -n '__fish_seen_subcommand_from live' -l why -d 'Says more where it fails: the file, the line, the column, the value, what was wanted and how to mend it; on a terminal it does so anyway'
@@ -123,4 +130,4 @@ complete -c datacube -n '__fish_seen_subcommand_from merge' -s h -l help -d 'Pri
 complete -c datacube -n '__fish_seen_subcommand_from merge' -F
 complete -c datacube -n '__fish_seen_subcommand_from explain' -l why -d 'Says more where it fails: the file, the line, the column, the value, what was wanted and how to mend it; on a terminal it does so anyway'
 complete -c datacube -n '__fish_seen_subcommand_from explain' -s h -l help -d 'Print help'
-complete -c datacube -n '__fish_seen_subcommand_from explain' -a '"S1" "S2" "S3" "S4" "S5" "S6" "S7" "S8" "S9" "S10" "S11" "S12" "L1" "L2" "L3" "L4" "L5" "L6" "F1" "F2" "F3" "F4" "F5" "P1" "P2" "P3" "P4" "P5" "P6" "P7" "P8" "G1" "G2" "G3" "G4" "G5" "G6" "G7" "1" "2" "3" "4" "5" "6" "7" "8" "9" "schema unreadable" "feed unreadable" "too many feeds" "unknown code" "no random key" "Q1" "Q2" "Q3" "M1" "M2" "M3" "M4" "M5" "M6" "M7" "M8" "standard input is taken" "too many cubes" "D1" "D2" "D3" "D4" "D5" "D6" "D7" "D8" "D9" "no columns"'
+complete -c datacube -n '__fish_seen_subcommand_from explain' -a '"S1" "S2" "S3" "S4" "S5" "S6" "S7" "S8" "S9" "S10" "S11" "S12" "L1" "L2" "L3" "L4" "L5" "L6" "F1" "F2" "F3" "F4" "F5" "F6" "P1" "P2" "P3" "P4" "P5" "P6" "P7" "P8" "G1" "G2" "G3" "G4" "G5" "G6" "G7" "1" "2" "3" "4" "5" "6" "7" "8" "9" "schema unreadable" "feed unreadable" "too many feeds" "unknown code" "no random key" "Q1" "Q2" "Q3" "M1" "M2" "M3" "M4" "M5" "M6" "M7" "M8" "standard input is taken" "too many cubes" "D1" "D2" "D3" "D4" "D5" "D6" "D7" "D8" "D9" "no columns"'

@@ -267,7 +267,7 @@ def formats_in_manual(program, text):
     page += ".SH FEEDS\n" + from_markdown(section_of(text, "A feed"))
     page += ".PP\nA feed under the sample schema, which inserts three facts:\n" + example(text_at(feed))
     page += ".SS Feeds by names\n" + from_markdown(section_of(text, "A feed by names"))
-    page += ".PP\nCODES has the faults of lines, L1 to L6, by which a line is refused, and those of a whole feed, F1 to F5.\n"
+    page += ".PP\nCODES has the faults of lines, L1 to L6, by which a line is refused, and those of a whole feed, F1 to F6.\n"
     page += ".SH THE PRINTED CUBE\n" + from_markdown(section_of(text, "The printed cube"))
     page += ".PP\nOf the feed above, in a file feed.csv:\n" + example(f"$ datacube < feed.csv\n{program.said(given=feed)}")
     page += ".SS Facts of interest\n" + from_markdown(section_of(text, "Facts of interest"))

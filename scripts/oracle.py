@@ -244,10 +244,29 @@ def is_never_closed(data, at):
     return re.compile(rb'"(?:[^"]|"")*(?:"(?!")|\Z)').match(data, at).group()[1:].count(b'"') % 2 == 0
 
 
-def data_records(schema, data):
-    """The data records of a feed, and the code of what is wrong with the feed, or None."""
-    records, head = records_of(data, schema.delimiter()), schema.header()
-    is_open = bool(schema.feed) and ends_in_quotes(data, schema.delimiter())
+def long_record(data, delimiter, most):
+    """Where the first record begins that has more bytes than this before its line end, or None: a byte order mark counts for the
+    record right behind it."""
+    at = start_of(data)
+    if at > most:
+        return 0
+    start = 0
+    while True:
+        while data[at : at + 1] in (b"\r", b"\n"):
+            start = at = at + 1
+        record, end = record_at(data, at, delimiter)
+        if record is None:
+            return None
+        if end - start > most:
+            return start
+        start = at = end
+
+
+def data_records(schema, data, most=None):
+    """The data records of a feed whose records may have so many bytes, and the code of what is wrong with the feed, or None."""
+    cut = None if most is None else long_record(data, schema.delimiter(), most)
+    records, head = records_of(data[:cut], schema.delimiter()), schema.header()
+    is_open = cut is None and bool(schema.feed) and ends_in_quotes(data, schema.delimiter())
     if is_open:
         records.pop()
     if records and schema.feed:
@@ -260,8 +279,10 @@ def data_records(schema, data):
     rest = records[1 : schema.max_records + 1]
     if schema.feed:
         rest = [Line.by_names(schema, records[0], number, it) for number, it in enumerate(rest, 1)]
-    if len(records) - 1 + is_open > schema.max_records:
+    if len(records) - 1 + (is_open or cut is not None) > schema.max_records:
         return rest, "F4"
+    if cut is not None:
+        return rest, f"F6 {len(records)}"
     return rest, f"F5 {len(records)}" if is_open else None
 
 
@@ -1000,13 +1021,27 @@ def is_shard(word):
     return bool(found) and int(found[1]) <= int(found[2]) <= MOST_SHARDS
 
 
+UNITS = {b"": 1, b"K": 2**10, b"M": 2**20, b"G": 2**30}
+
+
+def size_of(word):
+    """The number of bytes that a word names, or None."""
+    found = re.fullmatch(rb"([1-9][0-9]*)([KMG]?)", word)
+    size = int(found[1]) * UNITS[found[2]] if found else 0
+    return size if 1 <= size <= 2**40 else None
+
+
+def is_size(word):
+    return size_of(word) is not None
+
+
 # (whether an option's word is right; None where it has none)
 OPTIONS = {b"--ring": is_up_to(65536), b"--builders": is_up_to(8), b"--threads": is_up_to(16), b"--shard": is_shard,
-           b"--commit-every": is_up_to(1000000), b"--by": is_text, b"--of": is_text, b"--partial": None, b"--check": None,
+           b"--max-record": is_size, b"--commit-every": is_up_to(1000000), b"--by": is_text, b"--of": is_text, b"--partial": None, b"--check": None,
            b"--json": None, b"--aligned": None, b"--width": is_between(20, 10000), b"--where": is_text, b"--strict": None}
 # (options that may stand several times)
 REPEATED = [b"--where"]
-OF_FEEDS = [b"--ring", b"--builders", b"--threads", b"--shard"]
+OF_FEEDS = [b"--ring", b"--builders", b"--threads", b"--shard", b"--max-record"]
 OF_VIEWS = [b"--json", b"--aligned", b"--width"]
 OF_CUBES = [*OF_VIEWS, b"--where", b"--strict"]
 
@@ -1039,6 +1074,11 @@ class Words:
     def shard(self):
         return tuple(map(int, self.options.get(b"--shard", b"1/1").split(b"/")))
 
+    def most(self, schema):
+        """How many bytes a record of a feed may have, or None."""
+        named = self.options.get(b"--max-record")
+        return size_of(named) if named else 2**20 if schema.feed else None
+
 
 def wrong_words(text):
     return Failure("error: " + text.decode(errors="replace"), 2)
@@ -1066,14 +1106,14 @@ def files_at(paths, told):
     return files
 
 
-def read_feeds(schema, paths):
-    """The data records of feeds; a feed at fault ends the command."""
+def read_feeds(schema, paths, most):
+    """The data records of feeds whose records may have so many bytes; a feed at fault ends the command."""
     files = files_at(paths, lambda at: f"feed {at} unreadable")
     feeds, faults = [], []
     for at, file in enumerate(files, 1):
         try:
             with open(file, "rb", closefd=True) as opened:
-                records, code = data_records(schema, opened.read())
+                records, code = data_records(schema, opened.read(), most)
         except OSError:
             records, code = [], "F2"
         feeds.append(records)
@@ -1112,7 +1152,7 @@ def run_of(words, at, *others):
 def run_over(schema, given, paths):
     """The run over feeds that a command with cubes makes."""
     conditions = conditions_of(schema, given.options.get(b"--where", []))
-    run = Run(schema, read_feeds(schema, paths), given.shard(), conditions)
+    run = Run(schema, read_feeds(schema, paths, given.most(schema)), given.shard(), conditions)
     if b"--strict" in given.options and run.refused:
         raise Failure("G7 %d %d %d" % run.refused[0], 1)
     run.view = view_of(given.options, schema)
@@ -1192,11 +1232,12 @@ def rollup_command(words):
 
 
 def live_command(words):
-    given = Words(words, [b"--ring", b"--threads", b"--shard", b"--commit-every"], 1, sys.maxsize)
+    given = Words(words, [b"--ring", b"--threads", b"--shard", b"--max-record", b"--commit-every"], 1, sys.maxsize)
     if len(given.rest) - 1 > MOST_FEEDS:
         raise Failure("too many feeds", 2)
     schema = read_schema(given.rest[0])
-    session, sent = Session(schema, read_feeds(schema, given.rest[1:]), given.shard()), [0]
+    feeds = read_feeds(schema, given.rest[1:], given.most(schema))
+    session, sent = Session(schema, feeds, given.shard()), [0]
     serve(session, read, lambda data: sent.append(write(data, sent[-1])))
     return session.status()
 

@@ -67,6 +67,25 @@ def test_commands(room, rng):
         assert (plain.returncode == 0, plain.stdout) == (not fault, b"" if fault else whole.print()), "on one thread other text is printed"
 
 
+@tries(50)
+def test_record_bounds(room, rng):
+    """Feeds whose records may have about as many bytes as one of them has, some of which end within quotes."""
+    schema, feeds = make.random_case(rng, True)
+    room.write("case.toml", schema.toml())
+    data = []
+    for records in feeds[:3]:
+        mark, end = rng.choice([b"", b"", oracle.MARK]), rng.choice([b"", b"", b"", b'"x', b'\n"', b"\r\n\r\n"])
+        data.append(mark + make.written(rng, schema, records, rng.random() >= 0.05)[0] + end)
+    most = max(1, len(rng.choice(data[0].splitlines() or [b"x"])) + rng.choice([0, 0, -1, 1, 3000]))
+    read = [oracle.data_records(schema, it, most) for it in data]
+    code = next((f"G3 {at} {code}" for at, (_, code) in enumerate(read, 1) if code), None)
+    run = None if code else oracle.Run(schema, [records for records, _ in read])
+    words = ["--max-record", str(most), *options_of(rng), "case.toml"]
+    words += [room.write(f"case{at}.csv", it) for at, it in enumerate(data)]
+    room.expect(["print", *words], answer(code, run and run.status, lambda: run.print()))
+    room.expect(["refusals", *words], answer(code, run and run.status, lambda: run.refusals()))
+
+
 def served(session, records, most):
     """The answers to records until one ends the session, the code of that or None, how many records came before it, and how
     many of them are certain, where so many changes may wait: a change that would be one more comes behind a commit."""

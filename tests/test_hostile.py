@@ -438,25 +438,25 @@ def fill_pipe(path, data):
         pipe.write(data)
 
 
-def endless(program):
-    """A feed that never ends, behind a pipe by name."""
-    program.write("few.toml", oracle.Schema(SAMPLE.dimensions, SAMPLE.measures, SAMPLE.aggregates, max_records=1000).toml())
+def endless(program, schema, begin, more, code, options=()):
+    """A feed that never ends, behind a pipe by name: it begins so, goes on with more, and is told of by a code."""
+    program.write("endless.toml", schema.toml())
     path = os.path.join(program.folder, "endless.csv")
     os.mkfifo(path)
 
     def feed():
         try:
             with open(path, "wb") as file:
-                file.write(oracle.encode([SAMPLE.header()]))
+                file.write(begin)
                 for at in range(1, 10**9):
-                    file.write(b"I,%d,w,a,1\n" % at)
+                    file.write(more(at))
         except BrokenPipeError:
             pass
 
     threading.Thread(target=feed, daemon=True).start()
-    answer = program.run(["print", "few.toml", "endless.csv"])
+    answer = program.run(["print", *options, "endless.toml", "endless.csv"])
     os.unlink(path)
-    return None if (answer.status, answer.code(), answer.out) == (1, "G3 1 F4", b"") else f"{answer.status}, {answer.err!r}"
+    return None if (answer.status, answer.code(), answer.out) == (1, code, b"") else f"{answer.status}, {answer.err!r}"
 
 
 def planted_links(program):
@@ -486,7 +486,13 @@ def big_inputs(trials):
     program = trials.program
     program.write("schema.toml", SAMPLE.toml())
     head = oracle.encode([SAMPLE.header()])
-    trials.trial("a feed that never ends", endless, program)
+    few = oracle.Schema(SAMPLE.dimensions, SAMPLE.measures, SAMPLE.aggregates, max_records=1000)
+    trials.trial("a feed that never ends", endless, program, few, head, lambda at: b"I,%d,w,a,1\n" % at, "G3 1 F4")
+    line = lambda at: b"a line that is within a quote\n"
+    named = oracle.encode(by_names(random.Random("a feed by names"), NAMED, [], True), delimiter=NAMED.delimiter())
+    trials.trial("a record that never ends, by names", endless, program, NAMED, named + b'"', line, "G3 1 F6 1")
+    trials.trial("a record that never ends", endless, program, SAMPLE, head + b'I,1,"', line, "G3 1 F6 1", ["--max-record", "64K"])
+    trials.trial("a header that never ends", endless, program, SAMPLE, b'"', line, "G3 1 F6 0", ["--max-record=4K"])
     refused = lambda code: oracle.text_of(SAMPLE, oracle.rows_of(SAMPLE, []))
 
     def prints(data, status):

@@ -101,6 +101,29 @@ class Limits(unittest.TestCase):
             self.assertRaises(jackraisin.Unsayable, jackraisin.cube, WIDE, feed, timeout=it)
 
 
+    def test_records_that_are_too_long(self):
+        """The header has 24 bytes, and the record 14."""
+        feed = f"{self.folder}/feed.csv"
+        with open(feed, "w", encoding="utf-8") as out:
+            out.write("op,id,region,kind,amount\nI,1,west,tea,24\n")
+        calls = (
+            lambda most: jackraisin.cube(PLAIN, feed, max_record=most),
+            lambda most: jackraisin.slice(PLAIN, feed, {}, max_record=most),
+            lambda most: jackraisin.drill(PLAIN, feed, {}, "kind", max_record=most),
+            lambda most: jackraisin.rollup(PLAIN, feed, {}, "kind", max_record=most),
+            lambda most: jackraisin.refusals(PLAIN, feed, max_record=most),
+            lambda most: Live(PLAIN, feed, max_record=most).close(),
+        )
+        for call in calls:
+            for most in (24, "1K"):
+                call(most)
+            with self.assertRaises(jackraisin.Failure) as caught:
+                call(23)
+            self.assertEqual((caught.exception.line, caught.exception.status), ("G3 1 F6 0", 1))
+            self.assertIn("F6", caught.exception.meaning)
+            self.assertRaises(jackraisin.Failure, call, "1 K")
+
+
 class Many(unittest.TestCase):
     @unittest.skipIf(sys.version_info < (3, 11), "this Python reads no TOML")
     def test_they_are_as_inserts_one_by_one(self):

@@ -35,6 +35,7 @@ no_ledger = record {
     grouping_sets = [];
     version = 1;
     shard = whole_feed;
+    max_record_bytes = None;
     columns = None;
     decimals = [];
   };

@@ -64,6 +64,7 @@ live_of run = record {
   ring = run.ring;
   threads = run.threads;
   shard = run.shard;
+  max_record = run.max_record;
   quiet = run.quiet;
   store = run.store;
   wary = run.wary;
@@ -81,6 +82,7 @@ AreLiveWords-AreRunWords rows run are = record {
     ring = are.ring;
     threads = are.threads;
     shard = are.shard;
+    max_record = are.max_record;
     is_quiet = are.is_quiet;
     asks_why = are.asks_why;
   };

@@ -132,6 +132,10 @@ why_option = flag (codes "why")
 abbrev pub shard_option : Rule
 shard_option = text_option (codes "shard")
 
+-- `--max-record`, how many bytes a record of a feed may have: any text, which is looked at later
+abbrev pub max_record_option : Rule
+max_record_option = text_option (codes "max-record")
+
 -- `--by` and `--of`, the columns that are dimensions and those that are measures: any text, which is looked at later
 abbrev pub by_option : Rule
 by_option = text_option (codes "by")
@@ -182,8 +186,8 @@ with_store line = with_rule (with_rule line store_option) wary_option
 -- a command with the feeds and the options of a run behind its words
 abbrev pub with_feeds : App → App
 with_feeds line = with_store (with_rule (with_rule
-    (with_rule (with_rule (with_rule (with_rule (with_rule line feed_words) ring_option) shard_option) builders_option)
-    threads_option) quiet_option) why_option)
+    (with_rule (with_rule (with_rule (with_rule (with_rule (with_rule line feed_words) ring_option) shard_option)
+    max_record_option) builders_option) threads_option) quiet_option) why_option)
 
 -- each command and its words
 abbrev pub check_line : App
@@ -213,8 +217,8 @@ rollup_line =
 abbrev pub live_line : App
 live_line = with_rule
     (with_store (with_rule (with_rule (with_rule
-    (with_rule (with_rule (with_rule (with_rule (new_app (codes "live")) schema_word) feed_words) ring_option)
-    shard_option) threads_option) quiet_option) why_option)) commit_every_option
+    (with_rule (with_rule (with_rule (with_rule (with_rule (new_app (codes "live")) schema_word) feed_words) ring_option)
+    shard_option) max_record_option) threads_option) quiet_option) why_option)) commit_every_option
 
 abbrev pub merge_line : App
 merge_line = with_rule (with_rule
@@ -226,9 +230,9 @@ explain_line = with_rule (with_rule (new_app (codes "explain")) code_words) why_
 
 abbrev pub table_line : App
 table_line = with_facts (with_view (with_rule (with_rule
-    (with_rule (with_rule (with_rule
+    (with_rule (with_rule (with_rule (with_rule
     (with_rule (with_rule (with_rule (with_rule (new_app (codes "table")) file_words) by_option) of_option) ring_option)
-    shard_option) builders_option) threads_option) quiet_option) why_option))
+    shard_option) max_record_option) builders_option) threads_option) quiet_option) why_option))
 
 abbrev pub schema_line : App
 schema_line = with_rule (with_rule (with_rule (with_rule (new_app (codes "schema")) file_word) by_option) of_option) why_option
@@ -339,6 +343,7 @@ pub record AreRunWords (rows : List Row) (run : RunWords) : Type 0 where
   pub builders : IsNumberOf (one_of (codes "builders") rows) (Some run.builders)
   pub threads : IsNumberOf (one_of (codes "threads") rows) run.threads
   pub shard : option_map (λ text. text.now) run.shard ≡ first_of (codes "shard") rows
+  pub max_record : option_map (λ text. text.now) run.max_record ≡ first_of (codes "max-record") rows
   pub is_quiet : run.quiet ≡ is_given (one_of (codes "quiet") rows)
   pub asks_why : run.why ≡ is_given (one_of (codes "why") rows)
   pub store : option_map (λ text. text.now) run.store ≡ first_of (codes "store") rows
@@ -374,6 +379,7 @@ pub record AreSharedWords (rows : List Row) (live : LiveWords) : Type 0 where
   pub ring : IsNumberOf (one_of (codes "ring") rows) (Some live.ring)
   pub threads : IsNumberOf (one_of (codes "threads") rows) live.threads
   pub shard : option_map (λ text. text.now) live.shard ≡ first_of (codes "shard") rows
+  pub max_record : option_map (λ text. text.now) live.max_record ≡ first_of (codes "max-record") rows
   pub is_quiet : live.quiet ≡ is_given (one_of (codes "quiet") rows)
   pub asks_why : live.why ≡ is_given (one_of (codes "why") rows)
 
@@ -417,6 +423,7 @@ pub record AreTableWords (rows : List Row) (table : TableWords) : Type 0 where
   pub builders : IsNumberOf (one_of (codes "builders") rows) (Some table.builders)
   pub threads : IsNumberOf (one_of (codes "threads") rows) table.threads
   pub shard : option_map (λ text. text.now) table.shard ≡ first_of (codes "shard") rows
+  pub max_record : option_map (λ text. text.now) table.max_record ≡ first_of (codes "max-record") rows
   pub is_quiet : table.quiet ≡ is_given (one_of (codes "quiet") rows)
   pub asks_why : table.why ≡ is_given (one_of (codes "why") rows)
   pub view : AreViewWords rows table.view

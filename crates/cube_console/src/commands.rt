@@ -347,6 +347,14 @@ const SHARD: Word = Word {
     help: "Reads only the lines whose id is in share J of N, N up to 65536; the prints of all shares, made with --partial, merge to the whole",
 };
 
+// How many bytes a record of a feed may have.
+const MAX_RECORD: Word = Word {
+    name: "max-record",
+    form: Form::Text("SIZE"),
+    is_needed: false,
+    help: "How many bytes a record of a feed may have before its line end, as 500, 64K, 1M or 2G, 1024G at most; a longer one is the fault F6. Where left out 1M with columns by name, else as many as there are",
+};
+
 // The number of threads.
 const THREADS: Word = Word {
     name: "threads",
@@ -420,7 +428,7 @@ const WIDTH: Word = Word {
 };
 
 /// The feeds and the options of a run.
-pub(crate) const RUN_WORDS: [Word; 9] = [
+pub(crate) const RUN_WORDS: [Word; 10] = [
     Word {
         name: "FEED",
         form: Form::Several,
@@ -429,6 +437,7 @@ pub(crate) const RUN_WORDS: [Word; 9] = [
     },
     RING,
     SHARD,
+    MAX_RECORD,
     BUILDERS,
     THREADS,
     QUIET,
@@ -459,6 +468,7 @@ pub(crate) const OWN_FILES: [Line; 2] = [
             OF,
             RING,
             SHARD,
+            MAX_RECORD,
             BUILDERS,
             THREADS,
             QUIET,
@@ -607,6 +617,7 @@ pub(crate) const SESSIONS: [Line; 3] = [
             },
             RING,
             SHARD,
+            MAX_RECORD,
             THREADS,
             QUIET,
             WHY,

@@ -34,4 +34,7 @@ pub use phase::Phase;
 pub use progress::Progress;
 pub use request::{LiveWords, MergeWords, Request, RunWords, SchemaWords, TableWords, ViewWords};
 pub use views::View;
-pub use words::{clashing_views, clashing_words, read_words, unlawful_shard, unreadable_words};
+pub use words::{
+    clashing_views, clashing_words, read_words, unlawful_max_record, unlawful_shard,
+    unreadable_words,
+};

@@ -42,6 +42,8 @@ pub struct RunWords<'a> {
     pub threads: Option<usize>,
     /// The share of the feeds that is read, as the words spell it; none where they leave it out.
     pub shard: Option<&'a str>,
+    /// How many bytes a record of a feed may have, as the words spell it; none where they leave it out.
+    pub max_record: Option<&'a str>,
     /// Whether no progress is shown.
     pub quiet: bool,
     /// The path of the store whose changes come after the feeds; none where the words leave it out.
@@ -71,6 +73,8 @@ pub struct LiveWords<'a> {
     pub threads: Option<usize>,
     /// The share of the feeds and of the changes that is read, as the words spell it; none where they leave it out.
     pub shard: Option<&'a str>,
+    /// How many bytes a record of a feed may have, as the words spell it; none where they leave it out.
+    pub max_record: Option<&'a str>,
     /// Whether no progress is shown.
     pub quiet: bool,
     /// The path of the store that keeps the changes; none where the words leave it out.
@@ -130,6 +134,8 @@ pub struct TableWords<'a> {
     pub threads: Option<usize>,
     /// The share of the files that is read, as the words spell it; none where they leave it out.
     pub shard: Option<&'a str>,
+    /// How many bytes a record of a feed may have, as the words spell it; none where they leave it out.
+    pub max_record: Option<&'a str>,
     /// Whether no progress is shown.
     pub quiet: bool,
     /// The form in which the cube is written.
@@ -397,6 +403,7 @@ fn run_words<'a>(alloc: Global, words: &ArgMatches<'a>) -> Result<Option<RunWord
         builders: builders as u32,
         threads: live.threads,
         shard: live.shard,
+        max_record: live.max_record,
         quiet: live.quiet,
         store: live.store,
         wary: live.wary,
@@ -476,6 +483,7 @@ fn shared_words<'a>(
         ring,
         threads,
         shard: word_of(words, "shard"),
+        max_record: word_of(words, "max-record"),
         quiet: has_flag(words, "quiet"),
         store: None,
         wary: false,
@@ -544,6 +552,7 @@ fn table_words<'a>(
         builders: builders as u32,
         threads,
         shard: word_of(words, "shard"),
+        max_record: word_of(words, "max-record"),
         quiet: has_flag(words, "quiet"),
         view,
         conditions,

@@ -88,6 +88,17 @@ pub fn unlawful_shard(alloc: Global) -> Error
     )
 }
 
+/// What there is to say of a number of bytes that isn't spelled as one is, or isn't in its bounds.
+pub fn unlawful_max_record(alloc: Global) -> Error
+    ensures { (kind_of result ≡ kind.InvalidValue) ⊎ (kind_of result ≡ kind.OutOfMemory) }
+{
+    refusal(
+        alloc,
+        ErrorKind::InvalidValue,
+        "invalid value for '--max-record <SIZE>': SIZE is a number of bytes from 1 to 1024G, in digits without leading zeros, and then K, M, G or nothing",
+    )
+}
+
 /// What there is to say of a store with an option that works on the feeds alone.
 pub fn clashing_words(alloc: Global) -> Error
     ensures { (kind_of result ≡ kind.ArgumentConflict) ⊎ (kind_of result ≡ kind.OutOfMemory) }

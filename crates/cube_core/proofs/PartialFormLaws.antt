@@ -84,6 +84,7 @@ partial_form-IsSchema s is few = record {
   version_at_least = is.version_at_least;
   version_at_most = is.version_at_most;
   lawful_shard = is.lawful_shard;
+  lawful_record_bytes = is.lawful_record_bytes;
   lawful_columns = is.lawful_columns;
   few_digits = is.few_digits;
 }
@@ -104,6 +105,7 @@ pub copied-IsSchema : (s : Layout) (dimensions measures texts : List (List ℕ))
       grouping_sets = sets;
       version = s.version;
       shard = s.shard;
+      max_record_bytes = s.max_record_bytes;
       columns = columns;
       decimals = decimals;
     })

@@ -202,6 +202,7 @@ pub layout_of_parts-IsSchema : (dimensions measures texts : List (List ℕ)) (ag
       grouping_sets = sets;
       version = version;
       shard = shard;
+      max_record_bytes = None;
       columns = columns;
       decimals = decimals;
     })
@@ -233,6 +234,7 @@ layout_of_parts-IsSchema dimensions measures texts aggregates least limit groupi
       version_at_least = versions.0;
       version_at_most = versions.1;
       lawful_shard = lawful_shard;
+      lawful_record_bytes = tt;
       lawful_columns = columns_of_value-lawful dimensions measures feed columns columns_are;
       few_digits = decimals_of_value-few measures said decimals decimals_are;
     })

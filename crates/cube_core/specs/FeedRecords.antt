@@ -1,7 +1,7 @@
 -- The items of a feed:
 -- what its records say, one after another, after the header (this project's choice of a change feed).
-use Rattle.std.specs.Prelude.{◌≡◌, ◌==◌, ◌+◌, ◌&&◌, nat_lt, ℕ, Bool, true, false, List, [], ◌∷◌, ◌++◌, length, map, filter}
-use Rattle.std.specs.Prelude.{Option, Some, None, option_map, unwrap_or, is_some, Result, if◌then◌else◌}
+use Rattle.std.specs.Prelude.{◌≡◌, ◌==◌, ◌+◌, ◌&&◌, ◌||◌, nat_lt, ℕ, Bool, true, false, List, [], ◌∷◌, ◌++◌, length}
+use Rattle.std.specs.Prelude.{map, filter, Option, Some, None, option_map, unwrap_or, is_some, Result, if◌then◌else◌}
 use Rattle.std.specs.Str.{bytes_eq}
 use Rattle.std.specs.List.{list_all, position}
 use Rattle.std.specs.Option.{option_map_or}
@@ -13,6 +13,7 @@ use Rattle.csv.specs.declared.parser.State.TheVariants as state
 use Rattle.cube_core.specs.Items.{field_at, change_of, is_header}
 use Rattle.cube_core.specs.Layout.{Layout}
 use Rattle.cube_core.specs.Plain.{delimiter_of, plain_in_order, plain_by_name}
+use Rattle.cube_core.specs.RecordBound.{is_exceeded, mark_length, up_to_excess}
 use Rattle.cube_core.specs.Shard.{is_in_shard}
 use Rattle.cube_core.specs.declared.change.Change.{Change}
 use Rattle.cube_core.specs.declared.change.LineFault.{LineFault}
@@ -27,10 +28,25 @@ use Rattle.cube_core.specs.declared.feed_columns.FoundColumns.TheVariants.{InOrd
 abbrev pub config_by : ℕ → Config
 config_by delimiter = record default_config { delimiter = delimiter }
 
--- all records of a feed's bytes under a schema, as `csv` reads them with its default quotes (RFC 4180; blank lines are
--- no records), each a list of fields; one byte order mark at its start is left out
+-- what is read of a feed's bytes: all, one byte order mark at their start left out, or up to the first one that is too
+-- many in its record; the mark counts for the first record
+abbrev pub text_read : Layout → List ℕ → List ℕ
+text_read s bytes = option_map_or (λ most.
+    if nat_lt most (mark_length bytes) then []
+    else up_to_excess (config_by (delimiter_of s)) most state.StartRecord (mark_length bytes) (strip_bom bytes))
+    s.max_record_bytes (strip_bom bytes)
+
+-- whether a record of a feed's bytes has more of them before its line end than a record may have
+abbrev pub has_long_record : Layout → List ℕ → Bool
+has_long_record s bytes = option_map_or (λ most.
+    nat_lt most (mark_length bytes)
+    || is_exceeded (config_by (delimiter_of s)) most state.StartRecord (mark_length bytes) (strip_bom bytes))
+    s.max_record_bytes false
+
+-- all records of what is read of a feed's bytes under a schema, as `csv` reads them with its default quotes (RFC 4180;
+-- blank lines are no records), each a list of fields
 abbrev pub all_records : Layout → List ℕ → List (List (List ℕ))
-all_records s bytes = records (config_by (delimiter_of s)) (strip_bom bytes)
+all_records s bytes = records (config_by (delimiter_of s)) (text_read s bytes)
 
 -- where `csv` stands after bytes that it reads from a state on
 abbrev pub state_after : Config → State → List ℕ → State
@@ -60,10 +76,27 @@ but_the_last [] = []
 but_the_last (_ ∷ []) = []
 but_the_last (x ∷ y ∷ rest) = x ∷ but_the_last (y ∷ rest)
 
+-- how what is read of a feed's bytes ends: with a whole record, if any, within a quoted field, or in a record with too
+-- many bytes
+pub data TextEnd : Type 0 where
+  Whole : TextEnd
+  InQuotes : TextEnd
+  InLongRecord : TextEnd
+
+-- a record with too many bytes goes before quotes, within which it may be
+abbrev pub text_end : Layout → List ℕ → TextEnd
+text_end s bytes =
+    if has_long_record s bytes then InLongRecord else if ends_in_quotes s bytes then InQuotes else Whole
+
+-- the whole records among all, by how the text ends
+abbrev pub whole_records : TextEnd → List (List (List ℕ)) → List (List (List ℕ))
+whole_records Whole records = records
+whole_records InQuotes records = but_the_last records
+whole_records InLongRecord records = but_the_last records
+
 -- the whole records of a feed's bytes
 abbrev pub feed_records : Layout → List ℕ → List (List (List ℕ))
-feed_records s bytes =
-    if ends_in_quotes s bytes then but_the_last (all_records s bytes) else all_records s bytes
+feed_records s bytes = whole_records (text_end s bytes) (all_records s bytes)
 
 -- whether a name stands in a header exactly once
 abbrev pub stands_once : List (List ℕ) → List ℕ → Bool
@@ -105,13 +138,14 @@ abbrev pub plain_of : Layout → FoundColumns → ℕ → List (List ℕ) → Li
 plain_of s InOrder number fields = plain_in_order s fields
 plain_of s (ByName places) number fields = plain_by_name s places number fields
 
--- how a feed ends: well, at a first record that isn't the header, at a data record too many, or within a quoted field
--- of the data record of this number, 0 for the header
+-- how a feed ends: well, at a first record that isn't the header, at a data record too many, within a quoted field of
+-- the data record of this number, 0 for the header, or at one of this number that has too many bytes
 pub data FeedEnd : Type 0 where
   Good : FeedEnd
   WrongHeader : FeedEnd
   TooManyRecords : FeedEnd
   WithinQuotes : ℕ → FeedEnd
+  RecordTooLong : ℕ → FeedEnd
 
 -- what comes of a feed: its items, and its end, as one tells ends
 pub record RestOfFeed (End : Type 0) : Type 0 where
@@ -150,23 +184,29 @@ items_of s [] = record { items = []; end = Good }
 items_of s (header ∷ records) = option_map_or (λ (columns : FoundColumns). items_after s columns 0 records)
     (found_columns s header) (record { items = []; end = WrongHeader })
 
--- how a feed ends whose bytes end within quotes, in the record of this number, by the end of its whole records: their
--- fault goes before, and so does that it is a record too many
-abbrev pub end_in_quotes : Layout → ℕ → FeedEnd → FeedEnd
-end_in_quotes s number Good = if nat_lt s.max_records number then TooManyRecords else WithinQuotes number
-end_in_quotes s number WrongHeader = WrongHeader
-end_in_quotes s number TooManyRecords = TooManyRecords
-end_in_quotes s number (WithinQuotes other) = WithinQuotes other
+-- how a feed ends whose text ends in the record of this number, so, by the end of its whole records: their fault goes
+-- before, and so does that it is a record too many
+abbrev pub end_in_record : Layout → (ℕ → FeedEnd) → ℕ → FeedEnd → FeedEnd
+end_in_record s so number Good = if nat_lt s.max_records number then TooManyRecords else so number
+end_in_record s so number WrongHeader = WrongHeader
+end_in_record s so number TooManyRecords = TooManyRecords
+end_in_record s so number (WithinQuotes other) = WithinQuotes other
+end_in_record s so number (RecordTooLong other) = RecordTooLong other
 
--- what comes of a feed, by what its whole records give, by whether its bytes end within quotes, and in which record
-abbrev pub ends_as : Layout → Bool → ℕ → RestOfFeed FeedEnd → RestOfFeed FeedEnd
-ends_as s in_quotes number rest =
-    record { items = rest.items; end = if in_quotes then end_in_quotes s number rest.end else rest.end }
+-- how a feed ends, by how its text ends, in which record, and by the end of its whole records
+abbrev pub feed_end : Layout → TextEnd → ℕ → FeedEnd → FeedEnd
+feed_end s Whole number end = end
+feed_end s InQuotes number end = end_in_record s WithinQuotes number end
+feed_end s InLongRecord number end = end_in_record s RecordTooLong number end
+
+-- what comes of a feed, by how its text ends, and in which record, and by what its whole records give
+abbrev pub ends_as : Layout → TextEnd → ℕ → RestOfFeed FeedEnd → RestOfFeed FeedEnd
+ends_as s end number rest = record { items = rest.items; end = feed_end s end number rest.end }
 
 -- what comes of a feed: the items of its whole records, and its end
 abbrev pub feed_of : Layout → List ℕ → RestOfFeed FeedEnd
 feed_of s bytes =
-    ends_as s (ends_in_quotes s bytes) (length (feed_records s bytes)) (items_of s (feed_records s bytes))
+    ends_as s (text_end s bytes) (length (feed_records s bytes)) (items_of s (feed_records s bytes))
 
 -- whole records are good where there is none, or the right header and at most the schema's number of data records
 abbrev pub IsGoodFeed : Layout → List (List (List ℕ)) → Type 0

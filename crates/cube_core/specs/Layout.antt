@@ -14,8 +14,9 @@ use Rattle.cube_core.specs.declared.aggregate.Agg.TheVariants.{CountAll, Count, 
 
 -- a schema: the names of the dimensions and of the measures, the aggregates, each with its spelling,
 -- how many data records a feed may have, the masks of the grouping sets that are kept, the version of its feeds,
--- the shard of them that is read, their columns, where they are known by name, and how many digits each measure may
--- have behind a point; one that doesn't stand in that list, or without a number, takes no point
+-- the shard of them that is read, how many bytes a record of them may have, where there is a bound, their columns, where
+-- they are known by name, and how many digits each measure may have behind a point; one that doesn't stand in that list,
+-- or without a number, takes no point
 pub record Layout : Type 0 where
   pub dimensions : List (List ℕ)
   pub measures : List (List ℕ)
@@ -25,6 +26,7 @@ pub record Layout : Type 0 where
   pub grouping_sets : List ℕ
   pub version : ℕ
   pub shard : Shard
+  pub max_record_bytes : Option ℕ
   pub columns : Option FeedColumns
   pub decimals : List (Option ℕ)
 
@@ -88,9 +90,14 @@ pub record AreColumnsOf (dimensions measures : ℕ) (columns : FeedColumns) : Ty
   pub point : ((columns.point == 46) || (columns.point == 44)) && not (columns.point == columns.delimiter) ≡ true
   pub operations : is_some columns.id || not (is_some columns.op) ≡ true
 
+-- what is true of every bound on the bytes of a record: a byte at least, and 2 to the power 40 at most
+pub record IsRecordBound (most : ℕ) : Type 0 where
+  pub some : 1 ≤ most
+  pub at_most : most ≤ 2 ^ 40
+
 -- what is true of every schema: the numbers of its parts, lawful names that differ, aggregates of its measures
--- in their spelling, and grouping sets of its dimensions, in ascending order, a lawful shard, lawful columns,
--- and at most 18 digits behind a point
+-- in their spelling, and grouping sets of its dimensions, in ascending order, a lawful shard, a lawful bound on records,
+-- lawful columns, and at most 18 digits behind a point
 pub record IsSchema (s : Layout) : Type 0 where
   pub some_dimension : 1 ≤ length s.dimensions
   pub dimensions_at_most : length s.dimensions ≤ 8
@@ -110,6 +117,7 @@ pub record IsSchema (s : Layout) : Type 0 where
   pub version_at_least : 1 ≤ s.version
   pub version_at_most : s.version ≤ 2
   pub lawful_shard : IsShard s.shard
+  pub lawful_record_bytes : IfSome s.max_record_bytes IsRecordBound
   pub lawful_columns : IfSome s.columns (AreColumnsOf (length s.dimensions) (length s.measures))
   pub few_digits : All (λ digits. IfSome digits (λ k. k ≤ 18)) s.decimals
 
@@ -129,6 +137,7 @@ sample_layout = record {
   grouping_sets = all_sets 2;
   version = 1;
   shard = whole_feed;
+  max_record_bytes = None;
   columns = None;
   decimals = [];
 }

@@ -3,6 +3,7 @@ pub mod Values
 pub mod Shard
 pub mod HashKey
 pub mod Layout
+pub mod RecordBound
 pub mod PartialForm
 pub mod FeedDocument
 pub mod SchemaDocument

@@ -258,6 +258,7 @@ layout_of_parts parts = record {
   grouping_sets = unwrap_or parts.grouping_sets [];
   version = unwrap_or parts.version 1;
   shard = whole_feed;
+  max_record_bytes = None;
   columns = unwrap_or parts.columns None;
   decimals = unwrap_or parts.decimals [];
 }

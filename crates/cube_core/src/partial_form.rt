@@ -36,6 +36,7 @@ impl Schema {
             grouping_sets: Vec::from_slice(alloc, &self.grouping_sets)?,
             version: self.version,
             shard: self.shard,
+            max_record_bytes: self.max_record_bytes,
             columns: copy_columns(alloc, &self.columns)?,
             decimals: Vec::from_slice(alloc, &self.decimals)?,
             hash_key: self.hash_key,

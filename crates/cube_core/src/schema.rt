@@ -1,7 +1,7 @@
 //! The schema of a cube.
 ghost use Rattle.std.specs.Prelude.{◌≡◌, ◌≤◌, ◌<◌, ◌+◌, ◌^◌, IfOk, IfSome, length, map, option_map};
 ghost use Rattle.std.specs.List.{list_all};
-ghost use Rattle.cube_core.specs.Layout.{IsSchema, decimals_of, sample_layout, keeps};
+ghost use Rattle.cube_core.specs.Layout.{IsRecordBound, IsSchema, decimals_of, sample_layout, keeps};
 ghost use Rattle.cube_core.specs.Text.{digits_of};
 ghost use Rattle.cube_core.specs.SchemaDocument.{AnswersParts, layout_of_parts, named_parts};
 ghost use Rattle.cube_core.specs.Shard.{IsShard};
@@ -37,6 +37,7 @@ pub struct Schema {
     pub(crate) grouping_sets: Vec<u8>,
     pub(crate) version: u32,
     pub(crate) shard: Shard,
+    pub(crate) max_record_bytes: Option<u64>,
     pub(crate) columns: Option<FeedColumns>,
     pub(crate) decimals: Vec<Option<u8>>,
     pub(crate) hash_key: HashKey,
@@ -56,6 +57,7 @@ impl Model for Schema {
       grouping_sets = s.grouping_sets.items;
       version = s.version;
       shard = s.shard;
+      max_record_bytes = s.max_record_bytes;
       columns = s.columns;
       decimals = s.decimals.items;
     } };
@@ -69,6 +71,7 @@ impl Model for Schema {
       grouping_sets = s.grouping_sets.items;
       version = s.version;
       shard = s.shard;
+      max_record_bytes = s.max_record_bytes;
       columns = s.columns;
       decimals = s.decimals.items;
     }) };
@@ -124,6 +127,7 @@ impl Schema {
             grouping_sets: sample_sets(alloc)?,
             version: 1,
             shard: Shard::whole(),
+            max_record_bytes: None,
             columns: None,
             decimals: Vec::new(alloc),
             hash_key: HashKey::Known,
@@ -143,6 +147,7 @@ impl Schema {
             grouping_sets: Vec::from_slice(alloc, &self.grouping_sets)?,
             version: self.version,
             shard: self.shard,
+            max_record_bytes: self.max_record_bytes,
             columns: copy_columns(alloc, &self.columns)?,
             decimals: Vec::from_slice(alloc, &self.decimals)?,
             hash_key: self.hash_key,
@@ -264,6 +269,25 @@ impl Schema {
     {
         let mut schema = self;
         schema.shard = shard;
+        schema
+    }
+
+    /// How many bytes a record of a feed may have before its line end, from 1 to 2 to the power 40, where there is a bound. A
+    /// schema that was read has none.
+    pub fn max_record_bytes(&self) -> Option<u64>
+        ensures value { result ≡ self.now.max_record_bytes }
+        ensures schema { IsSchema self.now }
+    {
+        self.max_record_bytes
+    }
+
+    /// The same schema, with this bound on the bytes of a record of a feed, or without one.
+    pub fn with_max_record_bytes(self, most: Option<u64>) -> Schema
+        requires { IfSome most IsRecordBound }
+        ensures { result ≡ record self { max_record_bytes = most } }
+    {
+        let mut schema = self;
+        schema.max_record_bytes = most;
         schema
     }
 

@@ -148,6 +148,7 @@ pub(crate) fn schema_of_parts(
         grouping_sets,
         version,
         shard: Shard::whole(),
+        max_record_bytes: None,
         columns,
         decimals,
         hash_key: HashKey::Known,

@@ -6,6 +6,9 @@ pub mod NumberLaws
 mod ColumnLaws
 mod PlainFieldLaws
 mod RecordLaws
+mod MarkLaws
+mod BoundLaws
+mod SkipLaws
 mod TextLaws
 mod FeedLaws
 pub mod FaultLaws

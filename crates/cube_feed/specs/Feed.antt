@@ -5,11 +5,11 @@ use Rattle.cube_core.specs.Layout.{Layout}
 use Rattle.cube_core.specs.Shard.{whole_feed}
 use Rattle.cube_core.specs.Takes.{takes}
 use Rattle.cube_core.specs.FeedRecords.{RestOfFeed, FeedEnd, Good, WrongHeader, TooManyRecords, item_then, items_of}
-use Rattle.cube_core.specs.FeedRecords.{WithinQuotes, ends_as, feed_of, items_after}
+use Rattle.cube_core.specs.FeedRecords.{WithinQuotes, RecordTooLong, ends_as, feed_of, items_after}
 use Rattle.cube_core.specs.declared.change.Item.{Item}
 use Rattle.cube_core.specs.declared.feed_columns.FoundColumns.{FoundColumns}
 use Rattle.cube_feed.specs.declared.fault.FeedFault.{FeedFault}
-use Rattle.cube_feed.specs.declared.fault.FeedFault.TheVariants.{Memory, Read, Header, TooMany, OpenQuote}
+use Rattle.cube_feed.specs.declared.fault.FeedFault.TheVariants.{Memory, Read, Header, TooMany, OpenQuote, LongRecord}
 use Rattle.cube_feed.specs.declared.feed.Stage.{Stage}
 use Rattle.cube_feed.specs.declared.feed.Stage.TheVariants as stage
 use Rattle.cube_feed.specs.FeedText.{TextLeft}
@@ -29,6 +29,7 @@ fault_of Good = None
 fault_of WrongHeader = Some Header
 fault_of TooManyRecords = Some TooMany
 fault_of (WithinQuotes number) = Some (OpenQuote number)
+fault_of (RecordTooLong number) = Some (LongRecord number)
 
 -- the rest of a feed, where its end is told as a fault
 abbrev pub with_fault : RestOfFeed FeedEnd → RestOfFeed (Option FeedFault)
@@ -45,10 +46,10 @@ rest_of_feed schema bytes =
 
 -- what comes of a text before its header was read, and after it and so many data records
 abbrev pub comes_first : Layout → TextLeft → RestOfFeed FeedEnd
-comes_first schema left = ends_as schema left.in_quotes (length left.records) (items_of schema left.records)
+comes_first schema left = ends_as schema left.end (length left.records) (items_of schema left.records)
 
 abbrev pub comes_after : Layout → FoundColumns → ℕ → TextLeft → RestOfFeed FeedEnd
-comes_after schema columns number left = ends_as schema left.in_quotes (number + 1 + length left.records)
+comes_after schema columns number left = ends_as schema left.end (number + 1 + length left.records)
     (items_after schema columns number left.records)
 
 -- what is to come before the header was read, and after it
@@ -101,6 +102,7 @@ Gives (Some old) (Err Read) new = ⊤
 Gives (Some old) (Err Header) new = old ≡ nothing_but (Some Header)
 Gives (Some old) (Err TooMany) new = old ≡ nothing_but (Some TooMany)
 Gives (Some old) (Err (OpenQuote number)) new = old ≡ nothing_but (Some (OpenQuote number))
+Gives (Some old) (Err (LongRecord number)) new = old ≡ nothing_but (Some (LongRecord number))
 
 -- a change that is given is one that the schema takes
 abbrev pub IsTaken : Layout → Result (Option Item) FeedFault → Type 0
@@ -141,6 +143,8 @@ TakesHeader schema (Some left) (Err Header) columns new =
 TakesHeader schema (Some left) (Err TooMany) columns new = ⊥
 TakesHeader schema (Some left) (Err (OpenQuote number)) columns new =
     comes_first schema left ≡ record { items = []; end = WithinQuotes number }
+TakesHeader schema (Some left) (Err (LongRecord number)) columns new =
+    comes_first schema left ≡ record { items = []; end = RecordTooLong number }
 
 -- what is true of every feed: its last item's number is the schema's number of records at most,
 -- and 0 before the header was read

@@ -3,6 +3,7 @@ pub mod SoundFields
 pub mod Reading
 pub mod Columns
 pub mod PlainFields
+pub mod FeedBytes
 pub mod FeedText
 pub mod Feed
 pub mod Faults

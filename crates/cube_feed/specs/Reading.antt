@@ -8,7 +8,7 @@ use Rattle.csv.specs.declared.reader.Reader.{Reader}
 use Rattle.csv.specs.declared.reader.Trim.TheVariants as trim
 use Rattle.cube_core.specs.FeedRecords.{config_by}
 use Rattle.cube_feed.specs.declared.fault.FeedFault.{FeedFault}
-use Rattle.cube_feed.specs.declared.fault.FeedFault.TheVariants.{Memory, Read, Header, TooMany, OpenQuote}
+use Rattle.cube_feed.specs.declared.fault.FeedFault.TheVariants.{Memory, Read, Header, TooMany, OpenQuote, LongRecord}
 
 -- the records of a whole text whose fields stand apart by this byte; one byte order mark at its start is left out
 abbrev pub records_by : ℕ → List ℕ → List (List (List ℕ))
@@ -48,3 +48,4 @@ IsReadingFault Read = ⊤
 IsReadingFault Header = ⊥
 IsReadingFault TooMany = ⊥
 IsReadingFault (OpenQuote number) = ⊥
+IsReadingFault (LongRecord number) = ⊥

@@ -19,4 +19,7 @@ pub enum FeedFault {
     /// The bytes of a feed whose columns are known by name end within a quoted field of this data record, 0 for the header.
     #[error("F5 {number}")]
     OpenQuote { number: u32 },
+    /// This data record, 0 for the header, has more bytes before its line end than the schema lets a record have.
+    #[error("F6 {number}")]
+    LongRecord { number: u32 },
 }

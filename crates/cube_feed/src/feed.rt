@@ -68,6 +68,7 @@ fn take_record<R: Read>(text: &mut FeedText<R>, number: u32) -> Result<bool, Fee
         Found::Record => Ok(true),
         Found::End => Ok(false),
         Found::OpenQuote => Err(FeedFault::OpenQuote { number }),
+        Found::LongRecord => Err(FeedFault::LongRecord { number }),
     }
 }
 
@@ -142,7 +143,7 @@ fn take_item<R: Read>(
     }
     match rows.text.advance()? {
         Found::End => Ok(None),
-        Found::Record | Found::OpenQuote => Err(FeedFault::TooMany),
+        Found::Record | Found::OpenQuote | Found::LongRecord => Err(FeedFault::TooMany),
     }
 }
 

@@ -1,17 +1,21 @@
-//! The text of a feed: its whole records one after the other, and whether it ends within a quoted field.
-ghost use Rattle.std.specs.Prelude.{◌≡◌, true, false, IfOk, IfErr, option_map};
+//! The text of a feed: its whole records one after the other, and whether it ends within a quoted field or in a record that
+//! is too long.
+ghost use Rattle.std.specs.Prelude.{◌≡◌, true, false, IfOk, IfErr, is_some, option_map};
 ghost use Rattle.csv.specs.Records.{fields_of};
+ghost use Rattle.cube_core.specs.Layout.{IsSchema};
 ghost use Rattle.cube_core.specs.Plain.{delimiter_of};
-ghost use Rattle.cube_feed.specs.FeedText.{TakesNext, end_mark, is_mark, left_by, text_of, with_ahead};
+ghost use Rattle.cube_feed.specs.FeedText.{TakesNext, bounds_of, end_mark, end_of, ends_in_excess, is_mark, is_marked, left_by, text_of, with_ahead};
 ghost use Rattle.cube_feed.specs.Reading.{Advances, IsReadingFault};
 
 use crate::fault::FeedFault;
+use crate::feed_bytes::{Bounds, EXCESS_MARK, FeedBytes};
 use crate::field::bytes_at;
+use crate::place::Place;
 use crate::record_source::RecordSource;
 use csv::ByteRecord;
 use cube_core::Schema;
 use std::alloc::Global;
-use std::io::{Chain, Read};
+use std::io::Read;
 use std::marker::Model;
 use std::mem::swap;
 
@@ -24,12 +28,14 @@ pub(crate) enum Found {
     End,
     /// A record that isn't whole, since the text ended within one of its quoted fields.
     OpenQuote,
+    /// A record that isn't whole, since it has more bytes than it may.
+    LongRecord,
 }
 
 /// The records that are read of a feed, and the one that was read ahead.
 #[derive(Drop)]
 struct Rows<R: Read> {
-    source: RecordSource<Chain<R, &'static [u8]>>,
+    source: RecordSource<FeedBytes<R>>,
     row: ByteRecord,
     // The record behind the one that was taken last, where `is_ahead` says that it was read.
     ahead: ByteRecord,
@@ -38,13 +44,14 @@ struct Rows<R: Read> {
 
 /// The text of a feed.
 ///
-/// Where columns are known by name, a line end and a quote are read behind its bytes. Outside quotes they are one record
-/// more, of one empty field; within quotes they are a part of the last one. The reader of records doesn't tell its state,
-/// so each record is read before the one in front of it is handed on.
+/// Where columns are known by name, or records have a bound, a line end and a quote are read behind its bytes. Outside quotes
+/// they are one record more, of one empty field; within quotes they are a part of the last one. Where a record has too many
+/// bytes, the text ends with a byte that is in no text. The reader of records doesn't tell its state, so each record is read
+/// before the one in front of it is handed on.
 #[derive(Drop)]
 pub(crate) struct FeedText<R: Read> {
     rows: Rows<R>,
-    is_by_name: bool,
+    is_marked: bool,
 }
 
 impl<R: Read> Model for FeedText<R> {
@@ -55,11 +62,11 @@ impl<R: Read> Model for FeedText<R> {
     ghost Value = { TextView };
 
     ghost view = { λ t. record {
-      left = left_by t.is_by_name (with_ahead t.rows.is_ahead (fields_of t.rows.ahead) t.rows.source);
+      left = left_by t.is_marked (with_ahead t.rows.is_ahead (fields_of t.rows.ahead) t.rows.source);
       fields = fields_of t.rows.row;
     } };
 
-    ghost invariant = { λ t. t.is_by_name ≡ false → t.rows.is_ahead ≡ false };
+    ghost invariant = { λ t. t.is_marked ≡ false → t.rows.is_ahead ≡ false };
 }
 
 // Takes the next record of a text that has no mark behind it.
@@ -108,10 +115,19 @@ fn advance_to_mark<R: Read>(rows: &mut Rows<R>) -> Result<Found, FeedFault>
     if rows.is_ahead {
         return Ok(Found::Record);
     }
-    if is_mark(&rows.row) {
-        Ok(Found::End)
+    Ok(end_of(&rows.row))
+}
+
+// How a text ends whose last record is this one, by its mark.
+fn end_of(last: &ByteRecord) -> Found
+    ensures { result ≡ end_of (fields_of last.now) }
+{
+    if is_mark(last) {
+        Found::End
+    } else if ends_in_excess(last) {
+        Found::LongRecord
     } else {
-        Ok(Found::OpenQuote)
+        Found::OpenQuote
     }
 }
 
@@ -120,16 +136,16 @@ impl<R: Read> FeedText<R> {
     pub(crate) fn new(alloc: Global, schema: &Schema, reader: R) -> FeedText<R>
         ensures { result.left ≡ option_map (text_of schema.now) (R.remaining reader) }
     {
-        let is_by_name = schema.columns().is_some();
-        let marked = reader.chain(end_mark(is_by_name));
+        let is_by_name = reads_by_name(schema);
+        let bytes = FeedBytes::new(reader, bounds_of(schema), end_mark(is_by_name));
         FeedText {
             rows: Rows {
-                source: RecordSource::new(alloc, marked, delimiter(schema)),
+                source: RecordSource::new(alloc, bytes, delimiter(schema)),
                 row: ByteRecord::new(alloc),
                 ahead: ByteRecord::new(alloc),
                 is_ahead: false,
             },
-            is_by_name,
+            is_marked: is_marked(schema),
         }
     }
 
@@ -140,7 +156,7 @@ impl<R: Read> FeedText<R> {
         ensures takes { IfOk result (λ found. TakesNext self.old.left found self.new) }
         ensures fault { IfErr result IsReadingFault }
     {
-        if self.is_by_name {
+        if self.is_marked {
             advance_to_mark(&mut self.rows)
         } else {
             advance_to_end(&mut self.rows)
@@ -155,7 +171,7 @@ impl<R: Read> FeedText<R> {
     }
 }
 
-// What is read behind the bytes of a feed.
+// What is read behind the bytes of a feed whose records have no bound.
 fn end_mark(is_by_name: bool) -> &'static [u8]
     ensures { result.now ≡ end_mark is_by_name }
 {
@@ -167,6 +183,45 @@ fn is_mark(row: &ByteRecord) -> bool
     ensures { result ≡ is_mark (fields_of row.now) }
 {
     row.len() == 1 && bytes_at(row, 0).is_empty()
+}
+
+// Whether the last field of a record ends with the byte that stands in place of one too many.
+fn ends_in_excess(row: &ByteRecord) -> bool
+    ensures { result ≡ ends_in_excess (fields_of row.now) }
+{
+    match bytes_at(row, row.len().saturating_sub(1)).last() {
+        Some(byte) => *byte == EXCESS_MARK,
+        None => false,
+    }
+}
+
+// The bounds of a schema's feeds of which nothing was read, where their records have any.
+fn bounds_of(schema: &Schema) -> Option<Bounds>
+    ensures { result ≡ bounds_of schema.now }
+{
+    let most = schema.max_record_bytes()?;
+    Some(Bounds {
+        most,
+        delimiter: delimiter(schema),
+        is_by_name: reads_by_name(schema),
+        place: Place::Start,
+        count: 0,
+    })
+}
+
+// Whether a schema reads the columns of its feeds by their names.
+fn reads_by_name(schema: &Schema) -> bool
+    ensures value { result ≡ is_some schema.now.columns }
+    ensures schema { IsSchema schema.now }
+{
+    schema.columns().is_some()
+}
+
+// Whether a mark is read behind the bytes of a schema's feeds.
+fn is_marked(schema: &Schema) -> bool
+    ensures { result ≡ is_marked schema.now }
+{
+    reads_by_name(schema) || schema.max_record_bytes().is_some()
 }
 
 // The byte between the fields of a schema's feeds.

@@ -16,9 +16,10 @@ use Rattle.std.specs.Option.{option_map_or}
 use Rattle.csv.specs.Reading.{records, strip_bom}
 use Rattle.csv.specs.declared.parser.State.TheVariants as st
 use Rattle.cube_core.specs.Items.{width_of}
-use Rattle.cube_core.specs.FeedRecords.{FeedEnd, Good, WrongHeader, TooManyRecords, WithinQuotes, IsGoodFeed, RestOfFeed}
-use Rattle.cube_core.specs.FeedRecords.{all_records, but_the_last, end_in_quotes, ends_as, ends_in_quotes, feed_of}
-use Rattle.cube_core.specs.FeedRecords.{is_within_quotes, item_then, state_after}
+use Rattle.cube_core.specs.FeedRecords.{FeedEnd, Good, WrongHeader, TooManyRecords, WithinQuotes, RecordTooLong, IsGoodFeed}
+use Rattle.cube_core.specs.FeedRecords.{RestOfFeed, TextEnd, Whole, InQuotes, InLongRecord, all_records, end_in_record}
+use Rattle.cube_core.specs.FeedRecords.{ends_as, ends_in_quotes, feed_end, feed_of, has_long_record, is_within_quotes}
+use Rattle.cube_core.specs.FeedRecords.{item_then, state_after, text_end, text_read, whole_records}
 use Rattle.cube_core.specs.Items.{field_at, is_keep, is_measure, dimension_of, measure_of, number_of}
 use Rattle.cube_core.specs.Items.{dimension_field_of, measure_field_of, dimension_fields, measure_fields, fact_of}
 use Rattle.cube_core.specs.Items.{amendment_of, unless_at_fault, insert_of, update_of, change_of, is_header}
@@ -51,6 +52,7 @@ use Rattle.cube_core.proofs.PlainLaws.{plain_in_order-same}
 use Rattle.cube_core.proofs.LifeLaws.{bytes_eq-itself, bytes_eq-other}
 use Rattle.cube_laws.specs.Feeds.{CanBeSpelled, HasField, HasNumber, Puts, dimension_text, header_for, is_kept}
 use Rattle.cube_laws.specs.Feeds.{measure_text, numbered, put_text, record_for, record_with}
+use Rattle.cube_laws.proofs.BoundLaws.{text_within-whole}
 use Rattle.cube_laws.proofs.NumberLaws.{number_of-signed_decimal, is_utf8-signed_decimal, signed_decimal-no_backslash}
 use Rattle.cube_laws.proofs.RecordLaws.{records_of-other}
 use Rattle.cube_laws.proofs.TextLaws.{records-line}
@@ -444,36 +446,69 @@ ends_in_quotes-in_order s bytes none =
     ap (λ (columns : Option FeedColumns). is_some columns
     && is_within_quotes (state_after (config_by (delimiter_of s)) st.StartRecord (strip_bom bytes))) none
 
-pub feed_of-in_order : (s : Layout) (bytes : List ℕ) → s.columns ≡ None
-    → feed_of s bytes ≡ items_of s (all_records s bytes)
-feed_of-in_order s bytes none =
-    ap (λ (quoted : Bool). ends_as s quoted
-    (length (if quoted then but_the_last (all_records s bytes) else all_records s bytes))
-    (items_of s (if quoted then but_the_last (all_records s bytes) else all_records s bytes)))
-    (ends_in_quotes-in_order s bytes none)
+-- of a text in which no record exceeds its bound all is read
+text_read-whole : (s : Layout) (bytes : List ℕ) → has_long_record s bytes ≡ false → text_read s bytes ≡ strip_bom bytes
+text_read-whole s bytes short = text_within-whole (config_by (delimiter_of s)) s.max_record_bytes bytes short
 
--- a text that ends within quotes is at fault
+pub feed_of-in_order : (s : Layout) (bytes : List ℕ) → s.columns ≡ None → has_long_record s bytes ≡ false
+    → feed_of s bytes ≡ items_of s (all_records s bytes)
+feed_of-in_order s bytes none short =
+    ap (λ (end : TextEnd). ends_as s end (length (whole_records end (all_records s bytes)))
+    (items_of s (whole_records end (all_records s bytes))))
+    (ap₂ (λ (long quoted : Bool). if long then InLongRecord else if quoted then InQuotes else Whole)
+    short (ends_in_quotes-in_order s bytes none))
+
+-- a feed whose text ends in a record is at fault
+ends_as-cut : (s : Layout) (end : TextEnd) (number : ℕ) (rest : RestOfFeed FeedEnd) → (end ≡ Whole → ⊥)
+    → (ends_as s end number rest).end ≡ Good → ⊥
+ends_as-cut s end number rest cut good = by end cut rest.end good
+  where
+    room : (b : Bool) (so : FeedEnd) → (so ≡ Good → ⊥) → (if b then TooManyRecords else so) ≡ Good → ⊥
+    room true so other is = cc is
+    room false so other is = other is
+
+    at : (so : ℕ → FeedEnd) → (so number ≡ Good → ⊥) → (whole : FeedEnd) → end_in_record s so number whole ≡ Good → ⊥
+    at so other Good is = room (nat_lt s.max_records number) (so number) other is
+    at so other WrongHeader is = cc is
+    at so other TooManyRecords is = cc is
+    at so other (WithinQuotes n) is = cc is
+    at so other (RecordTooLong n) is = cc is
+
+    by : (e : TextEnd) → (e ≡ Whole → ⊥) → (whole : FeedEnd) → feed_end s e number whole ≡ Good → ⊥
+    by Whole none whole is = none refl
+    by InQuotes none whole is = at WithinQuotes (λ same. cc same) whole is
+    by InLongRecord none whole is = at RecordTooLong (λ same. cc same) whole is
+
+-- a text that ends within quotes is at fault, and so is one with a record that exceeds its bound
 pub feed_of-quotes : (s : Layout) (bytes : List ℕ) → ends_in_quotes s bytes ≡ true
     → (feed_of s bytes).end ≡ Good → ⊥
-feed_of-quotes s bytes quoted good =
-    let whole : FeedEnd = (items_of s (feed_records s bytes)).end in
-    let count : ℕ = length (feed_records s bytes) in
-    by whole (sym (ap (λ (q : Bool). if q then end_in_quotes s count whole else whole) quoted) ∙ good)
+feed_of-quotes s bytes quoted =
+    ends_as-cut s (text_end s bytes) (length (feed_records s bytes)) (items_of s (feed_records s bytes))
+    (λ whole. by (has_long_record s bytes) (ends_in_quotes s bytes) quoted whole)
   where
-    room : (b : Bool) (number : ℕ) → (if b then TooManyRecords else WithinQuotes number) ≡ Good → ⊥
-    room true number is = cc is
-    room false number is = cc is
+    by : (long unclosed : Bool) → unclosed ≡ true
+        → (if long then InLongRecord else if unclosed then InQuotes else Whole) ≡ Whole → ⊥
+    by true unclosed is whole = cc whole
+    by false true is whole = cc whole
+    by false false is whole = cc is
 
-    by : (end : FeedEnd) → end_in_quotes s (length (feed_records s bytes)) end ≡ Good → ⊥
-    by Good is = room (nat_lt s.max_records (length (feed_records s bytes))) (length (feed_records s bytes)) is
-    by WrongHeader is = cc is
-    by TooManyRecords is = cc is
-    by (WithinQuotes number) is = cc is
+pub feed_of-long : (s : Layout) (bytes : List ℕ) → has_long_record s bytes ≡ true
+    → (feed_of s bytes).end ≡ Good → ⊥
+feed_of-long s bytes long =
+    ends_as-cut s (text_end s bytes) (length (feed_records s bytes)) (items_of s (feed_records s bytes))
+    (λ whole. by (has_long_record s bytes) (ends_in_quotes s bytes) long whole)
+  where
+    by : (exceeds unclosed : Bool) → exceeds ≡ true
+        → (if exceeds then InLongRecord else if unclosed then InQuotes else Whole) ≡ Whole → ⊥
+    by true unclosed is whole = cc whole
+    by false unclosed is whole = cc is
 
 -- without columns by name a text is read with commas, and its first record has to be the header
-all_records-in_order : (s : Layout) (bytes : List ℕ) → s.columns ≡ None → all_records s bytes ≡ records_of bytes
-all_records-in_order s bytes none =
-    ap (λ (columns : Option FeedColumns).
+all_records-in_order : (s : Layout) (bytes : List ℕ) → s.columns ≡ None → has_long_record s bytes ≡ false
+    → all_records s bytes ≡ records_of bytes
+all_records-in_order s bytes none short =
+    ap (records (config_by (delimiter_of s))) (text_read-whole s bytes short)
+    ∙ ap (λ (columns : Option FeedColumns).
     records (config_by (option_map_or (λ (it : FeedColumns). it.delimiter) columns 44)) (strip_bom bytes)) none
 
 found_columns-in_order : (s : Layout) (header : List (List ℕ)) → s.columns ≡ None
@@ -481,15 +516,16 @@ found_columns-in_order : (s : Layout) (header : List (List ℕ)) → s.columns �
 found_columns-in_order s header none = rw none refl
 
 pub items_of-record_for : (s : Layout) (changes : List Change) → s.columns ≡ None → s.decimals ≡ []
-    → s.shard ≡ whole_feed
-    → length changes ≤ s.max_records → AllByRecursion (CanBeSpelled s) changes
+    → s.shard ≡ whole_feed → length changes ≤ s.max_records
+    → has_long_record s (flat_map line (header_for s ∷ map record_for changes)) ≡ false
+    → AllByRecursion (CanBeSpelled s) changes
     → feed_of s (flat_map line (header_for s ∷ map record_for changes))
     ≡ record { items = numbered 1 changes; end = Good }
-items_of-record_for s changes none no_point whole few all =
+items_of-record_for s changes none no_point whole few short all =
     let lines : List (List (List ℕ)) = map record_for changes in
     let wrong : RestOfFeed FeedEnd = record { items = []; end = WrongHeader } in
-    feed_of-in_order s (flat_map line (header_for s ∷ lines)) none
-    ∙ ap (items_of s) (all_records-in_order s (flat_map line (header_for s ∷ lines)) none)
+    feed_of-in_order s (flat_map line (header_for s ∷ lines)) none short
+    ∙ ap (items_of s) (all_records-in_order s (flat_map line (header_for s ∷ lines)) none short)
     ∙ ap (items_of s) (records_of-feed s lines (some_field changes))
     ∙ ap (λ (found : Option FoundColumns). option_map_or (λ columns. items_after s columns 0 lines) found wrong)
     (found_columns-in_order s (header_for s) none

@@ -5,6 +5,7 @@ mod LifeLaws
 mod FieldLaws
 mod SpellingLaws
 mod WrittenLaws
+mod BoundLaws
 mod GroupingLaws
 mod WritableLaws
 mod RowLaws

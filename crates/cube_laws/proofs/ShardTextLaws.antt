@@ -45,6 +45,7 @@ of_shard-IsSchema s count place is below most = record {
   version_at_least = is.version_at_least;
   version_at_most = is.version_at_most;
   lawful_shard = record { below = below; at_most = most };
+  lawful_record_bytes = is.lawful_record_bytes;
   lawful_columns = is.lawful_columns;
   few_digits = is.few_digits;
 }

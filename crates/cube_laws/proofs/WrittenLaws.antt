@@ -79,9 +79,9 @@ least_measures-WritesSchema document s is writes = at (get_member (codes "feed")
         omega (arith, zero)
 
 pub WritesSchema-schema_of : (document : Members) (s : Layout) → IsSchema s → s.shard ≡ whole_feed
-    → length s.aggregates ≤ 16
+    → s.max_record_bytes ≡ None → length s.aggregates ≤ 16
     → WritesSchema document s → schema_of document ≡ Ok s
-WritesSchema-schema_of document s is whole few writes =
+WritesSchema-schema_of document s is whole unbounded few writes =
     let dimensions : dimensions_in document ≡ s.dimensions = ap (λ o. unwrap_or o []) writes.dimensions in
     let measures : measures_in document ≡ s.measures = ap (λ o. unwrap_or o []) writes.measures in
     let texts : spellings_in document ≡ s.aggregate_texts = ap (λ o. unwrap_or o []) writes.aggregates in
@@ -125,6 +125,7 @@ WritesSchema-schema_of document s is whole few writes =
       grouping_sets = sets i;
       version = version i;
       shard = sym whole i;
+      max_record_bytes = sym unbounded i;
       columns = columns i;
       decimals = decimals i;
     } in

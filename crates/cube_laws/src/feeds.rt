@@ -1,9 +1,9 @@
 //! What a feed gives: a written one is read back, and none gives more than its schema takes (this project's choice of a change
 //! feed).
-ghost use Rattle.std.specs.Prelude.{◌≡◌, ◌≢◌, ◌↔◌, ◌≤◌, ℕ, true, List, [], ◌∷◌, length, map, None, Some, is_some, IfOk};
+ghost use Rattle.std.specs.Prelude.{◌≡◌, ◌≢◌, ◌↔◌, ◌≤◌, ℕ, true, false, List, [], ◌∷◌, length, map, None, Some, is_some, IfOk};
 ghost use Rattle.std.specs.List.{AllByRecursion, flat_map, list_all};
 ghost use Rattle.cube_core.specs.Items.{change_of, is_header};
-ghost use Rattle.cube_core.specs.FeedRecords.{Good, IsGoodFeed, all_records, ends_in_quotes, feed_of, feed_records, found_columns, items_of};
+ghost use Rattle.cube_core.specs.FeedRecords.{Good, IsGoodFeed, all_records, ends_in_quotes, feed_of, feed_records, found_columns, has_long_record, items_of};
 ghost use Rattle.cube_core.specs.FeedRecords.{names_read, stands_once};
 ghost use Rattle.cube_core.specs.Layout.{Layout};
 ghost use Rattle.cube_core.specs.Shard.{whole_feed};
@@ -15,12 +15,13 @@ ghost use Rattle.cube_core.specs.declared.change.Change.{Change};
 ghost use Rattle.cube_core.specs.declared.feed_columns.FeedColumns.{FeedColumns};
 
 /// A feed that writes changes which the schema takes, in the order of the schema, is read as these changes, in their order,
-/// numbered from 1, and is good: no change that can be written is refused or taken for another. No measure takes a point in it
-/// (this project's choice).
+/// numbered from 1, and is good: no change that can be written is refused or taken for another. No measure takes a point in it,
+/// and no record exceeds the bound on its bytes, where there is one (this project's choice).
 pub fn written_feed_is_read()
     ensures change { (s : Layout) (change : Change) → CanBeSpelled s change → change_of s (record_for change) ≡ Ok change }
     ensures feed { (s : Layout) (changes : List Change) →
         s.columns ≡ None → s.decimals ≡ [] → s.shard ≡ whole_feed → length changes ≤ s.max_records →
+        has_long_record s (flat_map line (header_for s ∷ map record_for changes)) ≡ false →
         AllByRecursion (CanBeSpelled s) changes →
         feed_of s (flat_map line (header_for s ∷ map record_for changes))
         ≡ record { items = numbered 1 changes; end = Good } }
@@ -51,13 +52,21 @@ pub fn feeds_give_what_the_schema_takes()
 {}
 
 /// A feed gives the items of its whole records, and where columns are known by name it is at fault if it ends within a quoted
-/// field: its last record isn't whole, and no cube is made of the others. Without such columns all records are whole (this
-/// project's choice).
+/// field: its last record isn't whole, and no cube is made of the others. Without such columns all records are whole, where
+/// none exceeds its bound (this project's choice).
 pub fn feed_that_ends_in_quotes_is_at_fault()
     ensures items { (s : Layout) (bytes : List ℕ) →
         (feed_of s bytes).items ≡ (items_of s (feed_records s bytes)).items }
     ensures fault { (s : Layout) (bytes : List ℕ) →
         ends_in_quotes s bytes ≡ true → (feed_of s bytes).end ≢ Good }
     ensures in_order { (s : Layout) (bytes : List ℕ) →
-        s.columns ≡ None → feed_of s bytes ≡ items_of s (all_records s bytes) }
+        s.columns ≡ None → has_long_record s bytes ≡ false → feed_of s bytes ≡ items_of s (all_records s bytes) }
+{}
+
+/// A bound on the bytes of records changes nothing of a feed in which no record exceeds it: the feed says what it says without a
+/// bound. A feed with a longer record is at fault, whatever else it has (this project's choice).
+pub fn bound_that_no_record_exceeds_changes_nothing()
+    ensures short { (s : Layout) (bytes : List ℕ) →
+        has_long_record s bytes ≡ false → feed_of s bytes ≡ feed_of (record s { max_record_bytes = None }) bytes }
+    ensures long { (s : Layout) (bytes : List ℕ) → has_long_record s bytes ≡ true → (feed_of s bytes).end ≢ Good }
 {}

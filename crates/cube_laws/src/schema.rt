@@ -15,10 +15,12 @@ ghost use Rattle.cube_core.specs.declared.key.Row.{Row};
 ghost use Rattle.cube_core.specs.declared.schema_fault.SchemaFault.{SchemaFault};
 
 /// A document that writes a schema is read as that schema and no other: no schema is refused, and none is taken for
-/// another. A document has at most 16 aggregates, the partial form of a schema may have more; and it is of whole feeds.
+/// another. A document has at most 16 aggregates, the partial form of a schema may have more; and it is of whole feeds, whose
+/// records have no bound.
 pub fn written_schema_is_read()
     ensures { (document : Members) (s : Layout) →
-        IsSchema s → s.shard ≡ whole_feed → length s.aggregates ≤ 16 → WritesSchema document s → schema_of document ≡ Ok s }
+        IsSchema s → s.shard ≡ whole_feed → s.max_record_bytes ≡ None → length s.aggregates ≤ 16 →
+        WritesSchema document s → schema_of document ≡ Ok s }
 {}
 
 /// What is told of a document that is refused is its first fault: it has the fault, and none whose code has a smaller number;

@@ -5,14 +5,15 @@ use Rattle.std.proofs.Math.ListN.{length-set}
 use Rattle.std.proofs.lemmas.List.{append-nil, map-append}
 use Rattle.cube_core.specs.Arrival.{Arrivals}
 use Rattle.cube_core.specs.Layout.{Layout}
-use Rattle.cube_core.specs.FeedRecords.{RestOfFeed, FeedEnd, Good, WrongHeader, TooManyRecords, WithinQuotes, feed_of}
+use Rattle.cube_core.specs.FeedRecords.{RestOfFeed, FeedEnd, Good, WrongHeader, TooManyRecords, WithinQuotes, RecordTooLong}
+use Rattle.cube_core.specs.FeedRecords.{feed_of}
 use Rattle.cube_core.specs.Run.{IsGood, AreItemsOf}
 use Rattle.cube_core.specs.declared.change.Item.{Item}
 use Rattle.cube_feed.specs.Faults.{IsEndOf, IsFaultOf}
 use Rattle.cube_feed.specs.Feed.{KnownRest, FeedView, Gives, fault_of, nothing_but, rest_of_feed}
 use Rattle.cube_feed.specs.declared.fault.FeedFault.{FeedFault}
-use Rattle.cube_feed.specs.declared.fault.FeedFault.TheVariants.{Memory, Read, Header, TooMany, OpenQuote}
-use Rattle.cube_feed.proofs.FaultLaws.{fault_of-None, fault_of-OpenQuote}
+use Rattle.cube_feed.specs.declared.fault.FeedFault.TheVariants.{Memory, Read, Header, TooMany, OpenQuote, LongRecord}
+use Rattle.cube_feed.proofs.FaultLaws.{fault_of-None, fault_of-OpenQuote, fault_of-LongRecord}
 use Rattle.cube_feed.proofs.TurnLaws.{from_source}
 use Rattle.cube_ledger.specs.Build.{TakesFeed}
 use Rattle.cube_ledger.specs.Ledger.{LedgerView, AtSource, Enters, LedgerStandsAt}
@@ -125,11 +126,14 @@ ends-so Good Header is = cc
 ends-so WrongHeader Header is = refl
 ends-so TooManyRecords Header is = cc
 ends-so (WithinQuotes other) Header is = cc
+ends-so (RecordTooLong other) Header is = cc
 ends-so Good TooMany is = cc
 ends-so WrongHeader TooMany is = cc
 ends-so TooManyRecords TooMany is = refl
 ends-so (WithinQuotes other) TooMany is = cc
+ends-so (RecordTooLong other) TooMany is = cc
 ends-so end (OpenQuote number) is = fault_of-OpenQuote end number is
+ends-so end (LongRecord number) is = fault_of-LongRecord end number is
 
 -- where nothing is to come but a fault, it is the feed's
 fault-given : (s : Layout) (known : List ℕ) (done : List Item) (now next : KnownRest) (fault : FeedFault)
@@ -151,6 +155,11 @@ fault-given s known done now next (OpenQuote number) left gives =
     let given : left.0 ≡ nothing_but (Some (OpenQuote number)) =
     subst (λ (n : KnownRest). Gives n (Err (OpenQuote number)) next) left.1 gives in
     ends-so (feed_of s known).end (OpenQuote number)
+    (left.3 ∙ ap (λ (t : RestOfFeed (Option FeedFault)). t.end) given)
+fault-given s known done now next (LongRecord number) left gives =
+    let given : left.0 ≡ nothing_but (Some (LongRecord number)) =
+    subst (λ (n : KnownRest). Gives n (Err (LongRecord number)) next) left.1 gives in
+    ends-so (feed_of s known).end (LongRecord number)
     (left.3 ∙ ap (λ (t : RestOfFeed (Option FeedFault)). t.end) given)
 
 pub fault-told : (s : Layout) (bytes : Option (List ℕ)) (start : KnownRest) (source : ℕ) (old now : LedgerView)

@@ -7,7 +7,7 @@ use Rattle.cube_core.specs.FeedRecords.{RestOfFeed}
 use Rattle.cube_core.specs.declared.change.Item.{Item}
 use Rattle.cube_feed.specs.Feed.{KnownRest, Gives, nothing_but}
 use Rattle.cube_feed.specs.declared.fault.FeedFault.{FeedFault}
-use Rattle.cube_feed.specs.declared.fault.FeedFault.TheVariants.{Memory, Read, Header, TooMany, OpenQuote}
+use Rattle.cube_feed.specs.declared.fault.FeedFault.TheVariants.{Memory, Read, Header, TooMany, OpenQuote, LongRecord}
 use Rattle.cube_rings.specs.Link.{Sending}
 use Rattle.cube_rings.specs.Parcels.{lines_of, sends}
 use Rattle.cube_rings.specs.Feeding.{AreAll, Stops, SendsAll, AreReceipts, Feeds}
@@ -91,6 +91,8 @@ stops-fault (Some rest) now new items TooMany so gives =
     so_far-nothing rest so.0 items (Some TooMany) so.2 (rw so.1 at gives)
 stops-fault (Some rest) now new items (OpenQuote number) so gives =
     so_far-nothing rest so.0 items (Some (OpenQuote number)) so.2 (rw so.1 at gives)
+stops-fault (Some rest) now new items (LongRecord number) so gives =
+    so_far-nothing rest so.0 items (Some (LongRecord number)) so.2 (rw so.1 at gives)
 
 -- one item more was sent
 pub has_sent-more : (rest now new : KnownRest) (a b c : List (Sending Parcel)) (item : Item) → HasSent rest now a b

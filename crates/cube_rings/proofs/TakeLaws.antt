@@ -15,7 +15,7 @@ use Rattle.cube_rings.specs.declared.fault.FeedingFault.{FeedingFault}
 use Rattle.cube_rings.specs.declared.fault.FeedingFault.TheVariants as feeding_fault
 use Rattle.cube_feed.specs.Feed.{KnownRest, rest_of_feed}
 use Rattle.cube_feed.specs.declared.fault.FeedFault.{FeedFault}
-use Rattle.cube_feed.specs.declared.fault.FeedFault.TheVariants.{Memory, Read, Header, TooMany, OpenQuote}
+use Rattle.cube_feed.specs.declared.fault.FeedFault.TheVariants.{Memory, Read, Header, TooMany, OpenQuote, LongRecord}
 use Rattle.cube_rings.specs.Link.{Sending, Receiving}
 use Rattle.cube_rings.specs.FeedingAll.{TakesFeeds, ExplainsFeeding, HasReceived}
 use Rattle.cube_rings.specs.Ends.{HasNoStop, IsFirstStop, IsSealed}
@@ -29,6 +29,7 @@ use Rattle.cube_rings.specs.declared.parcel.FeederEnd.{FeederEnd}
 use Rattle.cube_rings.specs.declared.gatherer.Gatherer.{Gatherer}
 use Rattle.cube_rings.proofs.PlaceLaws.{some_of}
 use Rattle.cube_feed.proofs.FaultLaws.{fault_of-None, fault_of-Header, fault_of-TooMany, fault_of-OpenQuote}
+use Rattle.cube_feed.proofs.FaultLaws.{fault_of-LongRecord}
 
 -- ---- lists place by place
 
@@ -77,6 +78,8 @@ stops-fault s (Some bytes) items TooMany stops =
     fault_of-TooMany (feed_of s bytes).end (ap (λ (c : RestOfFeed (Option FeedFault)). c.end) stops)
 stops-fault s (Some bytes) items (OpenQuote number) stops =
     fault_of-OpenQuote (feed_of s bytes).end number (ap (λ (c : RestOfFeed (Option FeedFault)). c.end) stops)
+stops-fault s (Some bytes) items (LongRecord number) stops =
+    fault_of-LongRecord (feed_of s bytes).end number (ap (λ (c : RestOfFeed (Option FeedFault)). c.end) stops)
 
 -- ---- what an end says of the links of its source
 

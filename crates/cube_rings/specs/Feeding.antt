@@ -4,7 +4,7 @@ use Rattle.cube_core.specs.FeedRecords.{RestOfFeed}
 use Rattle.cube_core.specs.declared.change.Item.{Item}
 use Rattle.cube_feed.specs.Feed.{KnownRest}
 use Rattle.cube_feed.specs.declared.fault.FeedFault.{FeedFault}
-use Rattle.cube_feed.specs.declared.fault.FeedFault.TheVariants.{Memory, Read, Header, TooMany, OpenQuote}
+use Rattle.cube_feed.specs.declared.fault.FeedFault.TheVariants.{Memory, Read, Header, TooMany, OpenQuote, LongRecord}
 use Rattle.cube_rings.specs.Link.{Sending}
 use Rattle.cube_rings.specs.Parcels.{parcels_of, sends}
 use Rattle.cube_rings.specs.declared.parcel.Parcel.{Parcel}
@@ -30,6 +30,7 @@ Stops (Some rest) items (Some Read) = AreFirst rest items
 Stops (Some rest) items (Some Header) = AreAll rest items (Some Header)
 Stops (Some rest) items (Some TooMany) = AreAll rest items (Some TooMany)
 Stops (Some rest) items (Some (OpenQuote number)) = AreAll rest items (Some (OpenQuote number))
+Stops (Some rest) items (Some (LongRecord number)) = AreAll rest items (Some (LongRecord number))
 
 -- the items that came of a feed until it stopped were sent on each link, and then the end
 pub record SendsAll (rest : KnownRest) (old new : List (Sending Parcel)) (stop : Option FeedFault) : Type 0 where

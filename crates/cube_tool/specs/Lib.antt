@@ -8,3 +8,4 @@ pub mod Answering
 pub mod Session
 pub mod MergingCubes
 pub mod ShardWord
+pub mod MaxRecord

@@ -160,7 +160,7 @@ pub const WORD_ADVICE: [Advice; 10] = [
 ];
 
 /// Feeds, runs and merges: what was wanted at each code.
-pub const CODE_ADVICE: [Advice; 23] = [
+pub const CODE_ADVICE: [Advice; 24] = [
     Advice {
         code: "F1",
         lines: &[
@@ -187,6 +187,13 @@ pub const CODE_ADVICE: [Advice; 23] = [
         code: "F5",
         lines: &[
             "Close the quote, or write it twice within a quoted field; or the file was cut short.",
+        ],
+    },
+    Advice {
+        code: "F6",
+        lines: &[
+            "Look for a quote that is never closed, or a line end that is missing.",
+            "If such records are meant, raise --max-record, as in --max-record 64M.",
         ],
     },
     Advice {

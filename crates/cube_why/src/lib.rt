@@ -29,8 +29,8 @@ pub use kind::{Kind, kind_of};
 pub use line::{FoundLine, find_line};
 pub use lines::{Lines, lines_of};
 pub use mistakes::{
-    put_advice, put_condition, put_kind, put_word, tell_columns, tell_limit, tell_record,
-    tell_repeated, tell_unclosed,
+    put_advice, put_condition, put_kind, put_word, tell_columns, tell_limit, tell_long_record,
+    tell_record, tell_repeated, tell_unclosed,
 };
 pub use refused::{Refused, refused_line, refused_of, refused_unread, unclosed_line};
 pub use report::Report;

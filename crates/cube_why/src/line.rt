@@ -107,6 +107,19 @@ pub(crate) fn place_words(alloc: Global, line: u64, record: u64) -> Result<Vec<u
     all_of(alloc, &[b"line ", &line, b" (record ", &number, b")"])
 }
 
+/// Where a record stands: its line, where that is known, and its number, or that it is the header. The only error is that
+/// memory ran out.
+pub(crate) fn record_words(alloc: Global, line: u64, record: u64) -> Result<Vec<u8>, AllocError> {
+    if record > 0 {
+        return place_words(alloc, line, record);
+    }
+    if line == 0 {
+        return owned(alloc, b"the header");
+    }
+    let line = decimal(alloc, line)?;
+    all_of(alloc, &[b"line ", &line, b" (the header)"])
+}
+
 /// That a quote in the last record of a file is never closed, behind the name of the file. The only error is that memory ran
 /// out.
 pub(crate) fn unclosed_words(alloc: Global, lines: &Lines) -> Result<Vec<u8>, AllocError> {

@@ -3,7 +3,7 @@ use crate::advice::{
     CODE_ADVICE, KIND_ADVICE, SCHEMA_ADVICE, STORE_ADVICE, WORD_ADVICE, advice_on,
 };
 use crate::kind::{Kind, kind_of};
-use crate::line::{FoundLine, place_words, told_line, unclosed_words};
+use crate::line::{FoundLine, place_words, record_words, told_line, unclosed_words};
 use crate::lines::{Lines, without_mark};
 use crate::report::{Report, decimal, quoted, shown, with_commas};
 use crate::said::code_words;
@@ -51,6 +51,27 @@ pub fn tell_limit(
         b", ",
         &place,
         b": one data record more than max_records, which is ",
+        &most,
+    ])
+}
+
+/// Adds that a record of a feed has more bytes than one may have, and the line on which it begins, where it is known. The only
+/// error is that memory ran out.
+pub fn tell_long_record(
+    alloc: Global,
+    schema: &Schema,
+    path: &str,
+    number: u64,
+    line: u64,
+    report: &mut Report,
+) -> Result<(), AllocError> {
+    let most = decimal(alloc, schema.max_record_bytes().unwrap_or(0))?;
+    let place = record_words(alloc, line, number)?;
+    report.line(&[
+        path.as_bytes(),
+        b", ",
+        &place,
+        b": more bytes before its line end than a record may have, which is ",
         &most,
     ])
 }

@@ -3,6 +3,7 @@
 #![tactic(auto)]
 
 ghost use Rattle.std.specs.Prelude.{◌≡◌, ◌≤◌, length, vec_len, IfOk, IfSome};
+ghost use Rattle.cube_core.specs.Layout.{IsRecordBound};
 ghost use Rattle.cube_core.specs.Shard.{IsShard};
 ghost use Rattle.cube_tool.specs.Answering.{Fits};
 ghost use Rattle.cube_console.specs.CommandLine.{RunHasRoom, IsInBounds, IsUpTo, LiveHasRoom};
@@ -11,6 +12,7 @@ mod kept;
 mod named;
 mod own_files;
 mod pauses;
+mod reads;
 mod terms;
 mod views;
 mod watch;
@@ -19,6 +21,7 @@ mod why;
 use crate::kept::{ask_kept, serve_kept};
 use crate::named::named_cubes;
 use crate::own_files::{explain_own_file, print_table, write_schema};
+use crate::reads::{Reads, max_record_of, read_so, refuse_max_record, refuse_shard, shard_of};
 use crate::terms::terms_of;
 use crate::views::{mixes_views, refuse_views, told_of, view_of};
 use crate::watch::Watch;
@@ -26,14 +29,14 @@ use crate::why::{say_refused, say_repeated, say_why, says_why, wants_why};
 use cube_build::{Built, Settings};
 use cube_console::{
     Counts, CubeReader, FeedReader, LiveWords, MergeWords, Output, Phase, Progress, Request,
-    RunWords, clashing_words, read_words, unlawful_shard, unreadable_words,
+    RunWords, clashing_words, read_words, unreadable_words,
 };
-use cube_core::{HashKey, Schema, Shard};
+use cube_core::{HashKey, Schema};
 use cube_store_commands::StoredFailure;
 use cube_tool::command::{
     FEED_NOTES, Failure, LATER_NOTES, Question, RUN_NOTES, SCHEMA_NOTES, STORE_NOTES, Status,
     answer_words, ask, check, check_cubes, explain, first_repeated, live, merge_cubes, read_cell,
-    read_dimension, read_pattern, read_schema, read_shard, run_sample,
+    read_dimension, read_pattern, read_schema, run_sample,
 };
 use cube_tool::{InputFault, MergeFault, RunFault};
 use cube_why::code_words;
@@ -189,25 +192,30 @@ fn obey<T: Threads + Wait + Clock + Copy + Send + Sync + 'static>(
     let Some(shard) = shard_of(request) else {
         return told(refuse_shard(rt));
     };
+    let Some(max_record) = max_record_of(request) else {
+        return told(refuse_max_record(rt));
+    };
     if has_clash(request) {
         return told(refuse_clash(rt));
     }
     if mixes_views(request) {
         return told(refuse_views(rt));
     }
-    obey_words(rt, threads, request, shard, progress)
+    let reads = Reads { shard, max_record };
+    obey_words(rt, threads, request, reads, progress)
 }
 
-/// Does what is asked for, over a share of the feeds.
+/// Does what is asked for, over feeds that are read so.
 fn obey_words<T: Threads + Wait + Clock + Copy + Send + Sync + 'static>(
     rt: &HostRuntime,
     threads: &T,
     request: &Request,
-    shard: Shard,
+    reads: Reads,
     progress: &Progress<'_, T, Stderr>,
 ) -> Result<Status, StoredFailure>
     requires bounds { IsInBounds request.now }
-    requires shard { IsShard shard }
+    requires shard { IsShard reads.shard }
+    requires max_record { IfSome reads.max_record IsRecordBound }
 {
     match request {
         Request::Sample => told(print_sample(rt)),
@@ -219,14 +227,14 @@ fn obey_words<T: Threads + Wait + Clock + Copy + Send + Sync + 'static>(
                 rt,
                 threads,
                 run,
-                shard,
+                reads,
                 Asked::Cube { is_partial },
                 progress,
             )
         }
-        Request::Refusals { run } => answer(rt, threads, run, shard, Asked::Refusals, progress),
+        Request::Refusals { run } => answer(rt, threads, run, reads, Asked::Refusals, progress),
         Request::Slice { run, cell } => {
-            answer(rt, threads, run, shard, Asked::Slice { cell }, progress)
+            answer(rt, threads, run, reads, Asked::Slice { cell }, progress)
         }
         Request::Drill {
             run,
@@ -234,7 +242,7 @@ fn obey_words<T: Threads + Wait + Clock + Copy + Send + Sync + 'static>(
             dimension,
         } => {
             let asked = Asked::Drill { cell, dimension };
-            answer(rt, threads, run, shard, asked, progress)
+            answer(rt, threads, run, reads, asked, progress)
         }
         Request::RollUp {
             run,
@@ -242,12 +250,12 @@ fn obey_words<T: Threads + Wait + Clock + Copy + Send + Sync + 'static>(
             dimension,
         } => {
             let asked = Asked::RollUp { cell, dimension };
-            answer(rt, threads, run, shard, asked, progress)
+            answer(rt, threads, run, reads, asked, progress)
         }
-        Request::Live { live } => serve(rt, threads, live, shard, progress),
+        Request::Live { live } => serve(rt, threads, live, reads, progress),
         Request::Merge { merge } => told(merge_files(rt, merge, progress)),
         Request::Schema { words } => told(write_schema(rt, words)),
-        Request::Table { table } => told(print_table(rt, threads, table, shard, progress)),
+        Request::Table { table } => told(print_table(rt, threads, table, reads, progress)),
     }
 }
 
@@ -350,14 +358,15 @@ fn answer<T: Threads + Wait + Clock + Sync>(
     rt: &HostRuntime,
     threads: &T,
     words: &RunWords,
-    shard: Shard,
+    reads: Reads,
     asked: Asked,
     progress: &Progress<'_, T, Stderr>,
 ) -> Result<Status, StoredFailure>
     requires room { RunHasRoom words.now }
-    requires shard { IsShard shard }
+    requires shard { IsShard reads.shard }
+    requires max_record { IfSome reads.max_record IsRecordBound }
 {
-    let schema = schema_of(rt, words.schema, &words.feeds, 1, shard)?;
+    let schema = schema_of(rt, words.schema, &words.feeds, 1, reads)?;
     match words.store {
         Some(path) => ask_kept(rt, threads, words, path, &schema, asked, progress),
         None => told(answer_fed(rt, threads, words, &schema, asked, progress)),
@@ -381,33 +390,6 @@ fn answer_fed<T: Threads + Wait + Clock + Sync>(
         return answer_under(rt, threads, words, &partial, asked, progress);
     }
     answer_under(rt, threads, words, schema, asked, progress)
-}
-
-/// The share of the feeds that is read: the whole, where the words leave it out, and none where they name no share.
-fn shard_of(request: &Request) -> Option<Shard>
-    ensures { IfSome result IsShard }
-{
-    let word = match request {
-        Request::Print { run, .. }
-        | Request::Refusals { run }
-        | Request::Slice { run, .. }
-        | Request::Drill { run, .. }
-        | Request::RollUp { run, .. } => run.shard,
-        Request::Live { live } => live.shard,
-        Request::Table { table } => table.shard,
-        _ => None,
-    };
-    match word {
-        Some(word) => read_shard(word),
-        None => Some(Shard::whole()),
-    }
-}
-
-/// Says that the words name no share.
-fn refuse_shard(rt: &HostRuntime) -> Result<Status, Failure> {
-    let alloc = rt.alloc();
-    let refusal = unlawful_shard(alloc);
-    answer_words(alloc, &refusal, &mut rt.stdout(), &mut rt.stderr())
 }
 
 /// Whether the words name a store, and an option that works on the feeds alone: the partial form, or several builders.
@@ -509,13 +491,14 @@ fn serve<T: Threads + Wait + Clock + Copy + Send + Sync + 'static>(
     rt: &HostRuntime,
     threads: &T,
     words: &LiveWords,
-    shard: Shard,
+    reads: Reads,
     progress: &Progress<'_, T, Stderr>,
 ) -> Result<Status, StoredFailure>
     requires room { LiveHasRoom words.now }
-    requires shard { IsShard shard }
+    requires shard { IsShard reads.shard }
+    requires max_record { IfSome reads.max_record IsRecordBound }
 {
-    let schema = schema_of(rt, words.schema, &words.feeds, 0, shard)?;
+    let schema = schema_of(rt, words.schema, &words.feeds, 0, reads)?;
     match words.store {
         Some(path) => serve_kept(rt, threads, words, path, &schema, progress),
         None => told(serve_fed(rt, threads, words, &schema, progress)),
@@ -645,16 +628,17 @@ fn processors<T: Threads>(rt: &T) -> usize
     }
 }
 
-/// The schema of a command with feeds, which takes their lines of a shard and hashes under a key of the run's own, once it is
-/// seen that there are at most 64 feeds, and that standard input is named so many times at most.
+/// The schema of a command with feeds, which are read so, and which hashes under a key of the run's own, once it is seen that
+/// there are at most 64 feeds, and that standard input is named so many times at most.
 fn schema_of(
     rt: &HostRuntime,
     path: &str,
     feeds: &[&str],
     most_inputs: usize,
-    shard: Shard,
+    reads: Reads,
 ) -> Result<Schema, Failure>
-    requires { IsShard shard }
+    requires shard { IsShard reads.shard }
+    requires max_record { IfSome reads.max_record IsRecordBound }
     ensures { IfOk result (λ _. length feeds.now ≤ 64) }
 {
     if feeds.len() > 64 {
@@ -664,7 +648,7 @@ fn schema_of(
         return Err(Failure::InputTaken);
     }
     let schema = read_schema(rt.alloc(), open_schema(rt, path)?)?;
-    Ok(schema.with_shard(shard).with_hash_key(drawn_key(rt)?))
+    Ok(read_so(schema, reads).with_hash_key(drawn_key(rt)?))
 }
 
 /// How many of a schema's path and other paths name standard input.

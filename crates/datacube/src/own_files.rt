@@ -1,15 +1,17 @@
 //! Files of people's own, whose schema is made of the first of them.
-ghost use Rattle.std.specs.Prelude.{◌≡◌, ◌≤◌, length, vec_len, IfOk};
+ghost use Rattle.std.specs.Prelude.{◌≡◌, ◌≤◌, length, vec_len, IfOk, IfSome};
+ghost use Rattle.cube_core.specs.Layout.{IsRecordBound};
 ghost use Rattle.cube_core.specs.Shard.{IsShard};
 ghost use Rattle.cube_console.specs.CommandLine.{TableHasRoom};
 
+use crate::reads::{Reads, read_so};
 use crate::terms::terms_of;
 use crate::views::{told_of, view_of};
 use crate::watch::Watch;
 use crate::why::{say_columns, says_why};
 use crate::{drawn_key, inputs_among, open_feed, settings_of, tell_refused};
 use cube_console::{Counts, FeedReader, Phase, Progress, SchemaWords, TableWords};
-use cube_core::{Schema, SchemaFault, Shard};
+use cube_core::{Schema, SchemaFault};
 use cube_files::{Asked, GuessFault, SAMPLE_BYTES, schema_text};
 use cube_lines::write_whole;
 use cube_tool::RunFault;
@@ -67,11 +69,12 @@ pub(crate) fn print_table<T: Threads + Wait + Clock + Sync>(
     rt: &HostRuntime,
     threads: &T,
     words: &TableWords,
-    shard: Shard,
+    reads: Reads,
     progress: &Progress<'_, T, Stderr>,
 ) -> Result<Status, Failure>
     requires room { TableHasRoom words.now }
-    requires shard { IsShard shard }
+    requires shard { IsShard reads.shard }
+    requires max_record { IfSome reads.max_record IsRecordBound }
 {
     if words.files.len() > 64 {
         return Err(Failure::TooManyFeeds);
@@ -88,7 +91,7 @@ pub(crate) fn print_table<T: Threads + Wait + Clock + Sync>(
     match made_text(rt.alloc(), &begun.bytes, asked) {
         Ok(text) => {
             let schema = read_schema(rt.alloc(), text.as_bytes())?;
-            let schema = schema.with_shard(shard).with_hash_key(drawn_key(rt)?);
+            let schema = read_so(schema, reads).with_hash_key(drawn_key(rt)?);
             print_under(rt, threads, words, &schema, begun, progress)
         }
         Err(fault) => told(rt, fault, first, &begun.bytes, words.why),

@@ -2,6 +2,7 @@
 //! DATACUBE_WHY ask for it. The files are read again, once the command has failed.
 use crate::own_files::own_schema;
 use crate::path_of;
+use crate::reads::{Reads, max_record_of, read_so};
 use cube_build::Built;
 use cube_console::Request;
 use cube_core::Schema;
@@ -11,8 +12,8 @@ use cube_tool::command::{read_condition, read_schema};
 use cube_why::{
     FoundLine, KIND_ADVICE, Lines, Refused, Report, Said, advice_on, find_line, kind_of, lines_of,
     own_records, put_advice, put_condition, put_kind, put_word, refused_line, refused_of,
-    refused_unread, tell_columns, tell_header, tell_limit, tell_record, tell_repeated, tell_schema,
-    tell_unclosed, unclosed_line,
+    refused_unread, tell_columns, tell_header, tell_limit, tell_long_record, tell_record,
+    tell_repeated, tell_schema, tell_unclosed, unclosed_line,
 };
 use std::alloc::AllocError;
 use std::fs::File;
@@ -141,6 +142,7 @@ fn put_cause(
         Some("F3") => put_header(rt, schema, path, report),
         Some("F4") => put_limit(rt, schema, path, report),
         Some("F5") => put_unclosed(rt, schema, path, report),
+        Some("F6") => put_long_record(rt, schema, path, said.second.unwrap_or(0), report),
         _ => put_kind(path, "", report),
     }
 }
@@ -196,8 +198,16 @@ fn schema_path<'w>(request: &Request<'w>) -> Option<&'w str> {
     }
 }
 
-// The schema of a request, read again; of `table` made again.
+// The schema of a request, whose feeds are read as it says.
 fn schema_again(rt: &HostRuntime, request: &Request) -> Option<Schema> {
+    let schema = plain_schema_again(rt, request)?;
+    let shard = schema.shard();
+    let max_record = max_record_of(request)?;
+    Some(read_so(schema, Reads { shard, max_record }))
+}
+
+// The schema of a request, read again; of `table` made again.
+fn plain_schema_again(rt: &HostRuntime, request: &Request) -> Option<Schema> {
     if let Request::Table { table } = request {
         return own_schema(rt, table);
     }
@@ -290,6 +300,21 @@ fn put_unclosed(
         return put_kind(path, "", report);
     }
     tell_unclosed(rt.alloc(), path, &lines, report)
+}
+
+// Adds which record of a file is too long, or that a quote in it is never closed.
+fn put_long_record(
+    rt: &HostRuntime,
+    schema: &Schema,
+    path: &str,
+    number: u64,
+    report: &mut Report,
+) -> Result<(), AllocError> {
+    let lines = lines_at(rt, schema, path, number);
+    if lines.open > 0 && lines.records == number {
+        return tell_unclosed(rt.alloc(), path, &lines, report);
+    }
+    tell_long_record(rt.alloc(), schema, path, number, lines.line, report)
 }
 
 // The name of the kind of a file, where it is one that isn't read as CSV.

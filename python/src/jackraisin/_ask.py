@@ -14,6 +14,8 @@ from ._schema import Schema, schema_of
 
 Given = Union[Schema, Path]
 Shard = Tuple[int, int]
+# (how many bytes: a number, or a text as 64K)
+Size = Union[int, str]
 Conditions = Union[str, Iterable[str]]
 # (the program says no more of them where a store takes part)
 REFUSED = "lines or changes were refused. jackraisin.refusals shows all."
@@ -25,6 +27,7 @@ def cube(
     *,
     threads: Optional[int] = None,
     shard: Optional[Shard] = None,
+    max_record: Optional[Size] = None,
     partial: bool = False,
     store: Optional[Path] = None,
     wary: bool = False,
@@ -37,10 +40,10 @@ def cube(
     sum and count beside it, so that `merge` makes one cube of several. With a store, the path of the SQLite file of sessions,
     the changes that it keeps come after the feeds, of which there may be none then. With conditions it is the
     cube of the facts of which all of them hold: one as a text, or several, each as `city=York,Leeds` or `cents>=100`
-    (docs/FORMATS.md). Where it is strict, a refused line is a `Failure`, `G7`. `partial` doesn't go with a store. A program
-    that takes more seconds than `timeout` is killed (`TimedOut`); one that wants more bytes of memory than `max_memory` ends
-    by a code (`Failure`)."""
-    options = options_of(threads, shard, store, wary) + chosen(where, strict)
+    (docs/FORMATS.md). A record of a feed may have `max_record` bytes, a number or a text as `64K`; a longer one is a `Failure`,
+    `F6`. Where it is strict, a refused line is one, `G7`. `partial` doesn't go with a store. A program that takes more seconds
+    than `timeout` is killed (`TimedOut`); one that wants more bytes of memory than `max_memory` ends by a code (`Failure`)."""
+    options = options_of(threads, shard, max_record, store, wary) + chosen(where, strict)
     return asked("print", schema, feeds, [], options + ["--partial"] * partial, Limits(timeout, max_memory))
 
 
@@ -51,6 +54,7 @@ def slice(
     *,
     threads: Optional[int] = None,
     shard: Optional[Shard] = None,
+    max_record: Optional[Size] = None,
     store: Optional[Path] = None,
     wary: bool = False,
     where: Conditions = (),
@@ -61,7 +65,7 @@ def slice(
     """The rows that a pattern matches. A dimension that a mapping doesn't name is ALL: `{"city": ANY}` are the totals of
     each city, and of all. Feeds, shard, store, conditions and limits are those of `cube`, here and below."""
     schema = schema_of(schema)
-    options = options_of(threads, shard, store, wary) + chosen(where, strict)
+    options = options_of(threads, shard, max_record, store, wary) + chosen(where, strict)
     return asked("slice", schema, feeds, [word_of(fields_of(schema.dimensions, pattern))], options, Limits(timeout, max_memory))
 
 
@@ -73,6 +77,7 @@ def drill(
     *,
     threads: Optional[int] = None,
     shard: Optional[Shard] = None,
+    max_record: Optional[Size] = None,
     store: Optional[Path] = None,
     wary: bool = False,
     where: Conditions = (),
@@ -83,7 +88,7 @@ def drill(
     """The rows one step below a cell: those with each value of a dimension that is ALL in it."""
     schema = schema_of(schema)
     words = [word_of(fields_of(schema.dimensions, cell)), dimension.encode("utf-8")]
-    options = options_of(threads, shard, store, wary) + chosen(where, strict)
+    options = options_of(threads, shard, max_record, store, wary) + chosen(where, strict)
     return asked("drill", schema, feeds, words, options, Limits(timeout, max_memory))
 
 
@@ -95,6 +100,7 @@ def rollup(
     *,
     threads: Optional[int] = None,
     shard: Optional[Shard] = None,
+    max_record: Optional[Size] = None,
     store: Optional[Path] = None,
     wary: bool = False,
     where: Conditions = (),
@@ -105,7 +111,7 @@ def rollup(
     """The row one step above a cell: the one with ALL at a dimension, or none where that is no cell of the cube."""
     schema = schema_of(schema)
     words = [word_of(fields_of(schema.dimensions, cell)), dimension.encode("utf-8")]
-    options = options_of(threads, shard, store, wary) + chosen(where, strict)
+    options = options_of(threads, shard, max_record, store, wary) + chosen(where, strict)
     return asked("rollup", schema, feeds, words, options, Limits(timeout, max_memory))
 
 
@@ -114,13 +120,14 @@ def refusals(
     feeds: Paths,
     *,
     shard: Optional[Shard] = None,
+    max_record: Optional[Size] = None,
     store: Optional[Path] = None,
     wary: bool = False,
     timeout: Optional[float] = None,
     max_memory: Optional[int] = None,
 ) -> List[Refusal]:
     """The refused lines of feeds, or of one shard of them, and the refused changes of a store."""
-    options = options_of(None, shard, store, wary)
+    options = options_of(None, shard, max_record, store, wary)
     return refusals_of(answer("refusals", schema, feeds, [], options, Limits(timeout, max_memory))[1])
 
 
@@ -147,10 +154,13 @@ def written(cube: Union[Cube, Path], path: str) -> str:
     return path
 
 
-def options_of(threads: Optional[int], shard: Optional[Shard], store: Optional[Path], wary: bool) -> List[Word]:
+def options_of(
+    threads: Optional[int], shard: Optional[Shard], max_record: Optional[Size], store: Optional[Path], wary: bool
+) -> List[Word]:
     """The options of a command with feeds, spelled so that the path of a store isn't taken for one."""
     options: List[Word] = [] if threads is None else ["--threads", str(threads)]
     options += [] if shard is None else ["--shard", f"{shard[0]}/{shard[1]}"]
+    options += [] if max_record is None else [f"--max-record={max_record}"]
     return options if store is None else [*options, f"--store={os.fspath(store)}"] + ["--wary"] * wary
 
 

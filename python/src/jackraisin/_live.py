@@ -11,7 +11,7 @@ import threading
 from types import TracebackType
 from typing import IO, Callable, Iterable, Iterator, List, Optional, Sequence, Tuple, Type, TypeVar, Union
 
-from ._ask import Given, Shard, options_of
+from ._ask import Given, Shard, Size, options_of
 from ._cells import Named, text_of
 from ._changes import SOURCES, Measure, Numbers, Texts, change_record
 from ._cube import Refusal, refusals_of
@@ -29,7 +29,7 @@ class Live(Questions):
 
     Any thread may make changes and ask. A change is sent whole, in the order in which the threads come; a question is
     answered over all changes before it, and those that come meanwhile wait in the pipe. With a shard, the J-th of N as (J, N),
-    changes of the others are left alone. With a store, the path of a SQLite file, each change is kept there and certain
+    changes of the others are left alone. A record of a feed may have `max_record` bytes. With a store, the path of a SQLite file, each change is kept there and certain
     before an answer shows it, and a session over the same schema, feeds and store goes on where the last one ended; a wary
     one supposes nothing of what a torn write leaves.
 
@@ -46,6 +46,7 @@ class Live(Questions):
         *,
         threads: Optional[int] = None,
         shard: Optional[Shard] = None,
+        max_record: Optional[Size] = None,
         store: Optional[Path] = None,
         wary: bool = False,
         timeout: Optional[float] = None,
@@ -59,7 +60,7 @@ class Live(Questions):
         self._asking, self._writing = threading.Lock(), threading.RLock()
         self._told = tempfile.TemporaryFile()
         with self.schema.file() as path:
-            options = options_of(threads, shard, store, wary)
+            options = options_of(threads, shard, max_record, store, wary)
             self._process = self._begun(words_of("live", options, [path, *paths_of(feeds)]))
             self._records = csv.writer(self._input)
             self._ready()

@@ -104,7 +104,7 @@ pub const SCHEMA_NOTES: [Note; 12] = [
 ];
 
 /// The codes of lines, feeds, patterns and cells.
-pub const FEED_NOTES: [Note; 19] = [
+pub const FEED_NOTES: [Note; 20] = [
     Note {
         code: "L1",
         about: "line of a feed",
@@ -181,6 +181,13 @@ pub const FEED_NOTES: [Note; 19] = [
         means: "With `[feed]`: the feed ends within quotes. The number behind the code is the data record in which they are opened and not closed; 0 is the header.",
         mend: "Close the quote; within a quoted field a quote is written twice. Or the file was cut short: fetch the rest of it.",
         example: "",
+    },
+    Note {
+        code: "F6",
+        about: "feed",
+        means: "A record of the feed has more bytes before its line end than `--max-record` says; without it, than 1M where the schema has `[feed]`. The number behind the code is that of the data record; 0 is the header.",
+        mend: "Look for a quote that is never closed, or a line end that is missing. If such records are meant, raise `--max-record`.",
+        example: "datacube print --max-record 64M schema.toml feed.csv",
     },
     Note {
         code: "P1",

@@ -15,6 +15,7 @@ invariant_of-result c =
       grouping_sets = c.self.inside.grouping_sets.items;
       version = c.self.inside.version;
       shard = c.self.inside.shard;
+      max_record_bytes = c.self.inside.max_record_bytes;
       columns = c.self.inside.columns;
       decimals = c.self.inside.decimals.items;
     } in
