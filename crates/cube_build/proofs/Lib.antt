@@ -10,3 +10,4 @@ mod PartLaws
 mod ShareLaws
 mod InterestLaws
 mod SameLaws
+mod CountingLaws

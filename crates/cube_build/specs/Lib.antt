@@ -7,3 +7,5 @@ pub mod Drafts
 pub mod Parts
 pub mod Shares
 pub mod Interest
+pub mod Counting
+pub mod CountedRun

@@ -5,7 +5,7 @@ ghost use Rattle.cube_core.specs.GroupingSet.{sets_of_part};
 ghost use Rattle.cube_core.specs.Takes.{fits};
 ghost use Rattle.cube_core.specs.declared.fact.Fact.{Fact as TheFact};
 ghost use Rattle.cube_cells.specs.Cube.{SameSets};
-ghost use Rattle.cube_build.specs.Builder.{HasFacts, SameBuilder, StandsAt};
+ghost use Rattle.cube_build.specs.Builder.{HasFacts, IsBuilder, SameBuilder, StandsAt};
 ghost use Rattle.cube_ledger.specs.Ledger.{AllFit, AtSource, Enters, Exchanges, IsRemoval, account_of, all_facts, code_in};
 
 use crate::fill::{fill_cube, fill_cube_with};
@@ -192,6 +192,15 @@ impl Builder<Summary> {
         let mut cube = cube;
         fill_cube_with(rt, threads, &mut cube, &ledger)?;
         Ok(Builder { ledger, cube })
+    }
+
+    /// The ledger and the cube.
+    pub(crate) fn into_parts(self) -> (Ledger, Cube<Summary>)
+        ensures ledger { result.0 ≡ self.ledger }
+        ensures cube { result.1 ≡ self.cube }
+        ensures is { IsBuilder self.ledger self.cube }
+    {
+        (self.ledger, self.cube)
     }
 }
 

@@ -7,6 +7,8 @@ ghost use Rattle.cube_build.specs.Shares.{TakenInParts};
 
 use crate::builder::Builder;
 use crate::built::Built;
+use crate::counting::{count_where, need_no_book};
+use crate::counts::Counts;
 use crate::draft::{Draft, new_drafts};
 use crate::making::{Making, make_all};
 use crate::shares::feed_in_shares;
@@ -97,9 +99,33 @@ pub fn build<T: Threads + Wait + Sync, R: Read + Drop + Send, G: Gate + Sync>(
 }
 
 /// Builds the feeds as [`build`] does, and counts the facts of interest alone: those that survive and of which all conditions
-/// hold. They are looked for once the feeds have ended, so refusals and faults are the same whatever the conditions; with no
-/// condition nothing is looked at.
+/// hold. Refusals and faults are the same whatever the conditions; with no condition nothing is looked at.
+///
+/// Where the feeds need no book, since each record is an insert under its number, one builder counts each fact as it is
+/// taken, on the caller's thread, and nothing is kept of it.
 pub fn build_where<T: Threads + Wait + Sync, R: Read + Drop + Send, G: Gate + Sync>(
+    rt: &T,
+    alloc: Global,
+    schema: &Schema,
+    readers: Vec<R>,
+    settings: &Settings,
+    gate: &G,
+    conditions: &[Condition],
+) -> Result<Built, FeedingFault>
+    requires readers { (1 ≤ vec_len readers) × (vec_len readers ≤ 64) }
+    ensures ok { IfOk result (BuildsWhere schema.now conditions.now
+        (map R.Read.remaining readers.items) settings.now.builders) }
+    ensures schema { IfOk result (λ built. schema_of_run built ≡ schema.now) }
+    ensures err { IfErr result (ExplainsFeeding schema.now (map R.Read.remaining readers.items)) }
+{
+    if settings.builders() == 1 && need_no_book(schema) {
+        return count_where(rt, alloc, schema, readers, settings, gate, conditions);
+    }
+    build_kept(rt, alloc, schema, readers, settings, gate, conditions)
+}
+
+// Builds them by ledgers, and looks for the facts of interest once the feeds have ended.
+fn build_kept<T: Threads + Wait + Sync, R: Read + Drop + Send, G: Gate + Sync>(
     rt: &T,
     alloc: Global,
     schema: &Schema,
@@ -149,7 +175,7 @@ fn lone(alloc: Global, builder: Builder<Summary>) -> Result<Making, AllocError>
     ensures links { IfOk result (λ making. making.links.items ≡ []) }
 {
     let mut making = Making::with_room(alloc, 1)?;
-    making.builders.push(builder)?;
+    making.builders.push(Counts::of(builder))?;
     Ok(making)
 }
 

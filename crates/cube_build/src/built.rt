@@ -6,7 +6,7 @@ ghost use Rattle.cube_core.specs.declared.key.Row.{Row};
 ghost use Rattle.cube_cells.specs.Rows.{AreRowsInOrder, GivesUnless};
 ghost use Rattle.cube_build.specs.Parts.{AreParts, AreRowsOfRun, IsRowOfRun, schema_of_run, facts_of_run};
 
-use crate::builder::Builder;
+use crate::counts::Counts;
 use crate::joined::{DrillDown, Slice, ordered_parts_with, row_above, rows_of_parts};
 use crate::making::{Links, Making};
 use cube_cells::{OrderedCells, Summary};
@@ -16,13 +16,14 @@ use std::alloc::AllocError;
 use std::marker::Model;
 use std::thread::Threads;
 
-/// The builders of a run, each over the grouping sets of its part, with their inlets, from which all was taken.
+/// What the builders of a run counted, each over the grouping sets of its part, with their inlets, from which all was taken.
 ///
 /// There is at least one, and their cubes are the parts of one cube: that of the facts in the books of builder 0, over
-/// all grouping sets of their schema. The queries answer as that cube would.
+/// all grouping sets of their schema. The queries answer as that cube would. Where the feeds need no book, contracts alone
+/// see the books.
 #[derive(Drop)]
 pub struct Built {
-    builders: Vec<Builder<Summary>>,
+    builders: Vec<Counts>,
     links: Vec<Links>,
 }
 
@@ -53,15 +54,15 @@ impl Built {
         }
     }
 
-    /// The builder of part 0.
-    pub fn builder(&self) -> &Builder<Summary>
+    /// What was counted of part 0.
+    pub fn builder(&self) -> &Counts
         ensures { result.now ≡ slice_index_or self.now.builders 0 result.now }
     {
         &self.builders[0]
     }
 
-    /// The builders, in the order of their parts.
-    pub fn builders(&self) -> &[Builder<Summary>]
+    /// What was counted of the parts, in their order.
+    pub fn builders(&self) -> &[Counts]
         ensures builders { result.now ≡ self.now.builders }
         ensures parts { AreParts result.now }
     {
@@ -72,7 +73,7 @@ impl Built {
     fn schema(&self) -> &Schema
         ensures { result.now ≡ schema_of_run self.now }
     {
-        self.builders()[0].ledger().schema()
+        self.builders()[0].refused().schema()
     }
 
     /// The inlets of a builder, counted from 0; inlet s - 1 is source s.

@@ -2,13 +2,16 @@
 //!
 //! A [`Builder`] keeps a ledger and the cube of its facts, [`Parted`] a ledger and the cubes of parts. Cubes of parts
 //! ([`HoldsCube`]) are asked together, and answer as their whole cube. [`build`] runs a feeder for each source and gives back
-//! what the builders made of the feeds, on threads, [`build_where`] over the facts of interest alone; [`build_plain`] does so
+//! what was counted of the feeds ([`Counts`]), on threads, [`build_where`] over the facts of interest alone; [`build_plain`] does so
 //! on the caller's thread, and [`build_ledger`] builds what a ledger has.
 #![tactic(auto)]
 
 mod builder;
 mod building;
 mod built;
+mod counter;
+mod counting;
+mod counts;
 mod draft;
 mod fill;
 mod joined;
@@ -18,10 +21,12 @@ mod parted;
 mod plain;
 mod shares;
 mod taking;
+mod trace;
 
 pub use builder::Builder;
 pub use building::{build, build_ledger, build_where};
 pub use built::Built;
+pub use counts::Counts;
 pub use cube_rings::{FeedingFault, Gate, OpenGate, Parcel, Settings};
 pub use joined::{
     AsksCube, DrillDown, HoldsCube, Slice, ordered_parts, ordered_parts_with, row_above,

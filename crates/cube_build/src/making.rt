@@ -2,18 +2,17 @@
 ghost use Rattle.std.specs.Prelude.{◌≡◌, ◌<◌, ◌++◌, ◌∷◌, [], ℕ, map, option_map, slice_index_or, vec_len, IfOk, IfSome, OnOk, Option, Some};
 ghost use Rattle.cube_build.specs.Drafts.{IsMadePart};
 
-use crate::builder::Builder;
+use crate::counts::Counts;
 use crate::draft::Draft;
-use cube_cells::Summary;
 use cube_rings::{Gatherer, Inlet, Parcel};
 use std::alloc::{AllocError, Global};
 use std::thread;
 use std::thread::Threads;
 
-/// The builder of a part, with the inlets by which the feeds came.
+/// What was counted of a part, with the inlets by which the feeds came.
 #[derive(Drop)]
 pub(crate) struct MadePart {
-    pub builder: Builder<Summary>,
+    pub builder: Counts,
     pub inlets: Vec<Inlet<Parcel>>,
 }
 
@@ -28,6 +27,7 @@ fn make<T: Threads + Sync>(rt: &T, threads: usize, gatherer: Gatherer<Draft>) ->
         wanting: _,
     } = gatherer;
     let builder = draft.finish(rt, threads).ok()?;
+    let builder = Counts::of(builder);
     Some(MadePart { builder, inlets })
 }
 
@@ -53,10 +53,10 @@ pub(crate) struct Links {
     pub inlets: Vec<Inlet<Parcel>>,
 }
 
-/// The builders of the first parts, in their order, with their inlets.
+/// What was counted of the first parts, in their order, with their inlets.
 #[derive(Drop)]
 pub(crate) struct Making {
-    pub builders: Vec<Builder<Summary>>,
+    pub builders: Vec<Counts>,
     pub links: Vec<Links>,
 }
 
@@ -91,7 +91,8 @@ impl Making {
         Ok(())
     }
 
-    fn keep(&mut self, part: MadePart) -> Result<(), AllocError>
+    /// Keeps one more. The only error is that memory ran out.
+    pub fn keep(&mut self, part: MadePart) -> Result<(), AllocError>
         ensures builders { OnOk result
             (self.new.builders.items ≡ self.old.builders.items ++ part.builder ∷ []) }
         ensures links { OnOk result (map (λ links. links.inlets.items) self.new.links.items

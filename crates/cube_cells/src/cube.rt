@@ -37,7 +37,7 @@ use levels::{Level, new_levels};
 pub use ordered::{OrderedCells, row_of};
 use std::alloc::{AllocError, Global};
 use std::marker::Model;
-use walk::{add_to_sets, find_cell, hold_in_sets, take_from_sets};
+use walk::{add_to_sets, find_cell, gather_in_sets, hold_in_sets, take_from_sets};
 
 /// A cube over facts: for each kept grouping set, the cells of its keys that cover a fact (Gray et al. 1997), and
 /// the grand total where its set is kept.
@@ -180,6 +180,28 @@ impl<N: Numbers> Cube<N> {
             levels,
             alloc,
         })
+    }
+
+    /// Adds a fact that fits, as [`Cube::add`] does. Where memory runs out, or numbers to count the facts of a cell with, no
+    /// cell is to be asked any more.
+    pub fn gather(&mut self, fact: &Fact) -> Result<(), AllocError>
+        requires fits { fits self.old.schema fact.now ≡ true }
+        requires room { self.old.facts + 1 < 2 ^ 64 }
+        ensures added { OnOk result (AddsFact fact.now self.old self.new) }
+        ensures cube { OnOk result
+            ((facts : List Fact) → IsCubeOf self.old facts → IsCubeOf self.new (fact.now ∷ facts)) }
+        ensures schema { self.new.schema ≡ self.old.schema }
+    {
+        let codes = add_codes(self.alloc, &mut self.dictionaries, fact)?;
+        let values = fact.measures.as_slice();
+        let Ok(()) = gather_in_sets(self.alloc, &mut self.levels, &codes, values) else {
+            self.sets = Vec::new(self.alloc);
+            self.levels = Vec::new(self.alloc);
+            self.facts = 0;
+            return Err(AllocError);
+        };
+        self.facts += 1;
+        Ok(())
     }
 
     /// How many facts there are: those added, less those removed. The counts of the cells of each kept set add up

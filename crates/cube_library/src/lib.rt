@@ -13,7 +13,7 @@
 #![tactic(auto)]
 
 pub use cube_build::{
-    Builder, Built, FeedingFault, Gate, OpenGate, Settings, build, build_plain, build_where,
+    Builder, Built, Counts, FeedingFault, Gate, OpenGate, Settings, build, build_plain, build_where,
 };
 pub use cube_cells::{Cell, Cube, KeyedCell, OrderedCells};
 pub use cube_core::{

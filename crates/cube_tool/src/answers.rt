@@ -18,9 +18,9 @@ use crate::command::Failure;
 use crate::fault::TextFault;
 use crate::question::Question;
 use crate::reporter::Reporter;
-use cube_build::{Builder, Built};
-use cube_cells::Summary;
+use cube_build::{Builder, Built, Counts};
 use cube_core::{Key, Pattern, Row, Schema};
+use cube_ledger::Ledger;
 use cube_lines::{write_pieces, write_whole};
 use cube_live::print_refusals;
 use cube_text::{print_cells, print_cells_in_pieces, print_rows};
@@ -182,7 +182,7 @@ pub fn write_refusals<W: Write>(alloc: Global, built: &Built, out: &mut W) -> Re
     ensures { Writes (λ text. text ≡ text_of_refusals (refusals_of_run built.now))
         result (W.contents out.old) (W.contents out.new) }
 {
-    let text = print_refusals(alloc, first_builder(built).ledger())?;
+    let text = print_refusals(alloc, refused_of(built))?;
     write_text(&text, out)
 }
 
@@ -223,9 +223,16 @@ pub(crate) fn has_builder(built: &Built)
     let _builders = built.builders();
 }
 
-/// The builder whose books and refusals are those of what was built.
-pub(crate) fn first_builder(built: &Built) -> &Builder<Summary>
+/// The counts whose books and refusals are those of what was built.
+pub(crate) fn first_builder(built: &Built) -> &Counts
     ensures { result.now.ledger ≡ first_ledger built.now.builders }
 {
     &built.builders()[0]
+}
+
+/// A ledger with the refusals of what was built.
+pub(crate) fn refused_of(built: &Built) -> &Ledger
+    ensures { map (λ account. account.refusals) result.now.accounts ≡ refusals_of_run built.now }
+{
+    first_builder(built).refused()
 }

@@ -457,7 +457,7 @@ fn stands_before(paths: &[&str], count: u64, path: &str) -> bool {
 /// Says how many lines were refused, and what is wrong with the first one, where its file can be read again; and of which files
 /// the last record has a quote that is never closed.
 pub(crate) fn say_refused(rt: &HostRuntime, schema: &Schema, paths: &[&str], built: &Built) {
-    if let Some(refused) = refused_of(built.builder().ledger()) {
+    if let Some(refused) = refused_of(built.builder().refused()) {
         let _ = put_refused(rt, schema, paths, &refused);
     }
 }

@@ -3,15 +3,18 @@ use Rattle.std.proofs.Common.{◌≡◌, ℕ, ◌+◌, ◌-◌, ◌^◌, ◌<◌
 use Rattle.std.proofs.Common.{get_or}
 use Rattle.std.specs.Prelude.{All, IsTrue}
 use Rattle.std.specs.List.{AllZip, list_all}
+use Rattle.std.specs.List.Sorted.{IsStrictlySortedBy}
 use Rattle.std.proofs.lemmas.List.{append-nil}
-use Rattle.cube_core.specs.Layout.{Layout}
+use Rattle.std.proofs.lemmas.List.Elements.{All-nil}
+use Rattle.cube_core.specs.Layout.{IsSchema, Layout}
 use Rattle.cube_core.specs.Takes.{fits}
 use Rattle.cube_core.specs.declared.fact.Fact.{Fact}
 use Rattle.cube_core.proofs.CellKeyLaws.{fits-length}
 use Rattle.cube_cells.specs.Codes.{Dictionaries, IsDictionary}
-use Rattle.cube_cells.specs.Coded.{coded_at, lattice_of}
+use Rattle.cube_cells.specs.Coded.{IsCodedCell, coded_at, lattice_of}
 use Rattle.cube_cells.specs.Cube.{HoldsFact, AddsFact, TakesFact, SameCells, cell_holds}
-use Rattle.cube_cells.specs.Levels.{AddsInLevel, HasRoomInLevel, IsLeveled, SameInLevel, TakesInLevel, cells_of}
+use Rattle.cube_cells.specs.Levels.{AddsInLevel, HasRoomInLevel, IsLeveled, IsOfOneSet, SameInLevel, TakesInLevel}
+use Rattle.cube_cells.specs.Levels.{cells_of}
 use Rattle.cube_cells.specs.Levels.{level_holds, sets_of, table_at}
 use Rattle.cube_cells.specs.Walk.{HasRoom, key_in}
 use Rattle.cube_cells.specs.declared.cube.codes.Codes.{Codes}
@@ -23,6 +26,7 @@ use Rattle.cube_cells.proofs.Cells.StepLaws.{IsCoded-SameCells, IsCoded-SameCell
 use Rattle.cube_cells.proofs.Cells.TableLaws.{AddsIn-AddsInLevel, All-key_of_level, HasKeysIn, SameCoded-SameInLevel}
 use Rattle.cube_cells.proofs.Cells.TableLaws.{TakesIn-TakesInLevel, coded_at-table_at, list_all-key_of_level}
 use Rattle.cube_cells.proofs.Cells.TableLaws.{mask_of_codes-kept_codes}
+use Rattle.cube_cells.proofs.Cells.JoinLaws.{AreApart-nil}
 
 -- the codes of a fact that fits have keys of the kept sets
 HasKeysIn-fits : {N : Type 0} → {schema : Layout} {sets : List ℕ} {facts : ℕ} {old new : Dictionaries}
@@ -142,3 +146,26 @@ sole_level {N} levels first set is one there =
     let alone = one_level levels set (is.tables.sets_are ∙ one) in
     let same : first ≡ alone.0 = there ∙ ap (λ (ls : List (Level N)). get_or ls 0 first) alone.1 in
     (ap (λ (l : Level N). l.set) same ∙ alone.2, alone.3 ∙ ap (λ (l : Level N). l.cells.entries) (sym same))
+
+-- ---- no level
+-- a cube over no grouping set, of no fact
+pub IsLeveled-none : {N : Type 0} (schema : Layout) (sets : List ℕ) (dictionaries : Dictionaries)
+    (levels : List (Level N)) → IsSchema schema → length dictionaries ≡ length schema.dimensions
+    → All IsDictionary dictionaries → sets ≡ [] → levels ≡ [] → IsLeveled schema sets 0 dictionaries levels
+unfolding IsStrictlySortedBy
+IsLeveled-none {N} schema sets dictionaries levels is long texts none empty = rw (none, empty) (record {
+  coded = record {
+    lattice = record {
+      schema = is;
+      sets = All-nil (λ set. set < 2 ^ length schema.dimensions);
+      ascending = tt;
+      dictionaries = long;
+    };
+    texts = texts;
+    distinct = AreApart-nil;
+    each = All-nil (IsCodedCell dictionaries (length schema.measures));
+    total = λ kept. cc kept;
+    counts = λ set among. cc among;
+  };
+  tables = record { sets_are = refl; each = All-nil (λ (level : Level N). IsOfOneSet level) };
+})

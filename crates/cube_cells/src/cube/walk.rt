@@ -135,6 +135,37 @@ pub fn gather_at<N: Numbers>(
     put_cell(alloc, cells, codes, values)
 }
 
+/// Adds a fact with these codes and measures to its cell of each level, where the cells are no longer asked if memory runs
+/// out.
+pub fn gather_in_sets<N: Numbers>(
+    alloc: Global,
+    levels: &mut [Level<N>],
+    codes: &Codes,
+    values: &[Option<i64>],
+) -> Result<(), AllocError>
+    requires { All (HasRoomInLevel codes.now values.now) levels.old }
+    ensures { OnOk result (AllZip (AddsInLevel codes.now values.now) levels.old levels.new) }
+{
+    for place in 0..levels.len() {
+        gather_in_level(alloc, &mut levels[place], codes, values)?;
+    }
+    Ok(())
+}
+
+// Adds to the cell of a level, where the cells are no longer asked if memory runs out.
+fn gather_in_level<N: Numbers>(
+    alloc: Global,
+    level: &mut Level<N>,
+    codes: &Codes,
+    values: &[Option<i64>],
+) -> Result<(), AllocError>
+    requires { HasRoomInLevel codes.now values.now level.old }
+    ensures { OnOk result (AddsInLevel codes.now values.now level.old level.new) }
+{
+    let key = codes.kept(level.set);
+    gather_at(alloc, &mut level.cells, key, values)
+}
+
 // Puts a cell of one fact in.
 fn put_cell<N: Numbers>(
     alloc: Global,

@@ -8,7 +8,7 @@ ghost use Rattle.cube_tool.specs.Answering.{AnswersOn, FailsOn, FailsOnTerms, Fi
 ghost use Rattle.cube_tool.specs.Answering.{question_fault, refusals_of_run, status_over};
 ghost use Rattle.cube_tool.specs.Run.{IsTextOn, OfFeeds, Wrote};
 
-use crate::answers::{answer, first_builder, has_builder};
+use crate::answers::{answer, first_builder, has_builder, refused_of};
 use crate::command::failure::Failure;
 use crate::command::status::{Status, first_refusal, status_of_run};
 use crate::command::terms::Terms;
@@ -152,7 +152,7 @@ fn refuse_none(is_strict: bool, built: &Built) -> Result<(), Failure>
     if !is_strict {
         return Ok(());
     }
-    match first_refusal(first_builder(built).ledger()) {
+    match first_refusal(refused_of(built)) {
         Some((source, refusal)) => Err(Failure::LineRefused {
             source,
             number: refusal.number,

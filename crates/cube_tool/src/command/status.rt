@@ -3,7 +3,7 @@ ghost use Rattle.std.specs.Prelude.{◌≡◌, map};
 ghost use Rattle.cube_tool.specs.Answering.{first_refusal, refusals_of_run};
 ghost use Rattle.cube_tool.specs.Command.{status_after, status_code};
 
-use crate::answers::first_builder;
+use crate::answers::refused_of;
 use cube_build::Built;
 use cube_core::Refusal;
 use cube_ledger::Ledger;
@@ -42,7 +42,7 @@ impl Status {
 pub(crate) fn status_of_run(built: &Built) -> Status
     ensures { result ≡ status_after (refusals_of_run built.now) }
 {
-    status_after(first_builder(built).ledger())
+    status_after(refused_of(built))
 }
 
 /// The first refusal of a ledger, with its source, counted from 1: of the lowest source that has one.

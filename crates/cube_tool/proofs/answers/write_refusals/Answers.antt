@@ -1,9 +1,7 @@
 use Rattle.std.proofs.Common.{ap, refl, ◌∙◌}
 use Rattle.std.proofs.lemmas.Result.{err_from_is_err_and}
 use Rattle.cube_core.specs.Text.{text_of_refusals}
-use Rattle.cube_ledger.specs.Ledger.{LedgerView}
 use Rattle.cube_tool.proofs.AnsweringLaws.{Writes-weaker}
-use Rattle.cube_live.proofs.RefusalLaws.{refusals_of_accounts}
 use Rattle.cube_tool.proofs.answers.write_refusals.Goals as goal
 
 pub returns-in_err-text : goal.returns-in_err-text
@@ -15,6 +13,5 @@ pub returns : goal.returns
 returns g c =
     Writes-weaker c.write_text.result _ _
     (λ text is. is ∙ c.deref.ensures.value ∙ c.in_ok-text.ensures
-    ∙ ap (λ (l : LedgerView). text_of_refusals (refusals_of_accounts l.accounts))
-    (c.ledger.ensures ∙ c.first_builder.ensures))
+    ∙ ap text_of_refusals c.refused_of.ensures)
     c.write_text.ensures

@@ -3,9 +3,9 @@ use Rattle.std.proofs.lemmas.List.{length-map}
 use Rattle.cube_ledger.proofs.InterestLaws.{written-back}
 use Rattle.cube_build.specs.Interest.{BuildsWhere, gathered_of_interest}
 use Rattle.cube_build.proofs.InterestLaws.{builds-seen, builds-where, kept-are-parts, schema-where}
-use Rattle.cube_build.proofs.building.build_where.Given.{Over}
-use Rattle.cube_build.proofs.building.build_where.Goals.{In-Ok, In-Ok-complete, After-of}
-use Rattle.cube_build.proofs.building.build_where.Goals as goal
+use Rattle.cube_build.proofs.building.build_kept.Given.{Over}
+use Rattle.cube_build.proofs.building.build_kept.Goals.{In-Ok, In-Ok-complete, After-of}
+use Rattle.cube_build.proofs.building.build_kept.Goals as goal
 
 -- the settings have a builder
 some : (g : Over) (c : In-Ok g) → 1 ≤ c.args.settings.now.builders

@@ -1,0 +1,92 @@
+//! What a run counted of its feeds.
+ghost use Rattle.std.specs.Prelude.{◌≡◌, length};
+ghost use Rattle.cube_build.specs.Builder.{HasFacts};
+ghost use Rattle.cube_build.specs.Counting.{refusals_in};
+ghost use Rattle.cube_ledger.specs.Ledger.{AllFit, all_facts};
+
+use crate::builder::Builder;
+use crate::joined::HoldsCube;
+use crate::trace::LedgerTrace;
+use cube_cells::{Cube, Summary};
+use cube_ledger::Ledger;
+use std::marker::Model;
+
+/// What a run counted of its feeds: the refusals of each source, and the cube of a part, over the facts that survive.
+///
+/// Contracts see the books too. Where a feed needs no book, nothing in memory is left of it.
+#[derive(Drop)]
+pub struct Counts {
+    refused: Ledger,
+    cube: Cube<Summary>,
+    trace: LedgerTrace,
+}
+
+impl Model for Counts {
+    ghost use Rattle.cube_build.specs.Builder.{BuilderView};
+    ghost use Rattle.cube_build.specs.Counting.{AreCounts};
+
+    ghost Value = { BuilderView };
+
+    ghost view = { λ c. record { ledger = c.trace.ledger; cube = c.cube } };
+
+    ghost invariant = { λ c. AreCounts c.refused c.trace.ledger c.cube };
+}
+
+impl HoldsCube<Summary> for Counts {
+    ghost lattice = { λ c. c.cube };
+
+    fn held(&self) -> &Cube<Summary> {
+        &self.cube
+    }
+}
+
+impl Counts {
+    ghost use Rattle.cube_build.specs.Counting.{AreCounts};
+
+    /// The counts of a ledger that clauses see, of which this has the refusals.
+    pub(crate) fn new(refused: Ledger, cube: Cube<Summary>, trace: LedgerTrace) -> Counts
+        requires { AreCounts refused trace.ledger cube }
+        ensures ledger { result.ledger ≡ trace.ledger }
+        ensures cube { result.cube ≡ cube }
+    {
+        Counts {
+            refused,
+            cube,
+            trace,
+        }
+    }
+
+    /// The counts of a builder, which has the books.
+    pub(crate) fn of(builder: Builder<Summary>) -> Counts
+        ensures { result ≡ builder }
+    {
+        let trace = LedgerTrace::of(builder.ledger());
+        let (ledger, cube) = builder.into_parts();
+        Counts::new(ledger, cube, trace)
+    }
+
+    /// How many facts were counted.
+    pub fn facts(&self) -> u64
+        ensures { result ≡ length (all_facts self.now.ledger.accounts) }
+    {
+        self.cube.facts()
+    }
+
+    /// The cube of the facts that were counted.
+    pub fn cube(&self) -> &Cube<Summary>
+        ensures cube { result.now ≡ self.now.cube }
+        ensures has { HasFacts (all_facts self.now.ledger.accounts) result.now }
+        ensures fit { AllFit self.now.ledger.schema (all_facts self.now.ledger.accounts) }
+        ensures schema { result.now.schema ≡ self.now.ledger.schema }
+    {
+        &self.cube
+    }
+
+    /// A ledger with the schema, the sources and the refusals. Its books may have no fact.
+    pub fn refused(&self) -> &Ledger
+        ensures schema { result.now.schema ≡ self.now.ledger.schema }
+        ensures refusals { refusals_in result.now ≡ refusals_in self.now.ledger }
+    {
+        &self.refused
+    }
+}
