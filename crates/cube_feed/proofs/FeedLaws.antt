@@ -40,7 +40,7 @@ module _ (s : Layout) (columns : FoundColumns) (number : ℕ) where
       → is_read s (plain_of s columns (number + 1) fields) ≡ false
       → comes_after s columns number (record { records = fields ∷ rest; end = end })
       ≡ comes_after s columns (number + 1) (record { records = rest; end = end })
-  comes_after-skip fields rest quoted below unread =
+  comes_after-skip fields rest end below unread =
       rw (lt-ltb number s.max_records below, unread)
       (ap (λ (n : ℕ). ends_as s end n (items_after s columns (number + 1) rest)) (omega arith))
 
@@ -50,7 +50,7 @@ module _ (s : Layout) (columns : FoundColumns) (number : ℕ) where
       → comes_after s columns number (record { records = fields ∷ rest; end = end })
       ≡ item_then (record { number = number + 1; what = change_of s (plain_of s columns (number + 1) fields) })
       (comes_after s columns (number + 1) (record { records = rest; end = end }))
-  comes_after-item fields rest quoted below read =
+  comes_after-item fields rest end below read =
       rw (lt-ltb number s.max_records below, read)
       (ap (λ (n : ℕ). item_then (record { number = number + 1; what = change_of s (plain_of s columns (number + 1) fields) })
       (ends_as s end n (items_after s columns (number + 1) rest))) (omega arith))
