@@ -1,5 +1,5 @@
 -- What a reader of records has left, and what taking one does (this project's choice).
-use Rattle.std.specs.Prelude.{◌+◌, length, ◌≡◌, ⊤, ℕ, Bool, true, false, List, [], ◌∷◌, Option, Some, None, option_map}
+use Rattle.std.specs.Prelude.{◌+◌, length, ◌≡◌, ⊤, ℕ, Bool, true, false, List, [], ◌∷◌, Option, Some, None, option_map, if◌then◌else◌}
 use Rattle.csv.specs.Reading.{source_of, reader_config, reader_trim, is_flexible, names_headers, reader_state}
 use Rattle.csv.specs.Reading.{has_failed, Ready, records, records_from, strip_bom}
 use Rattle.csv.specs.declared.parser.Config.{Config}
@@ -22,6 +22,21 @@ records_at config state bytes = records_from config (length bytes + 1) state byt
 pub record RecordsView : Type 0 where
   pub left : Option (List (List (List ℕ)))
   pub fields : List (List ℕ)
+
+-- what a reader of records shows: the records that are left, where it tells its bytes, the fields of the one taken last,
+-- and how many were taken
+pub record ReaderView : Type 0 where
+  pub left : Option (List (List (List ℕ)))
+  pub fields : List (List ℕ)
+  pub taken : ℕ
+
+-- that without the count
+abbrev pub uncounted : ReaderView → RecordsView
+uncounted reader = record { left = reader.left; fields = reader.fields }
+
+-- how many were taken, once one more was or there was none
+abbrev pub taken_by : ℕ → Bool → ℕ
+taken_by taken found = if found then taken + 1 else taken
 
 -- the records that a reader of csv has left
 abbrev pub left_of : {R : Type 0} → (R → Option (List ℕ)) → Reader R → Option (List (List (List ℕ)))

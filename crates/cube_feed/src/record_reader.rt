@@ -1,7 +1,7 @@
 //! The records of a text, one after the other, in one buffer.
-ghost use Rattle.std.specs.Prelude.{◌≡◌, IfOk, IfErr, option_map};
+ghost use Rattle.std.specs.Prelude.{◌≡◌, IfOk, IfErr, OnErr, option_map};
 ghost use Rattle.csv.specs.Records.{fields_of};
-ghost use Rattle.cube_feed.specs.Reading.{Advances, IsReadingFault, records_by};
+ghost use Rattle.cube_feed.specs.Reading.{Advances, IsReadingFault, records_by, taken_by, uncounted};
 
 use crate::fault::FeedFault;
 use crate::record_source::RecordSource;
@@ -16,15 +16,16 @@ use std::marker::Model;
 pub struct RecordReader<R: Read> {
     source: RecordSource<R>,
     row: ByteRecord,
+    taken: u64,
 }
 
 impl<R: Read> Model for RecordReader<R> {
-    ghost use Rattle.cube_feed.specs.Reading.{RecordsView};
+    ghost use Rattle.cube_feed.specs.Reading.{ReaderView};
     ghost use Rattle.csv.specs.Records.{fields_of};
 
-    ghost Value = { RecordsView };
+    ghost Value = { ReaderView };
 
-    ghost view = { λ r. record { left = r.source; fields = fields_of r.row } };
+    ghost view = { λ r. record { left = r.source; fields = fields_of r.row; taken = r.taken } };
 }
 
 impl<R: Read> RecordReader<R> {
@@ -32,22 +33,33 @@ impl<R: Read> RecordReader<R> {
     ///
     /// What is left are the records of the reader's bytes, where it tells them.
     pub fn new(alloc: Global, reader: R, delimiter: u8) -> RecordReader<R>
-        ensures { result.left ≡ option_map (records_by delimiter) (R.remaining reader) }
+        ensures left { result.left ≡ option_map (records_by delimiter) (R.remaining reader) }
+        ensures none { result.taken ≡ 0 }
     {
         RecordReader {
             source: RecordSource::new(alloc, reader, delimiter),
             row: ByteRecord::new(alloc),
+            taken: 0,
         }
     }
 
     /// Takes the next record; false where there is none. It is taken as soon as its line end was read.
     ///
-    /// The error is `Memory` or `Read`, and no record is taken after it.
+    /// The error is `Memory` or `Read`; it takes no record, and none is taken after it.
     pub fn advance(&mut self) -> Result<bool, FeedFault>
-        ensures takes { IfOk result (λ found. Advances self.old.left found self.new) }
+        ensures takes { IfOk result (λ found. Advances self.old.left found (uncounted self.new)) }
+        ensures counts { IfOk result (λ found. self.new.taken ≡ taken_by self.old.taken found) }
+        ensures taken { OnErr result (self.new.taken ≡ self.old.taken) }
         ensures fault { IfErr result IsReadingFault }
     {
-        self.source.advance(&mut self.row)
+        let Some(next) = self.taken.checked_add(1) else {
+            return Err(FeedFault::Memory);
+        };
+        let found = self.source.advance(&mut self.row)?;
+        if found {
+            self.taken = next;
+        }
+        Ok(found)
     }
 
     /// The record that was taken last.
