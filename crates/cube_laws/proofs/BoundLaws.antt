@@ -25,19 +25,22 @@ use Rattle.cube_core.specs.declared.feed_columns.FoundColumns.TheVariants.{InOrd
 up_to_excess-whole : (cfg : Config) (most : ℕ) (s : State) (count : ℕ) (xs : List ℕ)
     → is_exceeded cfg most s count xs ≡ false → up_to_excess cfg most s count xs ≡ xs
 up_to_excess-whole cfg most s count [] short = refl
-up_to_excess-whole cfg most s count (c ∷ xs) short = by (is_between next) (nat_lt count most) short
+up_to_excess-whole cfg most s count (c ∷ xs) short =
+    by (is_between next) (nat_lt count most)
+    (λ so_far. up_to_excess-whole cfg most (step cfg s c).0 so_far xs) short
   where
     next : State
     next = (step cfg s c).0
 
     by : (between below : Bool)
+        → ((so_far : ℕ) → is_exceeded cfg most next so_far xs ≡ false → up_to_excess cfg most next so_far xs ≡ xs)
         → (if between then is_exceeded cfg most next 0 xs
         else if below then is_exceeded cfg most next (count + 1) xs else true) ≡ false
         → (if between then c ∷ up_to_excess cfg most next 0 xs
         else if below then c ∷ up_to_excess cfg most next (count + 1) xs else c ∷ []) ≡ c ∷ xs
-    by true below e = ap (λ (l : List ℕ). c ∷ l) (up_to_excess-whole cfg most next 0 xs e)
-    by false true e = ap (λ (l : List ℕ). c ∷ l) (up_to_excess-whole cfg most next (count + 1) xs e)
-    by false false e = cc e
+    by true below on e = ap (λ (l : List ℕ). c ∷ l) (on 0 e)
+    by false true on e = ap (λ (l : List ℕ). c ∷ l) (on (count + 1) e)
+    by false false on e = cc e
 
 pub text_within-whole : (cfg : Config) (bound : Option ℕ) (bytes : List ℕ)
     → option_map_or (λ most. nat_lt most (mark_length bytes)
