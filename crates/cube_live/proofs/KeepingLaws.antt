@@ -1,8 +1,7 @@
 -- What a journal keeps of a session, record by record.
 use Rattle.std.proofs.Common.{◌≡◌, inl, inr, ◌+◌, ℕ, zero, suc, true, false, List, [], ◌∷◌, ◌++◌, take, drop, refl, sym}
-use Rattle.std.proofs.Common.{ap, subst, ◌∙◌, add-one, arith, length-append}
+use Rattle.std.proofs.Common.{ap, subst, ◌∙◌, add-one}
 use Rattle.std.specs.Prelude.{Option, None, Some, IfSome, Result, Ok, Err, OnOk, OnErr, IfErr}
-use Rattle.csv.proofs.WriteFacts.{appends-more}
 use Rattle.cube_core.specs.Arrival.{Arrivals}
 use Rattle.cube_core.specs.FeedRecords.{is_read}
 use Rattle.cube_core.specs.Layout.{Layout}
@@ -10,14 +9,14 @@ use Rattle.cube_feed.specs.Reading.{Advances, RecordsView}
 use Rattle.cube_live.specs.Keeping.{EndsIn, FailsKept, Keeping, KeepsFirst, KeepsOn, KeepsPart, KeepsUpTo}
 use Rattle.cube_live.specs.Keeping.{keeping_after, keeping_by, keeping_changed, keeping_with, made_sure, with_change}
 use Rattle.cube_live.specs.Live.{LiveView, LiveStandsAt}
-use Rattle.cube_live.specs.Serving.{Answered, AnsweredInPart, IsInputFault, IsJournalFault, Replied, ReplyFails}
+use Rattle.cube_live.specs.Serving.{IsInputFault, IsJournalFault, Replied, ReplyFails}
 use Rattle.cube_live.specs.Session.{arrivals_after}
 use Rattle.cube_live.specs.declared.request.Request.{Request}
 use Rattle.cube_live.specs.declared.session.SessionFault.{SessionFault}
 use Rattle.cube_live.specs.declared.session.SessionFault.TheVariants.{Read, TooMany, Full, Write, Journal}
-use Rattle.cube_live.proofs.ReplyLaws.{AreReplies-more, take-next}
+use Rattle.cube_live.proofs.ReplyLaws.{take-next}
 use Rattle.cube_live.proofs.ServingLaws.{Went, Went-Answered, Went-more, Went-none, none-left, take-none_left}
-use Rattle.cube_live.proofs.ServingLaws.{take-past, taken-next}
+use Rattle.cube_live.proofs.ServingLaws.{Answered-same, AnsweredInPart-next, taken-next}
 
 -- what is kept after records, and after more
 pub keeping_after-append : (s : Layout) (k : Keeping) (some more : List (List (List ℕ)))
@@ -26,7 +25,7 @@ keeping_after-append s k [] more = refl
 keeping_after-append s k (fields ∷ some) more = keeping_after-append s (keeping_with s k fields) some more
 
 -- the first records, with the one that was taken next
-take-longer : (records : List (List (List ℕ))) (count : ℕ) (left : Option (List (List (List ℕ)))) (view : RecordsView)
+pub take-longer : (records : List (List (List ℕ))) (count : ℕ) (left : Option (List (List (List ℕ)))) (view : RecordsView)
     → left ≡ Some (drop count records) → Advances left true view
     → take (count + 1) records ≡ take count records ++ view.fields ∷ []
 take-longer records count left view is advances =
@@ -228,39 +227,6 @@ module _ {J : Type 0} (keeps breaks : J → J → Keeping → Type 0) where
     HasKept-journal (Some taken) before left live sent (Write total) old new next kept is on = absurd is
 
     -- where a record failed
-    -- what went out of a record that failed, but by a write
-    Answered-same : (records : List (List (List ℕ))) (start : Arrivals) (count : ℕ)
-        (left : Option (List (List (List ℕ)))) (live : LiveView) (sent : ℕ) (old mid new : Option (List ℕ))
-        → Went s records start count left live sent old mid → new ≡ mid → Answered s records start count old new
-    Answered-same records start count left live sent old mid new went same =
-        record { text = went.text; replies = went.replies; written = rw same went.written }
-
-    -- and by one
-    AnsweredInPart-next : (records : List (List (List ℕ))) (start : Arrivals) (count : ℕ)
-        (left : Option (List (List (List ℕ)))) (live : LiveView) (view : RecordsView) (sent total : ℕ)
-        (old mid new : Option (List ℕ))
-        → Went s records start count left live sent old mid
-        → take (count + 1) records ≡ take count records ++ view.fields ∷ []
-        → ReplyFails s (arrivals_after s start (take count records)) view.fields sent (Write total) mid new
-        → (part : AnsweredInPart s records start total old new) × (part.count ≡ count + 1)
-    AnsweredInPart-next records start count left live view sent total old mid new went longer fails =
-        let reply : List ℕ = fails.0 in
-        let part : ℕ = fails.2.0 in (
-          record {
-            count = count + 1;
-            text = went.text ++ reply;
-            replies = rw longer
-                (AreReplies-more s start (take count records) view.fields went.text reply went.replies fails.1);
-            within = omega (arith, fails.2.1, fails.2.2, went.counted, length-append went.text reply);
-            written =
-                let same : take total (went.text ++ reply) ≡ went.text ++ take part reply =
-                ap (λ n. take n (went.text ++ reply)) (fails.2.2 ∙ ap (λ n. n + part) went.counted)
-                ∙ take-past went.text reply part in
-                rw same (appends-more old mid new went.text (take part reply) went.written fails.2.3);
-          },
-          refl,
-        )
-
     pub HasKept-fails : (first : Option (List (List (List ℕ)))) (before : LiveView)
         (left : Option (List (List (List ℕ)))) (live : LiveView) (view : RecordsView) (sent : ℕ) (fault : SessionFault)
         (old mid new : Option (List ℕ)) (next : J)
@@ -279,14 +245,14 @@ module _ {J : Type 0} (keeps breaks : J → J → Keeping → Type 0) where
       kept.0,
       KeepsUpTo-part taken kept.0 view.fields next (take-longer taken kept.0 left view kept.1 advances) kept.2 ends,
       (λ start stands. let went = kept.3 start stands in
-          Answered-same taken start kept.0 left live sent old mid new went
+          Answered-same s taken start kept.0 left live sent old mid new went
           (fails (arrivals_after s start (take kept.0 taken)) went.stands)),
     )
     HasKept-fails (Some taken) before left live view sent (Journal fault) old mid new next kept advances fails ends = (
       kept.0,
       KeepsUpTo-part taken kept.0 view.fields next (take-longer taken kept.0 left view kept.1 advances) kept.2 ends,
       (λ start stands. let went = kept.3 start stands in
-          Answered-same taken start kept.0 left live sent old mid new went
+          Answered-same s taken start kept.0 left live sent old mid new went
           (fails (arrivals_after s start (take kept.0 taken)) went.stands)),
     )
     HasKept-fails (Some taken) before left live view sent (TooMany source) old mid new next kept advances fails ends =
@@ -296,7 +262,7 @@ module _ {J : Type 0} (keeps breaks : J → J → Keeping → Type 0) where
           (λ start stands.
               let went = kept.3 start stands in
               let why = fails (arrivals_after s start (take kept.0 taken)) went.stands in (
-                Answered-same taken start kept.0 left live sent old mid new went why.0,
+                Answered-same s taken start kept.0 left live sent old mid new went why.0,
                 record {
                   fields = view.fields;
                   rest = rest.0;
@@ -312,6 +278,6 @@ module _ {J : Type 0} (keeps breaks : J → J → Keeping → Type 0) where
           kept.0 + 1,
           KeepsFirst-more taken kept.0 view.fields next longer kept.2 ends,
           (λ start stands. let went = kept.3 start stands in
-              AnsweredInPart-next taken start kept.0 left live view sent total old mid new went longer
+              AnsweredInPart-next s taken start kept.0 left live view sent total old mid new went longer
               (fails (arrivals_after s start (take kept.0 taken)) went.stands)),
         )

@@ -7,3 +7,4 @@ mod OpeningLaws
 mod ReplyLaws
 mod ServingLaws
 pub mod KeepingLaws
+mod TakenLaws

@@ -13,7 +13,7 @@ use Rattle.cube_core.specs.declared.change.LineFault.{LineFault}
 use Rattle.cube_feed.specs.Reading.{Advances, RecordsView}
 use Rattle.cube_live.specs.Live.{LiveView, LiveStandsAt, TakesNext, last_number}
 use Rattle.cube_live.specs.Request.{request_of}
-use Rattle.cube_live.specs.Serving.{Answered, LeavesReplies, Serves, ServingFails, Replied, ReplyFails}
+use Rattle.cube_live.specs.Serving.{Answered, AnsweredInPart, LeavesReplies, Serves, ServingFails, Replied, ReplyFails}
 use Rattle.cube_live.specs.Serving.{IsJournalFault, IsInputFault, WritesNone, WritesPart, WritesReply}
 use Rattle.cube_live.specs.Serving.{BreaksReply, ExplainsChange}
 use Rattle.cube_live.specs.Serving.{TakesChange}
@@ -183,6 +183,39 @@ LeavesReplies-ReplyFails s records start count left live view sent (Write total)
           ∙ take-past went.text reply part in
           rw same (appends-more old mid new went.text (take part reply) went.written fails.2.3);
     }
+
+-- what went out of a record that failed, but by a write
+pub Answered-same : (s : Layout) (records : List (List (List ℕ))) (start : Arrivals) (count : ℕ)
+    (left : Option (List (List (List ℕ)))) (live : LiveView) (sent : ℕ) (old mid new : Option (List ℕ))
+    → Went s records start count left live sent old mid → new ≡ mid → Answered s records start count old new
+Answered-same s records start count left live sent old mid new went same =
+    record { text = went.text; replies = went.replies; written = rw same went.written }
+
+-- and by one
+pub AnsweredInPart-next : (s : Layout) (records : List (List (List ℕ))) (start : Arrivals) (count : ℕ)
+    (left : Option (List (List (List ℕ)))) (live : LiveView) (view : RecordsView) (sent total : ℕ)
+    (old mid new : Option (List ℕ))
+    → Went s records start count left live sent old mid
+    → take (count + 1) records ≡ take count records ++ view.fields ∷ []
+    → ReplyFails s (arrivals_after s start (take count records)) view.fields sent (Write total) mid new
+    → (part : AnsweredInPart s records start total old new) × (part.count ≡ count + 1)
+AnsweredInPart-next s records start count left live view sent total old mid new went longer fails =
+    let reply : List ℕ = fails.0 in
+    let part : ℕ = fails.2.0 in (
+      record {
+        count = count + 1;
+        text = went.text ++ reply;
+        replies = rw longer
+            (AreReplies-more s start (take count records) view.fields went.text reply went.replies fails.1);
+        within = omega (arith, fails.2.1, fails.2.2, went.counted, length-append went.text reply);
+        written =
+            let same : take total (went.text ++ reply) ≡ went.text ++ take part reply =
+            ap (λ n. take n (went.text ++ reply)) (fails.2.2 ∙ ap (λ n. n + part) went.counted)
+            ∙ take-past went.text reply part in
+            rw same (appends-more old mid new went.text (take part reply) went.written fails.2.3);
+      },
+      refl,
+    )
 
 -- a second part of bytes that failed, after a first that went out
 pub WritesNone-second : (line text : List ℕ) (sent before : ℕ) (fault : SessionFault) (old mid new : Option (List ℕ))

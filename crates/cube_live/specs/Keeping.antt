@@ -109,6 +109,22 @@ LeavesAt s records start (Write sent) count old new =
     (part : AnsweredInPart s records start sent old new) × (part.count ≡ count)
 LeavesAt s records start (Journal fault) count old new = Answered s records start count old new
 
+-- how many records stand before where a session failed so, which had taken so many:
+-- all of them, or all but the one in hand; a failed write cuts off the reply to the last of them
+abbrev pub IsAtTaken : SessionFault → ℕ → ℕ → Type 0
+IsAtTaken Read count taken = taken ≡ count
+IsAtTaken (TooMany source) count taken = taken ≡ count + 1
+IsAtTaken Full count taken = (taken ≡ count) ⊎ (taken ≡ count + 1)
+IsAtTaken (Write sent) count taken = taken ≡ count
+IsAtTaken (Journal fault) count taken = (taken ≡ count) ⊎ (taken ≡ count + 1)
+
+-- a session failed so, wherever the cube stood: its reader had given so many records before, and so many after it,
+-- and the replies to all that it took went out, but to the one in hand
+abbrev pub LeavesTaken : Layout → List (List (List ℕ)) → LiveView → SessionFault → ℕ → ℕ → Option (List ℕ)
+    → Option (List ℕ) → Type 0
+LeavesTaken s records before fault given taken old new = (count : ℕ) × IsAtTaken fault (given + count) taken
+    × ((start : Arrivals) → LiveStandsAt before start → LeavesAt s records start fault count old new)
+
 -- a session failed so after some of its records:
 -- its journal kept what these have it keep, and the replies to them went out, wherever the cube stood
 abbrev pub FailsKept : {J : Type 0} → (J → J → Keeping → Type 0) → (J → J → Keeping → Type 0) → J → J → Layout

@@ -3,10 +3,10 @@ ghost use Rattle.std.specs.Prelude.{◌≡◌, ◌≤◌, ◌<◌, ◌+◌, ◌^
 ghost use Rattle.std.specs.Io.KnownBytes.{Appends};
 ghost use Rattle.csv.specs.Records.{fields_of};
 ghost use Rattle.cube_core.specs.Arrival.{Arrivals};
-ghost use Rattle.cube_feed.specs.Reading.{Advances};
+ghost use Rattle.cube_feed.specs.Reading.{Advances, taken_by, uncounted};
 ghost use Rattle.cube_core.specs.FeedRecords.{is_read};
 ghost use Rattle.cube_core.specs.Layout.{Layout};
-ghost use Rattle.cube_live.specs.Keeping.{EndsIn, FailsKept, KeepsOn, keeping_after, keeping_changed, keeping_with, made_sure, with_change};
+ghost use Rattle.cube_live.specs.Keeping.{EndsIn, FailsKept, KeepsOn, LeavesTaken, keeping_after, keeping_changed, keeping_with, made_sure, with_change};
 ghost use Rattle.cube_live.specs.Live.{CanAsk, LiveStandsAt, TakesNext};
 ghost use Rattle.cube_live.specs.Serving.{ExplainsChange, IsInputFault, IsJournalFault, Replied, ReplyFails, Serves, ServingFails, TakesChange, WritesNone, WritesPart, WritesReply, BreaksReply};
 ghost use Rattle.cube_live.specs.declared.request.Request.TheVariants as request;
@@ -58,7 +58,8 @@ impl From<AllocError> for SessionFault {
 /// followed them. Where the input rests before a record, the journal makes sure of all changes too.
 ///
 /// However it ends, the journal keeps the changes among a first part of the records, and has made sure of all that stood
-/// before any answer of which a byte went out.
+/// before any answer of which a byte went out. Where it fails the replies to all records that were taken went out, but to
+/// the one in hand, and where the writing fails the first bytes of them.
 pub fn serve<T: Threads + Sync, R: Read, P: Rests, W: Write, J: Journal>(
     rt: &T,
     alloc: Global,
@@ -76,6 +77,9 @@ pub fn serve<T: Threads + Sync, R: Read, P: Rests, W: Write, J: Journal>(
         KeepsOn J.keeps J.keeps journal.old (λ k. made_sure (keeping_after live.old.schema k taken)) journal.new)) }
     ensures err_kept { IfErr result (λ fault. IfSome records.old.left (λ taken.
         FailsKept J.keeps J.breaks journal.old journal.new live.old.schema taken live.old fault
+        (W.contents out.old) (W.contents out.new))) }
+    ensures reached { IfErr result (λ fault. IfSome records.old.left (λ taken.
+        LeavesTaken live.old.schema taken live.old fault records.old.taken records.new.taken
         (W.contents out.old) (W.contents out.new))) }
     ensures schema { live.new.schema ≡ live.old.schema }
 {
@@ -105,7 +109,9 @@ pub fn serve<T: Threads + Sync, R: Read, P: Rests, W: Write, J: Journal>(
 
 // Takes the next record, if there is one.
 fn advance<R: Read>(records: &mut RecordReader<R>) -> Result<bool, SessionFault>
-    ensures takes { IfOk result (λ found. Advances records.old.left found records.new) }
+    ensures takes { IfOk result (λ found. Advances records.old.left found (uncounted records.new)) }
+    ensures counts { IfOk result (λ found. records.new.taken ≡ taken_by records.old.taken found) }
+    ensures taken { OnErr result (records.new.taken ≡ records.old.taken) }
     ensures fault { IfErr result IsInputFault }
 {
     match records.advance() {

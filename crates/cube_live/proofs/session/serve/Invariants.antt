@@ -1,6 +1,7 @@
 use Rattle.std.proofs.Common.{◌≡◌}
 use Rattle.cube_live.proofs.KeepingLaws.{HasKept}
 use Rattle.cube_live.proofs.ServingLaws.{HasGone}
+use Rattle.cube_live.proofs.TakenLaws.{HasTaken}
 use Rattle.cube_live.proofs.session.serve.Given as goal
 
 abbrev pub invariant-loop-turn : goal.invariant-loop-turn
@@ -11,4 +12,6 @@ invariant-loop-turn g l = record {
       (g.W.Write.contents l.initial.out) (g.W.Write.contents l.out);
   gone : HasGone l.initial.live.schema l.initial.records.left l.initial.live l.records.left l.live l.sent
       (g.W.Write.contents l.initial.out) (g.W.Write.contents l.out);
+  taken : HasTaken l.initial.live.schema l.initial.records.left l.initial.live l.records.left l.live
+      l.initial.records.taken l.records.taken l.sent (g.W.Write.contents l.initial.out) (g.W.Write.contents l.out);
 }

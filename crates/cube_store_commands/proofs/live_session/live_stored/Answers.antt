@@ -19,8 +19,8 @@ returns-in-Ok-served-clause-ok g c =
     (g.S.Store.view c.in-Ok-served.journal.store)
     c.status_after.result _ _ c.in-Ok.ensures.schema c.ledger.ensures.live
     (rw c.ledger.ensures.value at c.status_after.ensures)
-    (rw c.new-records.ensures at c.in-Ok-served.ensures.schema)
-    (rw (c.new-records.ensures, c.deref.ensures.value) at c.in-Ok-served.ensures.ok))
+    (rw c.new-records.ensures.left at c.in-Ok-served.ensures.schema)
+    (rw (c.new-records.ensures.left, c.deref.ensures.value) at c.in-Ok-served.ensures.ok))
 
 pub returns-clause-err : goal.returns-clause-err
 returns-clause-err g c = rw c.from-in-Err-served.ensures
@@ -29,7 +29,7 @@ returns-clause-err g c = rw c.from-in-Err-served.ensures
     (g.W.Write.contents c.args.out.now) (g.W.Write.contents c.serve_stored-served.new.out)
     c.in-Ok.live c.in-Ok.ensures.ok (g.S.Store.recovers c.args.feeds.store)
     c.in-Err-served.fault _ _ c.in-Ok.ensures.schema
-    (rw (c.new-records.ensures, c.deref.ensures.value) at c.in-Err-served.ensures.err))
+    (rw (c.new-records.ensures.left, c.deref.ensures.value) at c.in-Err-served.ensures.err))
 
 pub returns-in-Err-clause-unwritten : goal.returns-in-Err-clause-unwritten
 returns-in-Err-clause-unwritten g c = rw c.from.ensures
