@@ -57,6 +57,10 @@ SESSION = [
 ]
 STATUS = {"S": 3, "P": 2, "G": 1, "Q": 1, "M": 1}
 MEMORY = [r"S1", r"G1", r"G2", r"G3 \d+ F1", r"G4", r"P6", r"M1"]
+# (the stages of a run over feeds, by the first word that is told where memory is wanting in one: before a record is read, while threads
+# are started, and from then on; nothing of an earlier stage is told of a later call)
+STAGES = {"G1": 1, "G2": 2, "G3": 3, "G4": 3}
+RUNS = ([], ["print"], ["slice"], ["drill"], ["rollup"], ["refusals"], ["live"])
 READS = [r"G3 \d+ F2", r"schema unreadable", r"feed \d+ unreadable", r"Q3", r"M3 \d+( \d+)?"]
 # (what the short form refuses memory, reads and writes; threads are refused everywhere)
 SHORT = ("no words", "check", "print, one fact", "print, 3 feeds, 2 builders", "print, by names", "slice", "live", "schema", "table", "merge")
@@ -145,6 +149,17 @@ def why_wrong(answer, whole, codes, ends_of=no_ends):
     return None
 
 
+def why_out_of_order(told, command):
+    """Why these codes, told of one call after another that was given no memory, aren't those of the stages of a run in their
+    order; how many they are where they are."""
+    stages = [STAGES[it.split()[0]] for it in told if it and it.split()[0] in STAGES]
+    if stages != sorted(stages):
+        return f"an earlier stage is told after a later one: {' '.join(it or '-' for it in told)}"
+    if command in RUNS and not {1, 3} <= set(stages):
+        return f"a stage of a run is never told: {' '.join(it or '-' for it in told)}"
+    return len(told)
+
+
 class Trials:
     """Trials of a program, by their names: each a call with its arguments, which gives why it fails, a number that it tells, or None."""
 
@@ -167,13 +182,15 @@ class Trials:
         whole = self.program.run(words, given)
         if whole.status not in (0, 4):
             return f"without a refusal: status {whole.status}, {whole.err[:200]!r}"
+        told = []
         for turn in range(1, limit):
             answer = self.program.run(words, given, refuse=f"{kind} {turn}", short=short)
             why = why_wrong(answer, whole, codes, ends_of)
             if why:
                 return f"{kind} {turn}: {why}"
             if not answer.was_refused:
-                return turn - 1
+                return why_out_of_order(told, words[:1]) if kind == "alloc" else turn - 1
+            told.append(answer.code())
         return f"more than {limit} calls"
 
 

@@ -47,6 +47,26 @@ impl Gate for Flow {
     }
 }
 
+/// Holds a builder after its first parcel until the fourth is offered: two have to find room in the link before.
+#[derive(Drop)]
+pub struct Ahead {
+    pub offered: Turn,
+}
+
+impl Gate for Ahead {
+    fn before_offer(&self, _source: u32, _builder: u32, k: u64) {
+        if k == 4 {
+            self.offered.begin();
+        }
+    }
+
+    fn after_take(&self, _source: u32, _builder: u32, k: u64) {
+        if k == 1 {
+            self.offered.hold();
+        }
+    }
+}
+
 /// Holds each of two builders after its first parcel until the other has taken its own.
 #[derive(Drop)]
 pub struct Apart {

@@ -1,5 +1,5 @@
 //! Threads that meet.
-use crate::gates::{Apart, Flow, Late, Meet};
+use crate::gates::{Ahead, Apart, Flow, Late, Meet};
 use crate::texts::fault_of_build;
 use crate::turn::Turn;
 use cube_core::Schema;
@@ -41,6 +41,19 @@ fn a_feeder_sends_while_its_builder_takes(rt: HostRuntime) -> Result<(), Fail> {
     let fault = fault_of_build(&rt, alloc, &schema, &[THREE], 1, 1, &gate);
     assert_eq!(rt; fault, None);
     assert!(rt; gate.taken.was_met());
+    Ok(())
+}
+
+#[test]
+fn a_feeder_goes_on_while_its_link_has_room(rt: HostRuntime) -> Result<(), Fail> {
+    let alloc = rt.alloc();
+    let schema = Schema::sample(alloc)?;
+    let gate = Ahead {
+        offered: Turn::new(),
+    };
+    let fault = fault_of_build(&rt, alloc, &schema, &[THREE], 2, 1, &gate);
+    assert_eq!(rt; fault, None);
+    assert!(rt; gate.offered.was_met());
     Ok(())
 }
 
