@@ -11,7 +11,7 @@ use Rattle.csv.specs.declared.parser.State.TheVariants as st
 use Rattle.cube_core.specs.FeedRecords.{FeedEnd, Good, WrongHeader, TooManyRecords, WithinQuotes, RecordTooLong, RestOfFeed}
 use Rattle.cube_core.specs.FeedRecords.{TextEnd, InLongRecord, InQuotes, Whole, end_in_record, feed_end}
 use Rattle.cube_core.specs.FeedRecords.{all_records, config_by, ends_as, ends_in_quotes, feed_of, found_columns, has_long_record}
-use Rattle.cube_core.specs.FeedRecords.{is_read, item_then, items_after, items_of, plain_of, text_end, text_read, whole_records}
+use Rattle.cube_core.specs.FeedRecords.{is_read, item_then, items_after, items_of, plain_of, text_end, whole_records}
 use Rattle.cube_core.specs.Items.{change_of}
 use Rattle.cube_core.specs.Layout.{Layout}
 use Rattle.cube_core.specs.Plain.{delimiter_of}
