@@ -1,5 +1,5 @@
 -- How many bytes a record of a feed may have, as a word names it, or where no word does (this project's choice).
-use Rattle.std.specs.Prelude.{◌==◌, ◌&&◌, ◌-◌, ◌*◌, ◌^◌, nat_le, nat_lt, ℕ, Bool, List, length, take, get_or, Option, Some}
+use Rattle.std.specs.Prelude.{◌==◌, ◌&&◌, ◌-◌, ◌*◌, ◌^◌, nat_le, nat_lt, ℕ, List, length, take, get_or, Option, Some}
 use Rattle.std.specs.Prelude.{None, option_and_then, is_some, if◌then◌else◌}
 use Rattle.cube_core.specs.Layout.{Layout}
 use Rattle.cube_live.specs.Request.{count_of}
