@@ -193,6 +193,11 @@ class Trials:
             told.append(answer.code())
         return f"more than {limit} calls"
 
+    def refused_so_often(self, wanted, *arguments):
+        """Refuses each call of a kind in turn, of which there have to be so many."""
+        made = self.in_turn(*arguments)
+        return made if made == wanted or not isinstance(made, int) else f"{made} calls, and not {wanted}"
+
 
 def feeds(program, schema, records, count):
     data = oracle.encode([schema.header(), *records])
@@ -268,6 +273,9 @@ def refusals_in_turn(trials):
         trials.trial(f"{name}: print, one fact", trials.in_turn, kind, one, [r"G6 \d+"], b"", no_ends, "write 1")
     many = ["print", "--ring", "1", "--builders", "8", "schema.toml", *files]
     trials.trial("threads refused in turn: print, 64 feeds, 8 builders", trials.in_turn, "thread", many, [r"G2"])
+    for command in (["print"], ["slice", "?,=a"]):
+        words = [command[0], "--threads", "1", "schema.toml", *command[1:], *files[:3]]
+        trials.trial(f"threads refused in turn: {command[0]}, 3 feeds, one thread beside theirs", trials.refused_so_often, 3, "thread", words, [r"G2"])
     few = [one[-1]] * 64
     for builders in ("1", "2", "8"):
         words = ["print", "--ring", "1", "--builders", builders, "schema.toml", *few]

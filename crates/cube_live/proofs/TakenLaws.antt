@@ -38,14 +38,13 @@ module _ (s : Layout) where
       → HasTaken s first before view.left after given more total old new
   HasTaken-more None before left live given taken sent after view more total old mid new has advances replied counts =
       tt
-  HasTaken-more (Some records) before left live given taken sent after view more total old mid new has advances replied counts =
-      (
-        has.0 + 1,
-        omega (arith, counts, has.1),
-        (λ start stands. let went = has.2 start stands in
-            Went-more s records start has.0 left live after view sent total old mid new went advances
-            (replied (arrivals_after s start (take has.0 records)) went.stands)),
-      )
+  HasTaken-more (Some records) before left live given taken sent after view more total old mid new has advances replied counts = (
+    has.0 + 1,
+    omega (arith, counts, has.1),
+    (λ start stands. let went = has.2 start stands in
+        Went-more s records start has.0 left live after view sent total old mid new went advances
+        (replied (arrivals_after s start (take has.0 records)) went.stands)),
+  )
 
   -- where the input failed
   pub LeavesTaken-input : (first : Option (List (List (List ℕ)))) (before : LiveView)
@@ -91,54 +90,49 @@ module _ (s : Layout) where
       → more ≡ taken + 1
       → IfSome first (λ records. LeavesTaken s records before fault given more old new)
   LeavesTaken-fails None before left live given taken sent view more fault old mid new has advances fails counts = tt
-  LeavesTaken-fails (Some records) before left live given taken sent view more Read old mid new has advances fails counts =
-      (
-        has.0 + 1,
-        omega (arith, counts, has.1),
-        (λ start stands. absurd (fails (arrivals_after s start (take has.0 records)) (has.2 start stands).stands)),
-      )
-  LeavesTaken-fails (Some records) before left live given taken sent view more Full old mid new has advances fails counts =
-      (
-        has.0,
-        inr (omega (arith, counts, has.1)),
-        (λ start stands. let went = has.2 start stands in
-            Answered-same s records start has.0 left live sent old mid new went
-            (fails (arrivals_after s start (take has.0 records)) went.stands)),
-      )
-  LeavesTaken-fails (Some records) before left live given taken sent view more (Journal why) old mid new has advances fails counts =
-      (
-        has.0,
-        inr (omega (arith, counts, has.1)),
-        (λ start stands. let went = has.2 start stands in
-            Answered-same s records start has.0 left live sent old mid new went
-            (fails (arrivals_after s start (take has.0 records)) went.stands)),
-      )
-  LeavesTaken-fails (Some records) before left live given taken sent view more (TooMany source) old mid new has advances fails counts =
-      (
-        has.0,
-        omega (arith, counts, has.1),
-        (λ start stands.
-            let went = has.2 start stands in
-            let why = fails (arrivals_after s start (take has.0 records)) went.stands in
-            let rest = taken-next (drop has.0 records) view (rw went.left_is at advances) in (
-              Answered-same s records start has.0 left live sent old mid new went why.0,
-              record {
-                fields = view.fields;
-                rest = rest.0;
-                is_next = rest.1;
-                asks = why.1.asked;
-                read = why.1.read;
-                last = why.1.last;
-              },
-            )),
-      )
-  LeavesTaken-fails (Some records) before left live given taken sent view more (Write total) old mid new has advances fails counts =
-      (
-        has.0 + 1,
-        omega (arith, counts, has.1),
-        (λ start stands.
-            let went = has.2 start stands in
-            let longer = take-longer records has.0 left view went.left_is advances in
-            AnsweredInPart-next s records start has.0 left live view sent total old mid new went longer
-            (fails (arrivals_after s start (take has.0 records)) went.stands)),
-      )
+  LeavesTaken-fails (Some records) before left live given taken sent view more Read old mid new has advances fails counts = (
+    has.0 + 1,
+    omega (arith, counts, has.1),
+    (λ start stands. absurd (fails (arrivals_after s start (take has.0 records)) (has.2 start stands).stands)),
+  )
+  LeavesTaken-fails (Some records) before left live given taken sent view more Full old mid new has advances fails counts = (
+    has.0,
+    inr (omega (arith, counts, has.1)),
+    (λ start stands. let went = has.2 start stands in
+        Answered-same s records start has.0 left live sent old mid new went
+        (fails (arrivals_after s start (take has.0 records)) went.stands)),
+  )
+  LeavesTaken-fails (Some records) before left live given taken sent view more (Journal why) old mid new has advances fails counts = (
+    has.0,
+    inr (omega (arith, counts, has.1)),
+    (λ start stands. let went = has.2 start stands in
+        Answered-same s records start has.0 left live sent old mid new went
+        (fails (arrivals_after s start (take has.0 records)) went.stands)),
+  )
+  LeavesTaken-fails (Some records) before left live given taken sent view more (TooMany source) old mid new has advances fails counts = (
+    has.0,
+    omega (arith, counts, has.1),
+    (λ start stands.
+        let went = has.2 start stands in
+        let why = fails (arrivals_after s start (take has.0 records)) went.stands in
+        let rest = taken-next (drop has.0 records) view (rw went.left_is at advances) in (
+          Answered-same s records start has.0 left live sent old mid new went why.0,
+          record {
+            fields = view.fields;
+            rest = rest.0;
+            is_next = rest.1;
+            asks = why.1.asked;
+            read = why.1.read;
+            last = why.1.last;
+          },
+        )),
+  )
+  LeavesTaken-fails (Some records) before left live given taken sent view more (Write total) old mid new has advances fails counts = (
+    has.0 + 1,
+    omega (arith, counts, has.1),
+    (λ start stands.
+        let went = has.2 start stands in
+        let longer = take-longer records has.0 left view went.left_is advances in
+        AnsweredInPart-next s records start has.0 left live view sent total old mid new went longer
+        (fails (arrivals_after s start (take has.0 records)) went.stands)),
+  )
