@@ -1,7 +1,7 @@
 use Rattle.std.proofs.Common.{◌∙◌, refl}
 use Rattle.std.proofs.lemmas.Result.{IfErr-weaker, err_from_is_err_and, on_ok_weaker}
 use Rattle.cube_feed.specs.Reading.{uncounted}
-use Rattle.cube_live.proofs.ServingLaws.{HasGone-none, HasGone-more, HasGone-all, HasGone-fails}
+use Rattle.cube_live.proofs.ServingLaws.{HasGone-all, HasGone-fails, HasGone-input, HasGone-journal, HasGone-more, HasGone-none}
 use Rattle.cube_live.specs.declared.session.SessionFault.TheVariants.{Full}
 use Rattle.cube_live.proofs.KeepingLaws as laws
 use Rattle.cube_live.proofs.TakenLaws as taken_laws
@@ -167,3 +167,31 @@ returns-clause-reached g c =
     taken_laws.LeavesTaken-input c.args.live.now.schema c.args.records.now.left c.args.live.now
     c.loop-turn.records.left c.loop-turn.live c.args.records.now.taken c.loop-turn.records.taken c.loop-turn.sent
     Full (g.W.Write.contents c.args.out.now) (g.W.Write.contents c.loop-turn.out) c.loop-turn.invariant.taken tt
+
+pub returns-in_err-settle_at_rest-clause-err : goal.returns-in_err-settle_at_rest-clause-err
+returns-in_err-settle_at_rest-clause-err g c =
+    let p = err_from_is_err_and c.from_residual.result c.from_residual.ensures.1 in
+    rw (p.1, p.2)
+    (HasGone-journal c.args.live.now.schema c.args.records.now.left c.args.live.now c.loop-turn.records.left
+    c.loop-turn.live c.loop-turn.sent c.in_err-settle_at_rest.field-0.0 _ _ c.loop-turn.invariant.gone
+    c.in_err-settle_at_rest.ensures.fault)
+
+pub returns-in_err-advance-clause-err : goal.returns-in_err-advance-clause-err
+returns-in_err-advance-clause-err g c =
+    let p = err_from_is_err_and c.from_residual-in_err-advance.result c.from_residual-in_err-advance.ensures.1 in
+    rw (p.1, p.2)
+    (HasGone-input c.args.live.now.schema c.args.records.now.left c.args.live.now c.loop-turn.records.left
+    c.loop-turn.live c.loop-turn.sent c.in_err-advance.field-0.0 _ _ c.loop-turn.invariant.gone
+    c.in_err-advance.ensures.fault)
+
+pub returns-then-not-branch-clause-err : goal.returns-then-not-branch-clause-err
+returns-then-not-branch-clause-err g c =
+    IfErr-weaker c.settle.result _ _ (λ fault is. HasGone-journal c.args.live.now.schema c.args.records.now.left
+    c.args.live.now c.loop-turn.records.left c.loop-turn.live c.loop-turn.sent fault _ _ c.loop-turn.invariant.gone is)
+    c.settle.ensures.fault
+
+pub returns-clause-err : goal.returns-clause-err
+returns-clause-err g c =
+    HasGone-input c.args.live.now.schema c.args.records.now.left c.args.live.now c.loop-turn.records.left
+    c.loop-turn.live c.loop-turn.sent Full (g.W.Write.contents c.args.out.now)
+    (g.W.Write.contents c.loop-turn.out) c.loop-turn.invariant.gone tt
