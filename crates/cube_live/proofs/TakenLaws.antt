@@ -1,5 +1,5 @@
 -- How many of its records a session has taken, and that where it fails all of them stand before that.
-use Rattle.std.proofs.Common.{◌≡◌, inl, inr, ◌+◌, ℕ, true, List, ◌∷◌, ◌++◌, take, drop, arith}
+use Rattle.std.proofs.Common.{◌≡◌, inl, inr, ◌+◌, ℕ, true, List, take, drop, arith}
 use Rattle.std.specs.Prelude.{Option, None, Some, IfSome}
 use Rattle.cube_core.specs.Arrival.{Arrivals}
 use Rattle.cube_core.specs.Layout.{Layout}
