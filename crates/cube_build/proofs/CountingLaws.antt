@@ -17,6 +17,7 @@ use Rattle.std.proofs.lemmas.Map.Keys.{IsDistinct-cons}
 use Rattle.std.proofs.lemmas.Slice.Eq.{bytes_eq-Decides}
 use Rattle.cube_core.specs.Arrival.{Arrivals, of_sources}
 use Rattle.cube_core.specs.Conditions.{hold, of_interest}
+use Rattle.cube_core.specs.GroupingSet.{sets_of_part}
 use Rattle.cube_core.specs.Layout.{Layout}
 use Rattle.cube_core.specs.Refusals.{code_of_fault}
 use Rattle.cube_core.specs.Run.{SourceBytes, AreItemsOf, AreGood}
@@ -30,7 +31,7 @@ use Rattle.cube_core.specs.declared.condition.Condition.{Condition}
 use Rattle.cube_core.specs.declared.fact.Fact.{Fact}
 use Rattle.cube_core.proofs.ListLaws.{AllZip-length}
 use Rattle.cube_core.proofs.ReorderedLaws.{filter-IsPermutation}
-use Rattle.cube_cells.specs.Cube.{AddsFact, IsCubeOf, IsNewLattice, Lattice}
+use Rattle.cube_cells.specs.Cube.{AddsFact, IsCubeOf, IsNewLattice, Lattice, SameSets}
 use Rattle.cube_cells.specs.Fill.{IsCubeOfAll, finest_set}
 use Rattle.cube_ledger.specs.Book.{Entries, IsBook, fact_at, facts_of}
 use Rattle.cube_ledger.specs.Interest.{ledger_of_interest}
@@ -539,6 +540,29 @@ kept-counts conditions refused ledger kept weights finest filled same schema fil
       fit = rw facts (is.counted refl).fit;
       has = rw facts (record { cells = all.cells; facts_are = all.facts_are });
     })
+
+-- and these are its counts
+pub counts-of : (counter : CounterView) (refused : LedgerView) (weights : List ℕ) (finest fresh filled : Lattice)
+    (counts : BuilderView) → counter.is_spent ≡ false
+    → counts.ledger ≡ ledger_of_interest counter.conditions counter.ledger → counts.cube ≡ filled
+    → IsNewLattice refused.schema (sets_of_part 0 1 refused.schema.grouping_sets) fresh → SameSets fresh filled
+    → ((facts : List Fact) → IsCubeOfAll facts finest → IsCubeOfAll facts filled)
+    → IsCounter false counter.conditions refused counter.ledger weights finest → AreCountsOf counter counts
+counts-of counter refused weights finest fresh filled counts unspent kept there new same fills is =
+    let schema : refused.schema ≡ counter.ledger.schema = is.noted.schema in
+    record {
+      unspent = unspent;
+      ledger = kept;
+      over = record {
+        schema = ap (λ (l : Lattice). l.schema) there ∙ same.schema ∙ new.schema_is ∙ schema;
+        sets =
+            ap (λ (l : Lattice). l.sets) there ∙ same.sets ∙ new.sets_are
+            ∙ ap (λ (s : Layout). sets_of_part 0 1 s.grouping_sets) schema;
+      };
+      has = rw there
+          (kept-counts counter.conditions refused counter.ledger counts.ledger weights finest filled kept
+          (same.schema ∙ new.schema_is) fills is).has;
+    }
 
 -- ---- what a run has counted
 

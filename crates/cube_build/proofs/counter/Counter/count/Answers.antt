@@ -1,7 +1,10 @@
-use Rattle.std.proofs.Common.{◌≡◌, ◌∙◌, ap, arith, false, sym}
+use Rattle.std.proofs.Common.{◌≡◌, ◌∙◌, ap, arith, false, length, refl, sym}
 use Rattle.cube_core.specs.Layout.{Layout}
 use Rattle.cube_core.specs.Takes.{fits}
-use Rattle.cube_build.proofs.CountingLaws.{MayPut, counter-putting, counter-spent, counter-unspent}
+use Rattle.cube_ledger.specs.Ledger.{LedgerView, account_of}
+use Rattle.cube_build.specs.Counting.{CounterView, with_entry}
+use Rattle.cube_build.proofs.CountingLaws.{MayPut, counter-putting, counter-spent, counter-unspent, counts-put}
+use Rattle.cube_build.proofs.CountingLaws.{long-account}
 use Rattle.cube_build.proofs.counter.Counter.count.Goals.{In-Ok}
 use Rattle.cube_build.proofs.counter.Counter.count.Goals as goal
 
@@ -38,3 +41,30 @@ invariant_of-self c =
     (ap (λ (s : Layout). fits s c.args.fact.now) (sym c.self.invariant.schema) ∙ admits.fit) admits.gains
     (counter-unspent c.self.inside.is_spent c.self.inside.conditions.now c.self.inside.refused
     c.self.inside.trace.ledger c.self.inside.weights.items c.self.inside.cube unspent c.self.invariant))
+
+pub returns-in-Ok-clause-counts : goal.returns-in-Ok-clause-counts
+returns-in-Ok-clause-counts c =
+    let at = goal.at.returns-in-Ok-clause-counts c in
+    let unspent : c.self.inside.is_spent ≡ false = rw (← c.self.view_is) at c.requires.unspent in
+    let admits = c.in-Ok.ensures.admits in
+    let old : CounterView = record {
+      is_spent = c.self.inside.is_spent;
+      conditions = c.self.inside.conditions.now;
+      ledger = c.self.inside.trace.ledger;
+    } in
+    let new : CounterView = record {
+      is_spent = c.self.inside.is_spent;
+      conditions = c.self.inside.conditions.now;
+      ledger = c.putting-self-inside.result.ledger;
+    } in
+    rw (← c.self.view_is)
+    (counts-put old new c.self.inside.weights.items c.args.source c.args.number c.args.id.now c.args.fact.now unspent
+    refl c.putting-self-inside.ensures (may at.In-Ok) (c.self.invariant.counted unspent).weighed
+    (ap (λ (s : Layout). fits s c.args.fact.now) (sym c.self.invariant.schema) ∙ admits.fit))
+
+pub returns-in-Ok-clause-sources : goal.returns-in-Ok-clause-sources
+returns-in-Ok-clause-sources c =
+    let ledger = c.self.inside.trace.ledger in
+    rw (← c.self.view_is)
+    (ap (λ (l : LedgerView). length l.accounts) c.putting-self-inside.ensures
+    ∙ long-account ledger c.args.source (with_entry (account_of ledger c.args.source) c.args.id.now c.args.fact.now))

@@ -1,5 +1,10 @@
-use Rattle.std.proofs.Common.{◌≡◌, ◌≤◌, arith, false, length, refl}
-use Rattle.cube_build.proofs.CountingLaws.{counter-refusing, counter-spent, counter-unspent, long-refused}
+use Rattle.std.proofs.Common.{◌≡◌, ◌≤◌, ◌∙◌, ap, arith, false, length, refl, sym}
+use Rattle.cube_core.specs.Layout.{Layout}
+use Rattle.cube_core.specs.Refusals.{code_of_fault}
+use Rattle.cube_ledger.specs.Ledger.{LedgerView, account_of, with_refusal}
+use Rattle.cube_build.specs.Counting.{CounterView}
+use Rattle.cube_build.proofs.CountingLaws.{counter-refusing, counter-spent, counter-unspent, counts-fault}
+use Rattle.cube_build.proofs.CountingLaws.{long-account, long-refused}
 use Rattle.cube_build.proofs.counter.Counter.refuse.Goals as goal
 
 -- the source is one of the ledger's that is kept
@@ -28,3 +33,29 @@ invariant_of-self-in-Err c =
     rw c.in-Err.ensures.same (counter-spent c.self.inside.is_spent c.self.inside.conditions.now
     c.self.inside.refused c.self.inside.trace.ledger c.self.inside.weights.items c.self.inside.cube
     c.self.inside.cube refl c.self.invariant)
+
+pub returns-in-Ok-clause-counts : goal.returns-in-Ok-clause-counts
+returns-in-Ok-clause-counts c =
+    let unspent : c.self.inside.is_spent ≡ false = rw (← c.self.view_is) at c.requires.unspent in
+    let old : CounterView = record {
+      is_spent = c.self.inside.is_spent;
+      conditions = c.self.inside.conditions.now;
+      ledger = c.self.inside.trace.ledger;
+    } in
+    let new : CounterView = record {
+      is_spent = c.self.inside.is_spent;
+      conditions = c.self.inside.conditions.now;
+      ledger = c.refusing-self-inside.result.ledger;
+    } in
+    rw (← c.self.view_is)
+    (counts-fault old new c.args.source c.args.number c.args.fault c.in-Ok.code unspent refl
+    c.refusing-self-inside.ensures
+    (ap (λ (s : Layout). code_of_fault s c.args.fault) (sym c.self.invariant.noted.schema) ∙ c.in-Ok.ensures.coded))
+
+pub returns-in-Ok-clause-sources : goal.returns-in-Ok-clause-sources
+returns-in-Ok-clause-sources c =
+    let ledger = c.self.inside.trace.ledger in
+    rw (← c.self.view_is)
+    (ap (λ (l : LedgerView). length l.accounts) c.refusing-self-inside.ensures
+    ∙ long-account ledger c.args.source
+    (with_refusal (account_of ledger c.args.source) c.args.number c.in-Ok.code))
