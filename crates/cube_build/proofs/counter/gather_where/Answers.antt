@@ -13,5 +13,5 @@ pub returns-clause-gains : goal.returns-clause-gains
 returns-clause-gains c =
     let holds : hold c.args.conditions.now c.args.fact.now ≡ true = search rules in
     OnOk-both c.gather.result
-    (λ adds cells. gains-fact c.args.conditions.now c.args.fact.now c.args.cube.now c.gather.new.cube holds adds cells)
+    (λ adds cells. gains-fact c.args.conditions.now c.args.fact.now c.args.cube.now c.gather.new.self holds adds cells)
     c.gather.ensures.added c.gather.ensures.cube

@@ -51,12 +51,13 @@ given g c =
 pub returns-in-Ok-keep_counted-clause-ok : goal.returns-in-Ok-keep_counted-clause-ok
 returns-in-Ok-keep_counted-clause-ok g c =
     subst (λ (n : ℕ). BuildsWhere c.args.schema.now c.args.conditions.now
-    (map g.R.Read.remaining c.args.readers.items) n c.of.result) (sym c.requires.one) (given g c)
+    (map g.R.Read.remaining c.args.readers.items) n c.of.result) (sym c.requires.one)
+    (given g (goal.at.returns-in-Ok-keep_counted-clause-ok g c).After-of)
 
 pub returns-in-Ok-keep_counted-clause-schema : goal.returns-in-Ok-keep_counted-clause-schema
 returns-in-Ok-keep_counted-clause-schema g c =
     schema-where c.args.schema.now c.args.conditions.now (map g.R.Read.remaining c.args.readers.items) 1 c.of.result
-    (omega arith) (given g c)
+    (omega arith) (given g (goal.at.returns-in-Ok-keep_counted-clause-schema g c).After-of)
 
 -- there is a gatherer
 pub swap_remove-requires : goal.swap_remove-requires

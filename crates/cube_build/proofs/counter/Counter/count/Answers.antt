@@ -1,4 +1,5 @@
-use Rattle.std.proofs.Common.{◌≡◌, ◌∙◌, ap, arith, false, length, refl, sym}
+use Rattle.std.proofs.Common.{◌≡◌, ◌≤◌, ◌<◌, ◌-◌, ◌∙◌, ap, arith, false, length, refl, sym}
+use Rattle.std.proofs.lemmas.List.{get_or_default}
 use Rattle.cube_core.specs.Layout.{Layout}
 use Rattle.cube_core.specs.Takes.{fits}
 use Rattle.cube_ledger.specs.Ledger.{LedgerView, account_of}
@@ -22,12 +23,19 @@ invariant_of-self-in-Err c =
 
 -- the source is one of the ledger's, and its last id weighs less
 may : (c : In-Ok) → MayPut c.self.inside.trace.ledger c.self.inside.weights.items c.args.source c.args.id.now
-may c = record {
-  first = c.requires.source.0;
-  last = rw (← c.self.view_is) at c.requires.source.1;
-  long = c.self.invariant.long;
-  heavier = omega (arith, c.weight_of-weight.ensures, c.in-Ok.ensures.admits.heavier);
-}
+may c =
+    let weights = c.self.inside.weights.items in
+    let last : c.args.source ≤ length c.self.inside.trace.ledger.accounts =
+    rw (← c.self.view_is) at c.requires.source.1 in
+    let place : c.args.source - 1 < length weights =
+    omega (arith, c.requires.source.0, last, c.self.invariant.long) in
+    let kept = get_or_default weights (c.args.source - 1) 0 c.index-last.result.now place in
+    record {
+      first = c.requires.source.0;
+      last = last;
+      long = c.self.invariant.long;
+      heavier = omega (arith, kept, c.weight_of-weight.ensures, c.in-Ok.ensures.admits.heavier, c.index-last.ensures);
+    }
 
 -- the fact is counted
 pub invariant_of-self : goal.invariant_of-self
@@ -35,8 +43,8 @@ invariant_of-self c =
     let at = goal.at.invariant_of-self c in
     let unspent : c.self.inside.is_spent ≡ false = rw (← c.self.view_is) at c.requires.unspent in
     let admits = c.in-Ok.ensures.admits in
-    rw (unspent, c.putting-self-inside.ensures, c.weight_of-weight.ensures) (counter-putting c.self.inside.conditions.now
-    c.self.inside.refused c.self.inside.trace.ledger c.args.source c.args.id.now c.args.fact.now
+    rw (unspent, c.putting-self-inside.ensures, c.weight_of-weight.ensures)
+    (counter-putting c.self.inside.conditions.now c.self.inside.refused c.self.inside.trace.ledger c.args.source c.args.id.now c.args.fact.now
     c.self.inside.weights.items c.self.inside.cube c.admit.new.cube (may at.In-Ok)
     (ap (λ (s : Layout). fits s c.args.fact.now) (sym c.self.invariant.schema) ∙ admits.fit) admits.gains
     (counter-unspent c.self.inside.is_spent c.self.inside.conditions.now c.self.inside.refused

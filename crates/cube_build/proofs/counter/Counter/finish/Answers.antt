@@ -16,16 +16,16 @@ counter g c =
     c.self.inside.trace.ledger c.self.inside.weights.items c.self.inside.cube unspent c.self.invariant
 
 pub fill_with-requires-clause-schema : goal.fill_with-requires-clause-schema
-fill_with-requires-clause-schema g c =
+fill_with-requires-clause-schema g c κs within =
     c.self.invariant.schema ∙ sym c.self.invariant.noted.schema
     ∙ sym (c.in_ok-cube.ensures.new.schema_is ∙ c.schema.ensures.value)
 
 pub fill_with-requires-clause-sets : goal.fill_with-requires-clause-sets
-fill_with-requires-clause-sets g c =
+fill_with-requires-clause-sets g c κs within =
     ((counter g (goal.at.fill_with-requires-clause-sets g c).In_ok-cube).counted (search rules)).sets
 
 pub fill_with-requires-clause-facts : goal.fill_with-requires-clause-facts
-fill_with-requires-clause-facts g c = (
+fill_with-requires-clause-facts g c κs within = (
   of_interest c.self.inside.conditions.now (all_facts c.self.inside.trace.ledger.accounts),
   finest-all c.self.inside.conditions.now c.self.inside.refused c.self.inside.trace.ledger
       c.self.inside.weights.items c.self.inside.cube

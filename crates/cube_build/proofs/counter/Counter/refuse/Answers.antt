@@ -23,7 +23,7 @@ invariant_of-self c =
     rw (← c.self.view_is) at c.requires.source.1 in
     rw (unspent, c.refusing-self-inside.ensures) (counter-refusing c.self.inside.conditions.now c.self.inside.refused
     c.note_fault.new.ledger c.self.inside.trace.ledger c.args.source c.args.number c.in-Ok.code
-    c.self.inside.weights.items c.self.inside.cube c.requires.source.0 last c.in-Ok.ensures.noted
+    c.self.inside.weights.items c.self.inside.cube c.requires.source.0 last c.in-Ok.ensures.noted.noted
     (counter-unspent c.self.inside.is_spent c.self.inside.conditions.now c.self.inside.refused
     c.self.inside.trace.ledger c.self.inside.weights.items c.self.inside.cube unspent c.self.invariant))
 
@@ -50,7 +50,8 @@ returns-in-Ok-clause-counts c =
     rw (← c.self.view_is)
     (counts-fault old new c.args.source c.args.number c.args.fault c.in-Ok.code unspent refl
     c.refusing-self-inside.ensures
-    (ap (λ (s : Layout). code_of_fault s c.args.fault) (sym c.self.invariant.noted.schema) ∙ c.in-Ok.ensures.coded))
+    (ap (λ (s : Layout). code_of_fault s c.args.fault) (sym c.self.invariant.noted.schema)
+    ∙ c.in-Ok.ensures.noted.coded))
 
 pub returns-in-Ok-clause-sources : goal.returns-in-Ok-clause-sources
 returns-in-Ok-clause-sources c =
