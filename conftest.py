@@ -18,6 +18,13 @@ sys.path.insert(0, f"{os.path.dirname(os.path.realpath(__file__))}/scripts")
 sys.dont_write_bytecode = True
 # (the status of a part of the gate that says which packages it lacks)
 LEFT_OUT = 77
+# What takes longest, the longest first: files, classes and tests.
+LONGEST = (
+    "test_types", "Wheels", "OfAFollower", "OfASession", "test_spoiled_cubes", "test_sessions_over_a_store", "test_a_package", "Explorer", "test_listening",
+    "test_while_the_follower_is_halted", "test_many_at_once", "test_it_notices_a_change_that_is_made_at_once", "test_it_notices_each_change_of_a_source_or_of_the_program",
+    "test_store_trials", "test_installing", "test_spoiled", "test_commands", "test_progress", "test_postgres_streamed", "test_postgres_store", "Served", "Commands",
+    "test_postgres", "test_sessions", "test_serve", "test_show", "test_shown",
+)
 
 
 def pytest_addoption(parser):
@@ -41,7 +48,9 @@ def pytest_configure(config):
     if not config.option.basetemp and not hasattr(config, "workerinput"):
         # (the folder in which processes that share tests have theirs, which pytest would leave)
         folder = tempfile.TemporaryDirectory(prefix="pytest-")
+        os.chmod(folder.name, 0o755)
         config.option.basetemp = f"{folder.name}/shared"
+        os.environ["DATACUBE_SHARED"] = folder.name
         config.add_cleanup(folder.cleanup)
     # (what the tests of the Python package read)
     if config.option.program:
@@ -52,21 +61,39 @@ def pytest_configure(config):
         config.pluginmanager.register(Tally(), "tally")
 
 
+@pytest.hookimpl(tryfirst=True)
+def pytest_collection_modifyitems(items):
+    """Begins with what takes longest, so that processes which share tests end together. What a class sets up for its tests is made once:
+    they stay in one process."""
+    place = {name: at for at, name in enumerate(LONGEST)}
+    items.sort(key=lambda it: min((place[name] for name in (it.fspath.purebasename, *it.nodeid.split("::")[1:], it.name.partition("[")[0]) if name in place), default=len(place)))
+    for it in items:
+        if it.cls and "setUpClass" in {name for base in it.cls.__mro__[:-1] if base.__module__ != "unittest.case" for name in vars(base)}:
+            it.add_marker(pytest.mark.xdist_group(f"{it.fspath.purebasename}.{it.cls.__name__}"))
+
+
 class Tally:
-    """Counts what passed and failed, and notes why something was left out."""
+    """Counts what passed and failed, in all and of each file, and notes why something was left out."""
 
     def __init__(self):
         self.passed = self.failed = 0
         self.left_out = {}
+        self.files = {}
 
     def pytest_runtest_logreport(self, report):
         if report.when == "call" and report.passed:
             self.passed += dict(report.user_properties).get("cases", 1)
         self.failed += report.failed
+        file = self.files.setdefault(report.nodeid.partition("::")[0], [0, 0, 0])
+        file[0] += report.when == "call" and report.passed
+        file[1] += report.skipped
+        file[2] += report.duration
         self.note(report)
 
     def pytest_collectreport(self, report):
         self.failed += report.failed
+        if report.skipped:
+            self.files[report.nodeid] = [0, 1, 0]
         self.note(report)
 
     def note(self, report):
@@ -78,6 +105,8 @@ class Tally:
             session.exitstatus = LEFT_OUT
 
     def pytest_unconfigure(self):
+        for name, file in self.files.items():
+            print("{}: {} passed, {} left out, {:.0f} seconds".format(name, *file))
         for it in self.left_out:
             print(f"left out: {it}")
         print(f"{self.passed} passed, {self.failed} failed", flush=True)

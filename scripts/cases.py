@@ -41,6 +41,8 @@ No line `out` or `err` means that nothing is written there, and no `status` mean
 """
 import argparse
 import contextlib
+import functools
+import multiprocessing
 import os
 import re
 import resource
@@ -50,7 +52,7 @@ import signal
 import subprocess
 import sys
 import tempfile
-from concurrent.futures import ThreadPoolExecutor
+from concurrent.futures import ProcessPoolExecutor
 
 sys.dont_write_bytecode = True
 import programs
@@ -307,9 +309,25 @@ def give_away(room):
             os.chown(it, 65534, 65534, follow_symlinks=False)
 
 
-def try_case(case, room, folder):
+def become_nobody():
+    """Has a process that root began be nobody, as whom the program is run."""
+    if os.geteuid() == 0:
+        os.setgroups([])
+        os.setregid(65534, 65534)
+        os.setreuid(65534, 65534)
+
+
+def named(case):
+    """The files in cases/files whose names a case has anywhere, and so all that it may reach; the sample schema is in any."""
+    text = repr(vars(case))
+    return [it for it in os.listdir(f"{ROOT}/cases/files") if it in text or it == "sample.toml"]
+
+
+def try_case(case, folder, room):
     """Runs a case in a folder of its own, and says what is wrong, or gives None."""
-    shutil.copytree(f"{ROOT}/cases/files", f"{room}/{folder}")
+    os.mkdir(f"{room}/{folder}")
+    for it in named(case):
+        shutil.copyfile(f"{ROOT}/cases/files/{it}", f"{room}/{folder}/{it}")
     return run(case, f"{room}/{folder}")
 
 
@@ -325,6 +343,8 @@ def room_of(program):
     with tempfile.TemporaryDirectory(prefix="datacube-cases-") as room:
         os.chmod(room, 0o755)
         shutil.copy(program, f"{room}/datacube")
+        if os.geteuid() == 0:
+            os.chown(room, 65534, 65534)
         if program.endswith(".py"):
             # The oracle, which takes the forms of a cube and the schemas of files from files beside it.
             for name in ("views.py", "guess.py", "oracle.py"):
@@ -335,13 +355,13 @@ def room_of(program):
 
 def tried(cases, program, first):
     """Runs the cases on a program, and gives each with what is wrong of it; no more once one failed, where first is so."""
-    with room_of(program) as room, ThreadPoolExecutor(os.cpu_count()) as pool:
-        for start in range(0, len(cases), 16):
-            some = cases[start : start + 16]
-            faults = list(pool.map(lambda at: try_case(some[at], room, start + at), range(len(some))))
-            yield from zip(some, faults)
-            if first and any(faults):
-                return
+    processes = len(os.sched_getaffinity(0))
+    with room_of(program) as room, ProcessPoolExecutor(processes, multiprocessing.get_context("fork"), become_nobody) as pool:
+        faults = pool.map(functools.partial(try_case, room=room), cases, range(len(cases)), chunksize=4)
+        for case, fault in zip(cases, faults):
+            yield case, fault
+            if first and fault:
+                return pool.shutdown(cancel_futures=True)
 
 
 def main(cases_of, program):

@@ -32,7 +32,12 @@ COUNTS = re.compile(r"(\d+) passed, (\d+) failed")
 LEFT_OUT = 77
 # (most share their tests among as many processes as there are processors)
 PARTS_AT_ONCE = 3
-# What pytest alone runs before the proofs, by name, and the files of tests/.
+# (where files lie in memory, and the free bytes there from which on temporary files go there)
+MEMORY, MEMORY_NEEDED = "/dev/shm", 2**31
+# (what of a part of tests by pytest says how one of its files went)
+OF_FILE = re.compile(r"(tests/test_\w+\.py): (\d+) passed, (\d+) left out, (\d+) seconds")
+# What pytest alone runs before the proofs, in one run that shares all of it among processes, by name, and the files of tests/.
+TESTS = "tests by pytest"
 BY_PYTEST = {
     "a wrong program": ["spoiled"],
     "starting, installing and packing it": ["installing"],
@@ -72,8 +77,16 @@ class Tally:
                 print(f"== {name}", flush=True)
                 print(*part.lines[:-1], sep="", end="", flush=True)
                 self.rows.append((name, part.clock, part.spent))
+                self.note_files(name, part.lines)
                 self.add(part.status, "".join(part.lines[-1:]).strip())
                 self.note_left(part.left)
+
+    def note_files(self, name, lines):
+        """Counts of each part that pytest ran with others whether something of each of its files was run, or left out for a reason."""
+        went = {path: (passed, left) for path, passed, left, _ in map(re.Match.groups, filter(None, map(OF_FILE.match, lines)))}
+        for what, files in BY_PYTEST.items() if name == TESTS else ():
+            missing = [it for it in files if went.get(f"tests/test_{it}.py", ("0", "0")) == ("0", "0")]
+            self.note(not missing, f"{what}: tests of {', '.join(files)}{''.join(f', none of {it}' for it in missing)}")
 
     def add(self, status, last):
         """Adds up what a part's last line counts; a part without such a line, or with a status that it doesn't tell of,
@@ -110,10 +123,11 @@ def run_part(command):
 
 
 def place_of(command):
-    """Where a part's temporary files go: where the caller says, else of the trials of stores, which sync at each commit, in
-    memory, where that can be."""
-    is_of_stores = "tests/test_store_trials.py" in command and "TMPDIR" not in os.environ and os.access("/dev/shm", os.W_OK)
-    return "/dev/shm" if is_of_stores else None
+    """Where a part's temporary files go: where the caller says, else of tests by pytest, whose stores sync at each commit and whose
+    databases are made anew, in memory, where that can be."""
+    is_room = not os.environ.get("TMPDIR") and os.access(MEMORY, os.W_OK) and not os.statvfs(MEMORY).f_flag & os.ST_NOEXEC
+    free = os.statvfs(MEMORY).f_bavail * os.statvfs(MEMORY).f_frsize if is_room else 0
+    return MEMORY if "pytest" in command and free > MEMORY_NEEDED else None
 
 
 def stream(command, folder, see):
@@ -185,11 +199,11 @@ def quick_parts(program):
         ("the Python package", programs.python_package(program, "-k", "not kill") or ["scripts/python_tests.py", "--program", program]),
         ("what documents show, run", ["scripts/pages.py", "--program", program]),
         ("the library that draws the explorer's charts", ["scripts/d3.py", "check"]),
-        ("cases", pytest("cases") or ["scripts/cases.py", "--program", program]),
+        ("cases", ["scripts/cases.py", "--program", program]),
         ("documents", ["scripts/documents.py", "--check", "--program", program]),
     ]
     if pytest():
-        parts += [(name, pytest(*files)) for name, files in BY_PYTEST.items()]
+        parts.insert(1, (TESTS, pytest(*(it for files in BY_PYTEST.values() for it in files))))
     else:
         print("left out, since python3-pytest isn't installed:", ", ".join(BY_PYTEST))
     return parts

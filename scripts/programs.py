@@ -34,7 +34,7 @@ def pytest(program, *words, shares=1):
     shared among so many processes, where Python can do that."""
     python = python_with("pytest")
     quiet = ["-q", "--tb=short", "--no-header", "-p", "no:cacheprovider", "--tally"]
-    quiet += ["-n", str(shares)] if shares > 1 and python_with("xdist") == python else []
+    quiet += ["-n", str(shares), "--dist", "loadgroup"] if shares > 1 and python_with("xdist") == python else []
     return python and [python, "-B", "-m", "pytest", *quiet, "--program", program, *words]
 
 

@@ -265,12 +265,12 @@ def newest_server():
 
 
 class Server:
-    """A PostgreSQL that this run alone asks: it is begun in a folder, and ended with the block that it is for."""
+    """A PostgreSQL that this run alone asks: it is begun in a folder, with what another one left in its folder or with nothing, and
+    ended with the block that it is for."""
 
-    def __init__(self, binaries, room, settings=SETTINGS):
-        self.binaries, self.room, self.settings, self.process = binaries, room, settings, None
+    def __init__(self, binaries, room, settings=SETTINGS, like=None):
+        self.binaries, self.room, self.settings, self.like, self.process = binaries, room, settings, like, None
         self.env = {"PATH": "/usr/bin:/bin", "LC_ALL": "C", "PGCLIENTENCODING": "UTF8"}
-
         self.front = ["setpriv", "--pdeathsig", "INT"]
         if os.geteuid() == 0:
             self.front += cases.NOBODY[1:]
@@ -278,6 +278,10 @@ class Server:
     def __enter__(self):
         if os.geteuid() == 0:
             os.chown(self.room, 65534, 65534)
+        if self.like:
+            subprocess.run(["cp", "-a", f"{self.like}/data", self.room], check=True)
+            self.begin()
+            return self
         make = ["--no-sync", "--encoding=UTF8", "--locale=C", "--auth=trust", "--username=datacube"]
         made = self.call([*self.front, f"{self.binaries}/initdb", "-D", f"{self.room}/data", *make])
         if made.returncode:
@@ -308,14 +312,18 @@ class Server:
         return subprocess.run(command, input=given, **how)
 
     def wait(self):
-        """Waits until the server answers."""
-        asks = [f"{self.binaries}/pg_isready", "-h", self.room]
-        for _ in range(300):
+        """Waits until the server answers, as it says in a file of its own: in its first line its process, in its last one whether so."""
+        for _ in range(3000):
             if self.process.poll() is not None:
                 break
-            if self.call(asks).returncode == 0:
+            try:
+                with open(f"{self.room}/data/postmaster.pid", encoding="utf-8") as file:
+                    lines = file.read().split()
+            except FileNotFoundError:
+                lines = []
+            if lines and (lines[0], lines[-1]) == (str(self.process.pid), "ready"):
                 return
-            time.sleep(0.1)
+            time.sleep(0.01)
         self.process.kill()
         with open(f"{self.room}/log", encoding="utf-8", errors="replace") as log:
             sys.exit(f"the server doesn't answer: {log.read().strip()}")

@@ -17,6 +17,6 @@ NAMES = [f"{os.path.basename(it.place).partition('.')[0]}: {it.name}" for it in 
 
 @pytest.mark.parametrize("number, case", enumerate(CASES), ids=NAMES)
 def test_case(number, case, cases_room):
-    why = cases.try_case(case, cases_room, number)
+    why = cases.try_case(case, number, cases_room)
     if why:
         pytest.fail(f"{case.place}: {why}", pytrace=False)

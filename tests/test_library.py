@@ -49,7 +49,7 @@ def room(driver):
 
 @pytest.mark.parametrize("number, case", enumerate(CASES), ids=[it.name for it in CASES])
 def test_case(number, case, cases_room):
-    why = cases.try_case(case, cases_room, number)
+    why = cases.try_case(case, number, cases_room)
     if why:
         pytest.fail(f"{case.place} {why}", pytrace=False)
 

@@ -1,16 +1,22 @@
 """What the tests share: the program, generated schemas and feeds, and what scripts/oracle.py says of them, with types."""
 from __future__ import annotations
 
+import atexit
+import compileall
 import contextlib
+import fcntl
+import functools
 import os
+import py_compile
 import random
+import shutil
 import subprocess
 import sys
 import tempfile
 import unittest
 from decimal import Decimal
 from fractions import Fraction
-from typing import Any, Dict, Iterator, List, Sequence, Tuple
+from typing import Any, Callable, Dict, Iterator, List, Sequence, Tuple
 from unittest import mock
 
 ROOT = os.path.dirname(os.path.dirname(os.path.dirname(os.path.realpath(__file__))))
@@ -34,6 +40,44 @@ def has(command: str) -> bool:
 
 def needs(command: str) -> Any:
     return unittest.skipUnless(has(command), f"the program has no {command}")
+
+
+def once(name: str, make: Callable[[str], object]) -> str:
+    """A folder that is made by a call, once for all processes that share tests; it goes with them."""
+    room = os.environ.get("DATACUBE_SHARED") or own_room()
+    path = f"{room}/{name}"
+    with open(f"{path}.lock", "w", encoding="utf-8") as lock:
+        fcntl.flock(lock, fcntl.LOCK_EX)
+        if not os.path.exists(path):
+            os.mkdir(f"{path}.new", 0o755)
+            make(f"{path}.new")
+            os.rename(f"{path}.new", path)
+    return path
+
+
+@functools.lru_cache(None)
+def own_room() -> str:
+    """A folder of this process, where it shares no tests."""
+    room = tempfile.mkdtemp(prefix="datacube-test-")
+    os.chmod(room, 0o755)
+    atexit.register(shutil.rmtree, room)
+    return room
+
+
+def package() -> str:
+    """The folder of a copy of the package, compiled: many processes begin with it."""
+    return once("package", copy_package) + "/python/src"
+
+
+def copy_package(folder: str) -> None:
+    shutil.copytree(f"{ROOT}/python/src", f"{folder}/python/src", ignore=shutil.ignore_patterns("__pycache__", "*.egg-info"))
+    os.symlink(f"{ROOT}/explorer", f"{folder}/explorer")
+    compileall.compile_dir(f"{folder}/python/src", quiet=1, invalidation_mode=py_compile.PycInvalidationMode.UNCHECKED_HASH)
+
+
+def environment(**more: str) -> Dict[str, str]:
+    """The variables for a process that begins with the package."""
+    return {**os.environ, "PYTHONPATH": package(), **more}
 
 
 # (the cells of the explorer's rows)

@@ -74,14 +74,21 @@ def has_loopback() -> bool:
         return False
 
 
+def fresh(folder: str) -> None:
+    """Leaves what a new server has in a folder."""
+    with sql.Server(sql.newest_server(), folder, SETTINGS):
+        pass
+
+
 class Private:
     """A private server in a folder of its own, which may be ended and begun again."""
 
     def __init__(self) -> None:
         self.room = tempfile.mkdtemp(prefix="pg-")
-        self.server = sql.Server(sql.newest_server(), self.room, SETTINGS)
+        self.server = sql.Server(sql.newest_server(), self.room, SETTINGS, beside.once("postgresql", fresh))
         self.server.__enter__()
         self.dsn = f"host={self.room} user=datacube dbname=postgres"
+        self.kept = threading.local()
 
     def close(self) -> None:
         self.server.end()
@@ -111,14 +118,37 @@ class Private:
             with connection.cursor() as cursor:
                 yield cursor
 
+    def executed(self, statement: str) -> Any:
+        """The cursor of a statement on the connection that this thread keeps, or on a new one where the server ended that."""
+        import psycopg2
+
+        kept = getattr(self.kept, "connection", None)
+        self.kept.connection = None
+        if kept is None:
+            kept, is_new = psycopg2.connect(self.dsn), True
+            kept.autocommit = True
+        else:
+            is_new = False
+        cursor = kept.cursor()
+        try:
+            cursor.execute(statement)
+        except psycopg2.OperationalError:
+            if is_new or not kept.closed:
+                kept.close()
+                raise
+            return self.executed(statement)
+        except BaseException:
+            kept.close()
+            raise
+        self.kept.connection = kept
+        return cursor
+
     def run(self, *statements: str) -> None:
-        with self.connected() as cursor:
-            for it in statements:
-                cursor.execute(it)
+        for it in statements:
+            self.executed(it).close()
 
     def ask(self, statement: str) -> List[Any]:
-        with self.connected() as cursor:
-            cursor.execute(statement)
+        with self.executed(statement) as cursor:
             rows: List[Any] = cursor.fetchall()
         return rows
 

@@ -76,9 +76,9 @@ class Base(unittest.TestCase):
     def sales(self, *rows):
         """A small table with rows."""
         self.run_sql("CREATE TABLE {table} (id int PRIMARY KEY, city text, product varchar(20), cents bigint)")
-        for row in rows:
+        if rows:
             with PRIVATE.connected() as cursor:
-                cursor.execute(f"INSERT INTO {self.table} VALUES (%s, %s, %s, %s)", row)
+                cursor.executemany(f"INSERT INTO {self.table} VALUES (%s, %s, %s, %s)", rows)
 
     def follower(self, schema=SALES, dsn=None, **options):
         """A follower that has caught up."""
@@ -306,7 +306,7 @@ def run(*words):
 
 def environment():
     # (a command that is killed leaves its files where the server's are, and goes with them)
-    return {**os.environ, "PYTHONPATH": f"{beside.ROOT}/python/src", "TMPDIR": PRIVATE.folder_for_others()}
+    return beside.environment(TMPDIR=PRIVATE.folder_for_others())
 
 
 def interruptible():
@@ -1538,7 +1538,7 @@ class Commands(Base):
             os.makedirs(f"{folder}/{it}")
             with open(f"{folder}/{it}/__init__.py", "w", encoding="utf-8") as out:
                 out.write("raise ImportError('there is none')\n")
-        with mock.patch(f"{__name__}.environment", return_value={**environment(), "PYTHONPATH": f"{folder}:{beside.ROOT}/python/src"}):
+        with mock.patch(f"{__name__}.environment", return_value={**environment(), "PYTHONPATH": f"{folder}:{beside.package()}"}):
             for words in (("--serve", "0"), ("--listen", "127.0.0.1:0")):
                 ran = run(*self.words(*words))
                 self.assertEqual((ran.returncode, ran.stdout, ran.stderr), (1, "", "jackraisin.postgres: to serve, it needs aiohttp (Debian: python3-aiohttp)\n"))

@@ -649,7 +649,7 @@ class WithoutDriver(unittest.TestCase):
             os.mkdir(f"{room}/psycopg2")
             with open(f"{room}/psycopg2/__init__.py", "w", encoding="utf-8") as out:
                 out.write("raise ImportError('there is none')\n")
-            env = {**os.environ, "PYTHONPATH": f"{room}:{beside.ROOT}/python/src"}
+            env = {**os.environ, "PYTHONPATH": f"{room}:{beside.package()}"}
             how = {"stdin": subprocess.DEVNULL, "stdout": subprocess.PIPE, "stderr": subprocess.PIPE, "text": True, "env": env}
             ran = subprocess.run([sys.executable, "-m", "jackraisin.postgres", "--table", "sales"], **how)
             self.assertEqual((ran.returncode, ran.stdout, ran.stderr), (1, "", "jackraisin.postgres needs psycopg2 (Debian: python3-psycopg2)\n"))

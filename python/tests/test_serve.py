@@ -65,33 +65,17 @@ ELSEWHERE = """<!DOCTYPE html>
 </script>
 """
 
-COPY = None
 # (three lines of the shop are refused)
 REFUSED = "jackraisin.serve: lines of the feeds are refused, 3 of them: /refusals shows them\n"
 
 
 def setUpModule():
-    """A copy of the package, in which what Python compiles is kept: many servers begin here."""
-    global COPY
     if WHY:
         raise unittest.SkipTest(f"a cube that is served: {WHY}")
-    COPY = tempfile.mkdtemp(prefix="datacube-test-")
-    shutil.copytree(f"{beside.ROOT}/python/src", f"{COPY}/python/src", ignore=shutil.ignore_patterns("__pycache__", "*.egg-info"))
-    os.symlink(f"{beside.ROOT}/explorer", f"{COPY}/explorer")
-
-
-def tearDownModule():
-    # (pytest calls no cleanups of a module)
-    if COPY:
-        shutil.rmtree(COPY)
 
 
 def command(words):
     return [sys.executable, "-m", "jackraisin.serve", *words]
-
-
-def environment(**more):
-    return {**os.environ, "PYTHONPATH": f"{COPY}/python/src", "PYTHONDONTWRITEBYTECODE": "", **more}
 
 
 def heed_signals():
@@ -118,7 +102,7 @@ class Server:
 
     def __init__(self, store, *words, schema=SCHEMA, feeds=SHOP, listen="127.0.0.1:0", is_awaited=True, **env):
         line = command([schema, *feeds, "--store", store, "--listen", listen, *words])
-        how = {"stdout": subprocess.PIPE, "stderr": subprocess.PIPE, "text": True, "env": environment(**env), "preexec_fn": heed_signals}
+        how = {"stdout": subprocess.PIPE, "stderr": subprocess.PIPE, "text": True, "env": beside.environment(**env), "preexec_fn": heed_signals}
         self.process = subprocess.Popen(line, **how)
         self.address = self.process.stdout.readline().strip()
         at, _, self.token = self.address.partition("?_token=")
@@ -601,7 +585,7 @@ class Commands(Case):
     """What the command says where it can't begin: one line, and status 1."""
 
     def said(self, *words, **env):
-        ran = subprocess.run(command(words), stdout=subprocess.PIPE, stderr=subprocess.PIPE, text=True, env=environment(**env), timeout=SECONDS)
+        ran = subprocess.run(command(words), stdout=subprocess.PIPE, stderr=subprocess.PIPE, text=True, env=beside.environment(**env), timeout=SECONDS)
         return ran.returncode, ran.stdout, ran.stderr
 
     def test_where_it_may_listen(self):
@@ -656,10 +640,10 @@ class Commands(Case):
     def test_without_aiohttp(self):
         os.mkdir(f"{self.folder}/aiohttp")
         self.written("aiohttp/__init__.py", "raise ImportError('there is none')\n")
-        path = f"{self.folder}:{COPY}/python/src"
+        path = f"{self.folder}:{beside.package()}"
         self.assertEqual(self.said(SCHEMA, "--store", self.store, PYTHONPATH=path), (1, "", "jackraisin.serve: it needs aiohttp (Debian: python3-aiohttp)\n"))
         call = [sys.executable, "-B", "-c", "import jackraisin, sys; print('aiohttp' in sys.modules)"]
-        self.assertEqual(subprocess.run(call, stdout=subprocess.PIPE, text=True, env=environment(PYTHONPATH=path)).stdout, "False\n")
+        self.assertEqual(subprocess.run(call, stdout=subprocess.PIPE, text=True, env=beside.environment(PYTHONPATH=path)).stdout, "False\n")
 
 
 class Ends(Case):
@@ -1240,7 +1224,7 @@ class Page(Case):
         for it in ("examples", "release"):
             os.symlink(f"{beside.ROOT}/{it}", f"{self.folder}/{it}")
         script = script.replace("v/bin/python", sys.executable).replace("cd examples/shop\n", "cd -P examples/shop\n").replace("../../", f"{self.folder}/")
-        ran = subprocess.run(["bash"], input=script, cwd=self.folder, env=environment(), stdout=subprocess.PIPE, stderr=subprocess.STDOUT, text=True, timeout=SECONDS)
+        ran = subprocess.run(["bash"], input=script, cwd=self.folder, env=beside.environment(), stdout=subprocess.PIPE, stderr=subprocess.STDOUT, text=True, timeout=SECONDS)
         self.assertEqual(ran.stdout, "".join(text for kind, text in blocks if not kind))
 
 

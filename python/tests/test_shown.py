@@ -9,14 +9,13 @@ import warnings
 import beside
 import jackraisin
 
-ENV = {**os.environ, "PYTHONPATH": f"{beside.ROOT}/python/src"}
 CUBE = f"{beside.SHOP}/cube.csv"
 FEEDS = [f"{beside.SHOP}/{it}.csv" for it in ("market", "street", "online")]
 SCHEMA = f"{beside.SHOP}/schema.toml"
 
 
 def show(*words, given=b""):
-    ran = subprocess.run([sys.executable, "-m", "jackraisin", "show", *words], input=given, stdout=subprocess.PIPE, stderr=subprocess.PIPE, env=ENV)
+    ran = subprocess.run([sys.executable, "-m", "jackraisin", "show", *words], input=given, stdout=subprocess.PIPE, stderr=subprocess.PIPE, env=beside.environment())
     return ran.returncode, ran.stdout.decode(), ran.stderr.decode()
 
 

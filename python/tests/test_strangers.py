@@ -144,9 +144,8 @@ class Served:
     def __init__(self, module, *words):
         reach = ["--listen", "127.0.0.1:0", "--token-file", f"{FOLDER.name}/tokens", "--max-connections", str(MOST_CONNECTIONS),
         "--allow-origin", BOARD]
-        env = {**os.environ, "PYTHONPATH": f"{beside.ROOT}/python/src"}
         line = [sys.executable, "-B", "-m", module, *words, *reach]
-        self.process = subprocess.Popen(line, stdout=subprocess.PIPE, stderr=subprocess.PIPE, text=True, env=env)
+        self.process = subprocess.Popen(line, stdout=subprocess.PIPE, stderr=subprocess.PIPE, text=True, env=beside.environment())
         self.host = self.process.stdout.readline().strip().removeprefix("http://").rstrip("/")
         self.port = int(self.host.rpartition(":")[2])
         until(lambda: self.status("GET /readyz HTTP/1.1") == 200, SECONDS)
