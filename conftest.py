@@ -20,7 +20,7 @@ sys.dont_write_bytecode = True
 LEFT_OUT = 77
 # What takes longest, the longest first: files, classes and tests.
 LONGEST = (
-    "test_types", "Wheels", "OfAFollower", "OfASession", "test_spoiled_cubes", "test_sessions_over_a_store", "test_a_package", "Explorer", "test_listening",
+    "test_types", "Wheels", "browser", "OfAFollower", "OfASession", "test_spoiled_cubes", "test_sessions_over_a_store", "test_a_package", "test_listening",
     "test_while_the_follower_is_halted", "test_many_at_once", "test_it_notices_a_change_that_is_made_at_once", "test_it_notices_each_change_of_a_source_or_of_the_program",
     "test_store_trials", "test_installing", "test_spoiled", "test_commands", "test_progress", "test_postgres_streamed", "test_postgres_store", "Served", "Commands",
     "test_postgres", "test_sessions", "test_serve", "test_show", "test_shown",
@@ -52,6 +52,7 @@ def pytest_configure(config):
         config.option.basetemp = f"{folder.name}/shared"
         os.environ["DATACUBE_SHARED"] = folder.name
         config.add_cleanup(folder.cleanup)
+    config.addinivalue_line("markers", "xdist_group(name): is run by the process that runs the others of that name")
     # (what the tests of the Python package read)
     if config.option.program:
         os.environ["DATACUBE"] = os.path.abspath(config.option.program)
@@ -63,13 +64,24 @@ def pytest_configure(config):
 
 @pytest.hookimpl(tryfirst=True)
 def pytest_collection_modifyitems(items):
-    """Begins with what takes longest, so that processes which share tests end together. What a class sets up for its tests is made once:
-    they stay in one process."""
-    place = {name: at for at, name in enumerate(LONGEST)}
-    items.sort(key=lambda it: min((place[name] for name in (it.fspath.purebasename, *it.nodeid.split("::")[1:], it.name.partition("[")[0]) if name in place), default=len(place)))
+    """Begins with what takes longest, so that processes which share tests end together. Tests for which a class sets something up, or
+    which share a browser, stay in one process."""
+    items.sort(key=place_of)
     for it in items:
-        if it.cls and "setUpClass" in {name for base in it.cls.__mro__[:-1] if base.__module__ != "unittest.case" for name in vars(base)}:
-            it.add_marker(pytest.mark.xdist_group(f"{it.fspath.purebasename}.{it.cls.__name__}"))
+        if group_of(it):
+            it.add_marker(pytest.mark.xdist_group(group_of(it)))
+
+
+def place_of(item):
+    """Where a test's place is among all."""
+    names = [item.fspath.purebasename, group_of(item), *item.nodeid.split("::")[1:], item.name.partition("[")[0]]
+    return min((LONGEST.index(it) for it in names if it in LONGEST), default=len(LONGEST))
+
+
+def group_of(item):
+    """The name of those tests with which one stays, or None."""
+    sets_up = item.cls and any("setUpClass" in vars(it) for it in item.cls.__mro__ if it.__module__ != "unittest.case")
+    return getattr(item.obj, "group", None) or (f"{item.fspath.purebasename}.{item.cls.__name__}" if sets_up else None)
 
 
 class Tally:

@@ -86,8 +86,38 @@ return [...document.querySelectorAll("#table tbody tr[data-row]")].map((row) => 
 """
 
 
-def browser(test: unittest.TestCase, folder: str) -> Any:
-    """A headless Chromium, with a folder for its files, or the test is skipped."""
+BROWSERS: List[Any] = []
+
+
+def in_a_browser(test: Any) -> Any:
+    """A test of those that share a browser: pytest runs them in one process."""
+    test.group = "browser"
+    return test
+
+
+@contextlib.contextmanager
+def browser(test: unittest.TestCase) -> Iterator[Any]:
+    """A headless Chromium that the tests of a process share, with one empty page, no cookies and nothing told; or the test is skipped.
+    One in which a test failed is no other's."""
+    driver = BROWSERS.pop() if BROWSERS else begun_browser(test)
+    try:
+        yield driver
+        first, *others = driver.window_handles
+        for it in others:
+            driver.switch_to.window(it)
+            driver.close()
+        driver.switch_to.window(first)
+        driver.get("about:blank")
+        for it in ("Cookies", "Cache"):
+            driver.execute_cdp_cmd(f"Network.clearBrowser{it}", {})
+        driver.get_log("browser")
+    except BaseException:
+        driver.quit()
+        raise
+    BROWSERS.append(driver)
+
+
+def begun_browser(test: unittest.TestCase) -> Any:
     try:
         from selenium import webdriver
     except ImportError:
@@ -98,8 +128,17 @@ def browser(test: unittest.TestCase, folder: str) -> Any:
     for it in ("--headless=new", "--no-sandbox", "--disable-dev-shm-usage", "--window-size=1200,800"):
         options.add_argument(it)
     options.set_capability("goog:loggingPrefs", {"browser": "ALL"})
+    folder = tempfile.mkdtemp(prefix="datacube-test-")
+    # (unittest has no end of its own)
+    atexit.register(shutil.rmtree, folder, ignore_errors=True)
+    atexit.register(end_browser)
     with mock.patch.dict(os.environ, {"TMPDIR": folder}):
         return webdriver.Chrome(options=options)
+
+
+def end_browser() -> None:
+    while BROWSERS:
+        BROWSERS.pop().quit()
 
 
 def schema_like(schema: oracle.Schema) -> jackraisin.Schema:

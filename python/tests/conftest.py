@@ -1,6 +1,6 @@
 """What the tests of a process share ends with them; many feeds of theirs have refused lines, and `test_shown.py` alone asks whether they
 are warned of."""
-import beside  # noqa: F401
+import beside
 import private_server
 import pytest
 
@@ -13,3 +13,4 @@ def pytest_configure(config):
 def shared_server():
     yield
     private_server.end_shared()
+    beside.end_browser()

@@ -26,7 +26,7 @@ from unittest import mock
 import beside
 import jackraisin
 import private_server
-from beside import ROWS, browser
+from beside import ROWS, browser, in_a_browser
 from jackraisin import ALL, ANY, KEEP
 from private_server import CREATE, LONG, SCHEMA, until
 
@@ -606,6 +606,7 @@ class Verified(Base):
         self.assertEqual(self.slots(), [("jackraisin_never",)])
 
     @serves
+    @in_a_browser
     def test_what_is_shown_of_it(self):
         """Until a comparison agrees the page and the metrics say that one didn't."""
         follower = self.follower(self.schema, verify=0.3)
@@ -621,7 +622,7 @@ class Verified(Base):
                 follower._mirror._live.delete(1, "7")
             until(lambda: follower.state.is_caught_up and follower.state.copies == 2, SECONDS)
             self.see_whether_it_is_verified(server, 0)
-            with browser(self, PRIVATE.folder_for_others()) as driver:
+            with browser(self) as driver:
                 driver.get(server.address)
                 about = lambda: driver.find_element("id", "about").text
                 until(lambda: "It differed from the table" in about(), SECONDS)
@@ -1706,6 +1707,7 @@ class Served(Base):
         self.assertLess(count, len(text))
         self.assertEqual(get(f"{self.server.address}slice")[0], 200)
 
+    @in_a_browser
     def test_before_it_has_caught_up(self):
         """A transaction that is open keeps the slot from being made."""
         with PRIVATE.connected() as cursor:
@@ -1716,7 +1718,7 @@ class Served(Base):
                 text = get(f"{server.address}metrics")[1]
                 for name, is_there in (("follower_caught_up{", True), ("follower_build_info{", True), ("follower_behind_seconds{", False), ("sum_cents", False)):
                     self.assertEqual((name, f"datacube_{name}" in text), (name, is_there))
-                with browser(self, PRIVATE.folder_for_others()) as driver:
+                with browser(self) as driver:
                     driver.get(server.address)
                     until(lambda: "is being copied" in driver.find_element("id", "problem").text, SECONDS)
                     cursor.execute("COMMIT")
@@ -1808,8 +1810,9 @@ class Served(Base):
             status, text, _ = get(f"{self.server.address}{page}")
             self.assertEqual((status, "column product is gone" in text), (503, True))
 
+    @in_a_browser
     def test_the_page_shows_a_sale_that_is_committed(self):
-        with browser(self, PRIVATE.folder_for_others()) as driver:
+        with browser(self) as driver:
             driver.get(self.server.address)
             rows = lambda: driver.execute_script(ROWS)
             until(lambda: ["York", "1", "5"] in rows(), SECONDS)
@@ -1823,11 +1826,12 @@ class Served(Base):
             until(lambda: ["Leeds", "1", "70"] in rows() and ["York", "2", "35"] in rows(), SECONDS)
             self.see_that_the_view_stays(driver, rows)
 
+    @in_a_browser
     def test_the_page_shows_any_text(self):
         """And that rows are left out."""
         self.run_sql(r"INSERT INTO {table} VALUES (4, '\N', '\=', 70), (5, '\\', 'tea', 30)", f"INSERT INTO {{table}} VALUES (6, 'far', 'tea', {2**62})")
         followed = self.follower(scale={"cents": 2}, slot="jackraisin_other")
-        with postgres.Server(followed) as server, browser(self, PRIVATE.folder_for_others()) as driver:
+        with postgres.Server(followed) as server, browser(self) as driver:
             driver.get(server.address)
             rows = lambda: driver.execute_script(ROWS)
             until(lambda: ["\\N", "1", "7,000"] in rows() and ["\\\\", "1", "3,000"] in rows() and ["null", "1", "600"] in rows(), SECONDS)

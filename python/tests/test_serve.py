@@ -1071,10 +1071,11 @@ class Explorer(Case):
         self.assertEqual(server.change(b"9,D,a\n", {**CSV, "Cookie": said[0], "Origin": "http://evil.example"}, token=False).status, 403)
         self.assertNotIn("token", server.end()[1])
 
+    @beside.in_a_browser
     def test_in_a_browser(self):
         """The cube is seen, its numbers go on when it changes, and nothing is against the policy."""
         server = self.server()
-        with beside.browser(self, self.folder) as driver:
+        with beside.browser(self) as driver:
             driver.get(server.address)
             rows = lambda: driver.execute_script(beside.ROWS)
             until(lambda: ["York", "2"] in [it[:2] for it in rows()])
@@ -1104,11 +1105,12 @@ class Explorer(Case):
         driver.switch_to.window(first)
         until(lambda: ("York", "4") in [tuple(it[:2]) for it in rows()])
 
+    @beside.in_a_browser
     def test_a_page_of_elsewhere(self):
         """It can't show the page in a frame, nor read an answer, nor make a change, also where the browser has the cookie."""
         server = self.server()
         page = self.written("elsewhere.html", ELSEWHERE.replace("ADDRESS", f"http://127.0.0.1:{server.port}").replace("TOKEN", server.token))
-        with beside.browser(self, self.folder) as driver:
+        with beside.browser(self) as driver:
             driver.get(server.address)
             until(lambda: driver.execute_script(beside.ROWS))
             driver.get(f"file://{page}")

@@ -40,9 +40,10 @@ class Show(unittest.TestCase):
         opened.assert_not_called()
         self.assertEqual((os.path.dirname(path), stat.S_IMODE(os.stat(path).st_mode)), (self.folder, 0o600))
 
+    @beside.in_a_browser
     def test_in_a_browser(self):
         path = self.cube.show(f"{self.folder}/page.html", browser=False)
-        with browser(self, self.folder) as driver:
+        with browser(self) as driver:
             driver.get(Path(path).as_uri())
             end = time.monotonic() + SECONDS
             while ["York", "4"] not in driver.execute_script(ROWS) and time.monotonic() < end:
