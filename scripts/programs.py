@@ -39,8 +39,8 @@ def pytest(program, *words, shares=1):
 
 
 def python_package(program, *words):
-    """The same for the tests of the Python package, which mostly wait."""
-    return pytest(program, "python/tests", *words, shares=2 * len(os.sched_getaffinity(0)))
+    """The same for the tests of the Python package, which mostly wait, and assert by calls."""
+    return pytest(program, "--assert=plain", "python/tests", *words, shares=5 * len(os.sched_getaffinity(0)) // 2)
 
 
 def read(path):

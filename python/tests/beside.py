@@ -13,6 +13,7 @@ import shutil
 import subprocess
 import sys
 import tempfile
+import time
 import unittest
 from decimal import Decimal
 from fractions import Fraction
@@ -40,6 +41,16 @@ def has(command: str) -> bool:
 
 def needs(command: str) -> Any:
     return unittest.skipUnless(has(command), f"the program has no {command}")
+
+
+def until(is_so: Callable[[], Any], seconds: float = 60) -> None:
+    """Waits until something is so; it is looked at less often the longer it takes."""
+    begun = time.monotonic()
+    while not is_so():
+        passed = time.monotonic() - begun
+        if passed > seconds:
+            raise AssertionError(f"it wasn't so within {seconds} seconds")
+        time.sleep(min(0.01 + passed / 8, 0.1))
 
 
 def once(name: str, make: Callable[[str], object]) -> str:

@@ -122,25 +122,22 @@ class Private:
         """The cursor of a statement on the connection that this thread keeps, or on a new one where the server ended that."""
         import psycopg2
 
-        kept = getattr(self.kept, "connection", None)
-        self.kept.connection = None
-        if kept is None:
-            kept, is_new = psycopg2.connect(self.dsn), True
-            kept.autocommit = True
-        else:
-            is_new = False
-        cursor = kept.cursor()
+        process, connection = getattr(self.kept, "connection", (None, None))
+        self.kept.connection = None, None
+        is_kept = process is self.server.process and not connection.closed
+        if not is_kept:
+            connection = psycopg2.connect(self.dsn)
+            connection.autocommit = True
+        cursor = connection.cursor()
         try:
             cursor.execute(statement)
-        except psycopg2.OperationalError:
-            if is_new or not kept.closed:
-                kept.close()
-                raise
-            return self.executed(statement)
-        except BaseException:
-            kept.close()
+        except psycopg2.Error:
+            was_ended = connection.closed
+            connection.close()
+            if is_kept and was_ended:
+                return self.executed(statement)
             raise
-        self.kept.connection = kept
+        self.kept.connection = self.server.process, connection
         return cursor
 
     def run(self, *statements: str) -> None:
@@ -158,11 +155,11 @@ class Private:
         like = oracle.Schema(list(schema.dimensions), list(schema.measures), aggregates, decimals=schema.decimals)
         header = oracle.text_of(like, []).decode()
         out = tempfile.SpooledTemporaryFile(2**24)
-        with self.connected() as cursor:
-            cursor.execute(facts)
-            cursor.copy_expert(rf"COPY ({sql.cube(like)}) TO STDOUT WITH (FORMAT csv, NULL '\N')", out)
-            # (the server would drop it when it has seen that the connection is closed, which may be later)
-            cursor.execute("DROP VIEW facts")
+        with self.executed(facts) as cursor:
+            try:
+                cursor.copy_expert(rf"COPY ({sql.cube(like)}) TO STDOUT WITH (FORMAT csv, NULL '\N')", out)
+            finally:
+                cursor.execute("DROP VIEW facts")
         out.seek(0)
         return header + out.read().decode()
 
@@ -281,10 +278,4 @@ class Way:
         shutil.rmtree(self.room)
 
 
-def until(is_so: Any, seconds: float = 60) -> None:
-    """Waits until something is so."""
-    end = time.monotonic() + seconds
-    while not is_so():
-        if time.monotonic() > end:
-            raise AssertionError(f"it wasn't so within {seconds} seconds")
-        time.sleep(0.01)
+until = beside.until

@@ -62,6 +62,9 @@ class Base(unittest.TestCase):
     def setUp(self):
         self.table = re.sub(r"\W", "_", self.id().rpartition(".")[2])[:40]
         self.addCleanup(self.drop)
+        often = mock.patch("jackraisin.postgres._follower.SECONDS_BETWEEN_LOOKS", 0.1)
+        often.start()
+        self.addCleanup(often.stop)
 
     def drop(self):
         self.run_sql("SELECT pg_drop_replication_slot(slot_name) FROM pg_replication_slots WHERE NOT active")
@@ -87,11 +90,6 @@ class Base(unittest.TestCase):
         self.addCleanup(follower.close)
         follower.wait(SECONDS)
         return follower
-
-    def looking_often(self):
-        often = mock.patch("jackraisin.postgres._follower.SECONDS_BETWEEN_LOOKS", 0.1)
-        often.start()
-        self.addCleanup(often.stop)
 
     def cube_of_sql(self):
         columns = ", ".join(map(private_server.escaped, ("city", "product")))
@@ -477,7 +475,6 @@ class Moments(Base):
 
     def test_how_far_it_is_behind(self):
         """In seconds, from the moment of which all commits are in the cube; that goes on where the connection is lost."""
-        self.looking_often()
         way = private_server.Way(PRIVATE)
         self.addCleanup(way.close)
         self.sales((1, "York", "tea", 5))
@@ -502,7 +499,6 @@ class Moments(Base):
 
     def test_what_isnt_taken_yet_is_behind(self):
         """A change that is committed and waits to be taken isn't in the cube, whatever is seen of the server meanwhile."""
-        self.looking_often()
         self.sales((1, "York", "tea", 5))
         follower, go = self.follower(), threading.Event()
         self.addCleanup(go.set)
@@ -542,7 +538,6 @@ class Verified(Base):
 
     def setUp(self):
         super().setUp()
-        self.looking_often()
         self.run_sql(
             "CREATE TABLE {table} (id int PRIMARY KEY, city text, product text, is_paid boolean, price numeric, cents bigint)",
             r"INSERT INTO {table} SELECT n, CASE n % 4 WHEN 0 THEN NULL WHEN 1 THEN '\N' ELSE 'city ' || n % 7 END, 'product ' || n % 5, n % 2 = 0, n / 100.0, n FROM generate_series(1, 500) AS n",
@@ -790,7 +785,6 @@ class ChangedAndBack(Base):
 
     def test_what_leads_to_a_new_copy(self):
         """What the log tells whole leads to none."""
-        self.looking_often()
         self.anew()
         self.run_sql("CREATE INDEX {table}_city ON {table} (city)")
         follower = self.follower()
@@ -827,7 +821,6 @@ class ChangedAndBack(Base):
 
     def test_truncate_while_the_table_is_looked_at(self):
         """It comes behind what is seen of the table, and before the log's place is taken down."""
-        self.looking_often()
         self.anew()
         follower, look, statements = self.follower(), postgres._follower.look, ["TRUNCATE {table}", "INSERT INTO {table} VALUES (1, 'Hull', 'tea', 9)"]
 
@@ -936,7 +929,6 @@ class Partitions(Base):
 
     def test_changes(self):
         """Also those of partitions by their own names, and rows that move from one to the other."""
-        self.looking_often()
         follower = self.follower()
         self.same(follower)
         for statement, changes in (
@@ -991,7 +983,6 @@ class Partitions(Base):
             ("ALTER TABLE {table}_n SET UNLOGGED", "partition test_partitions_that_cant_be_followed_n", "unlogged"), ("ALTER TABLE {table}_n REPLICA IDENTITY NOTHING", "replica identity of its own"),
         ):
             with self.subTest(statement):
-                self.looking_often()
                 follower = self.follower()
                 self.run_sql(statement)
                 self.stopped(follower, CantFollow, *words)
@@ -1122,7 +1113,6 @@ class Rows(Base):
 
     def test_skipped_rows(self):
         """No row ends it: one with a measure that can't be said is left out, counted and told, until it can be."""
-        self.looking_often()
         self.run_sql("CREATE TABLE {table} (id int PRIMARY KEY, city text, product text, cents numeric)", "INSERT INTO {table} VALUES (1, 'York', 'tea', 5), (2, 'York', 'tea', 'NaN'), (3, NULL, NULL, 0.5)")
         with self.assertLogs("jackraisin.postgres") as told:
             follower = self.follower()
@@ -1209,7 +1199,6 @@ class Faults(Base):
     """What stops a follower, or keeps it from beginning, is told by name."""
 
     def test_changes_of_columns(self):
-        self.looking_often()
         for statement, *words in (
             ("DROP COLUMN product", "column product is gone"), ("RENAME COLUMN cents TO pence", "column cents is named pence now"),
             ("ALTER COLUMN cents TYPE int", "column cents", "type integer"),
@@ -1253,7 +1242,6 @@ class Faults(Base):
     def test_another_name(self):
         """A table is known by its number: it is followed under any name, also where it is copied again, and beside another one that
         has its name now."""
-        self.looking_often()
         self.addCleanup(self.run_sql, "DROP SCHEMA IF EXISTS away CASCADE")
         self.sales((1, "York", "tea", 5))
         follower = self.follower()
@@ -1269,7 +1257,6 @@ class Faults(Base):
         self.assertEqual((follower.ask("print"), follower.state.copies), (cube(), 2))
 
     def test_changes_that_dont_matter(self):
-        self.looking_often()
         self.sales((1, "York", "tea", 5))
         follower = self.follower()
         self.run_sql("ALTER TABLE {table} ALTER COLUMN cents SET DEFAULT 5", "CREATE INDEX ON {table} (city)", "ANALYZE {table}")
@@ -1397,7 +1384,6 @@ class Faults(Base):
 
     def test_values_in_what_is_told(self):
         """A key is in quotes, so that no line of a log is another's, and no longer than a line."""
-        self.looking_often()
         self.run_sql("CREATE TABLE {table} (id text PRIMARY KEY, city text, product text, cents numeric)")
         follower = self.follower()
         with self.assertLogs("jackraisin.postgres", "WARNING") as told:
@@ -1436,7 +1422,6 @@ class Faults(Base):
             self.refused(CantFollow, "wal_level = replica", "ALTER SYSTEM SET wal_level = logical")
 
     def test_a_session_that_is_full(self):
-        self.looking_often()
         self.sales((1, "York", "tea", 0), (2, "Leeds", "tea", 0))
         follower = Follower(PRIVATE.dsn, self.table, SALES)
         follower.schema = jackraisin.Schema(SALES.dimensions, SALES.measures, SALES.aggregates, version=2, max_records=8)

@@ -203,7 +203,6 @@ class GoesOn(Stored, test_postgres.Base):
 
     def test_the_log_is_kept_until_changes_are_certain(self):
         confirmed = lambda: int(test_postgres.PRIVATE.ask("SELECT confirmed_flush_lsn - '0/0' FROM pg_replication_slots")[0][0])
-        self.looking_often()
         follower = self.stored()
         with mock.patch.object(follower._mirror, "keep", lambda: None):
             start = follower._mirror.certain
@@ -337,7 +336,6 @@ class GoesOn(Stored, test_postgres.Base):
 
     def test_truncate(self):
         """A new store takes the place of the old one, whatever moment it ends at."""
-        self.looking_often()
         follower = self.stored()
         for at in range(3):
             self.run_sql("TRUNCATE {table}", f"INSERT INTO {{table}} VALUES (1, 'York', 'tea', {at})")
@@ -350,7 +348,6 @@ class GoesOn(Stored, test_postgres.Base):
 
     def test_a_new_store_that_is_broken_off(self):
         """Before it takes the old one's place and behind that, for a TRUNCATE, and where a store is made anew."""
-        self.looking_often()
         truncate = ["TRUNCATE {table}", "INSERT INTO {table} VALUES (1, 'York', 'tea', 1)"]
         many = [f"UPDATE {{table}} SET cents = {at}" for at in range(60)]
         for place, statements in itertools.product(("_notes.Notes.choose", "_store.Store.clean"), (truncate, many)):
@@ -395,7 +392,6 @@ class GoesOn(Stored, test_postgres.Base):
 
     def test_a_store_with_many_changes_is_made_anew(self):
         """While the old one serves."""
-        self.looking_often()
         with mock.patch("jackraisin.postgres._anew.FEWEST_CHANGES", 200):
             follower, answers = self.stored(), []
             for at in range(300):
@@ -415,7 +411,6 @@ class GoesOn(Stored, test_postgres.Base):
         self.assertEqual(len(self.kept()), 2)
 
     def test_truncate_while_a_store_is_made_anew(self):
-        self.looking_often()
         follower, usual = self.stored(), postgres._follower.copy_table
         truncated = threading.Event()
 
@@ -443,7 +438,6 @@ class GoesOn(Stored, test_postgres.Base):
 
     def test_a_store_that_isnt_the_tables(self):
         """It is found out, and made anew; a start goes on with that one."""
-        self.looking_often()
         with self.assertLogs("jackraisin.postgres", "ERROR"):
             follower = self.stored(verify=0.3)
             with follower._mirror._live.held():
@@ -547,7 +541,6 @@ class Readers(test_postgres.Base):
 
     def test_a_long_answer(self):
         self.sales((1, "York", "tea", 5))
-        self.looking_often()
         follower, go, asked = self.follower(), threading.Event(), threading.Event()
         self.addCleanup(go.set)
         usual = jackraisin.Live._read_answer
@@ -577,7 +570,6 @@ class Readers(test_postgres.Base):
     def test_a_session_that_is_halted(self):
         """What comes meanwhile is read until there is no room, and the server is told that the follower is there."""
         self.sales((1, "York", "tea", 5))
-        self.looking_often()
         replies = lambda: test_postgres.PRIVATE.ask("SELECT reply_time FROM pg_stat_replication WHERE application_name = 'datacube'")
         for most, size in ((3, 2**26), (10_000, 100)):
             with mock.patch("jackraisin.postgres._taker.MOST_WAITING", most), mock.patch("jackraisin.postgres._taker.MOST_BYTES", size):

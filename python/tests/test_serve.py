@@ -4,6 +4,7 @@ import collections
 import configparser
 import contextlib
 import csv
+import functools
 import gzip
 import http.client
 import importlib.util
@@ -153,12 +154,7 @@ class Server:
         self.process.stderr.close()
 
 
-def until(is_so):
-    last = time.monotonic() + SECONDS
-    while not is_so():
-        if time.monotonic() > last:
-            raise AssertionError("it didn't come in time")
-        time.sleep(0.02)
+until = functools.partial(beside.until, seconds=SECONDS)
 
 
 def threads_of(process):

@@ -27,7 +27,8 @@ def content(path):
 def why_not():
     if os.uname().machine != "x86_64" or sys.platform != "linux":
         return "there is a released program for Linux on x86-64 alone"
-    if subprocess.run([DEBIANS, "-c", "import venv, setuptools, wheel, pip"], stderr=subprocess.DEVNULL).returncode:
+    call = "import sys; from importlib.util import find_spec; sys.exit(not all(map(find_spec, ('venv', 'setuptools', 'wheel', 'pip'))))"
+    if subprocess.run([DEBIANS, "-c", call], stderr=subprocess.DEVNULL).returncode:
         return "Debian's python3-venv, python3-pip, python3-setuptools or python3-wheel isn't installed"
     return None
 
@@ -78,7 +79,10 @@ class OwnCommand(unittest.TestCase):
             self.assertTrue(err.startswith("datacube: no program: "), err)
 
 
-@unittest.skipIf(why_not(), f"wheels: {why_not()}")
+WHY = why_not()
+
+
+@unittest.skipIf(WHY, f"wheels: {WHY}")
 class Wheels(unittest.TestCase):
     @classmethod
     def setUpClass(cls):
