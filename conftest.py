@@ -1,7 +1,8 @@
-"""How the tests of tests/ and of python/tests are run: by pytest, in the order of their files.
+"""How the tests of tests/ and of python/tests are run: by pytest, those first that take longest (LONGEST), the others in the order of
+their files. Processes that share tests keep those together for which something is set up, where they are told --dist loadgroup.
 
-    pytest tests [--program PATH] [-k WORDS] [-x] [-n 4] [--times N] [--hypothesis-seed N]
-    pytest python/tests [--program PATH] [-k WORDS] [-x] [-n 8] [--long]
+    pytest tests [--program PATH] [-k WORDS] [-x] [-n 4 --dist loadgroup] [--times N] [--hypothesis-seed N]
+    pytest python/tests [--program PATH] [-k WORDS] [-x] [-n 12 --dist loadgroup] [--long]
 
 The program is the one at PATH, else the one that `./datacube` would run. Generated cases are the same in each run, as many as
 the gate tries; with --times N so many times as many, and with a seed others. With --tally the last line is `N passed, M failed`,
@@ -18,12 +19,12 @@ sys.path.insert(0, f"{os.path.dirname(os.path.realpath(__file__))}/scripts")
 sys.dont_write_bytecode = True
 # (the status of a part of the gate that says which packages it lacks)
 LEFT_OUT = 77
-# What takes longest, the longest first: files, classes and tests.
+# What takes longest, the longest first: files, classes, tests, and those that share a browser.
 LONGEST = (
     "test_types", "Wheels", "browser", "OfAFollower", "OfASession", "test_spoiled_cubes", "test_sessions_over_a_store", "test_a_package", "test_listening",
-    "test_while_the_follower_is_halted", "test_many_at_once", "test_it_notices_a_change_that_is_made_at_once", "test_it_notices_each_change_of_a_source_or_of_the_program",
-    "test_store_trials", "test_installing", "test_spoiled", "test_commands", "test_progress", "test_postgres_streamed", "test_postgres_store", "Served", "Commands",
-    "test_postgres", "test_sessions", "test_serve", "test_show", "test_shown",
+    "test_while_the_follower_is_halted", "test_many_at_once", "test_it_notices_a_change_that_is_made_at_once",
+    "test_it_notices_each_change_of_a_source_or_of_the_program", "test_store_trials", "test_installing", "test_spoiled", "test_commands", "test_progress",
+    "test_postgres_streamed", "test_postgres_store", "Served", "Commands", "test_postgres", "test_sessions", "test_serve", "test_show", "test_shown",
 )
 
 

@@ -223,7 +223,7 @@ def make(room, kind, name, what):
     elif kind == "alias":
         os.link(f"{room}/{what}", path)
     elif kind == "bytes":
-        start = read_whole(f"{room}/sample.toml")
+        start = programs.read(f"{room}/sample.toml")
         with open(path, "wb") as file:
             file.write(start + b"#" * (what - len(start)))
 
@@ -236,7 +236,7 @@ def wanted_of(what):
     if kind == "coded":
         return "is", bytes_of("".join(value))
     if kind == "file":
-        return "is", read_whole(f"{ROOT}/{value}")
+        return "is", programs.read(f"{ROOT}/{value}")
     return kind, value
 
 
@@ -283,7 +283,7 @@ def run(case, room):
         ran = subprocess.run(words, **how)
     except subprocess.TimeoutExpired:
         return f"it doesn't end in {SECONDS} seconds"
-    out = read_whole(f"{room}/stdout") if has_room else ran.stdout or b""
+    out = programs.read(f"{room}/stdout") if has_room else ran.stdout or b""
     found = [wrong("the output", case.out, out), wrong("standard error", case.err, ran.stderr)]
     if ran.returncode != case.status:
         found.append(f"the status is {ran.returncode}, and not {case.status}")
@@ -294,12 +294,6 @@ def limit_files(size):
     """Lets no file of the process grow past a size: a write takes what fits, and the next one fails."""
     signal.signal(signal.SIGXFSZ, signal.SIG_IGN)
     resource.setrlimit(resource.RLIMIT_FSIZE, (size, size))
-
-
-def read_whole(path):
-    """The bytes of a file."""
-    with open(path, "rb") as file:
-        return file.read()
 
 
 def give_away(room):

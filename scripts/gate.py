@@ -211,7 +211,7 @@ def quick_parts(program):
 
 def long_parts(program):
     """The parts that need no kit, but a database and a browser."""
-    kills, generated = programs.python_package(program, "-k", "kill"), programs.pytest(program, "tests/test_sql.py")
+    kills, generated = programs.python_package(program, "-k", "kill", each=1), programs.pytest(program, "tests/test_sql.py")
     return [
         ("the page in a browser", ["scripts/explorer.sh"]),
         ("the page that counts a file of one's own, in a browser", ["scripts/own_page.sh"]),

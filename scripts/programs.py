@@ -38,9 +38,9 @@ def pytest(program, *words, shares=1):
     return python and [python, "-B", "-m", "pytest", *quiet, "--program", program, *words]
 
 
-def python_package(program, *words):
-    """The same for the tests of the Python package, which mostly wait, and assert by calls."""
-    return pytest(program, "--assert=plain", "python/tests", *words, shares=5 * len(os.sched_getaffinity(0)) // 2)
+def python_package(program, *words, each=3):
+    """The same for the tests of the Python package, which mostly wait, and assert by calls: so many processes for each processor."""
+    return pytest(program, "--assert=plain", "python/tests", *words, shares=each * len(os.sched_getaffinity(0)))
 
 
 def read(path):

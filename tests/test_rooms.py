@@ -1,5 +1,6 @@
 """What is written of a case that fails: scripts/cases.py reads the same of it."""
 import cases
+import programs
 import generated as make
 from rooms import Room
 from strategies import tries
@@ -29,4 +30,4 @@ def test_a_case_that_is_written_is_read_back(room, rng):
     for kind, name, what in case.made:
         cases.make(room.folder, kind, name, what)
     for name, data in [*files.items(), *([(case.stdin, given)] if given else [])]:
-        assert cases.read_whole(f"{room.folder}/{name}") == data
+        assert programs.read(f"{room.folder}/{name}") == data

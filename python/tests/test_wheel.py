@@ -12,16 +12,12 @@ import zipfile
 
 import beside
 import jackraisin
+from programs import read
 
 DEBIANS = "/usr/bin/python3"
 RELEASED = f"{beside.ROOT}/release/x86_64-linux/datacube"
 NEEDS = ["python", "release", "explorer"]
 NO_INDEX = ["--no-index", "--no-deps", "--disable-pip-version-check", "--no-cache-dir", "-q"]
-
-
-def content(path):
-    with open(path, "rb") as file:
-        return file.read()
 
 
 def why_not():
@@ -117,7 +113,7 @@ class Wheels(unittest.TestCase):
         self.assertFalse([it for it in told.get_all("Classifier") if it.startswith("License")], "no licence was chosen")
         self.assertEqual((told["License"], told["Home-page"], told.get_all("Project-URL")), (None, None, None))
         self.assertEqual(told["Description-Content-Type"], "text/markdown")
-        self.assertEqual(told.get_payload().strip(), content(f"{beside.ROOT}/python/README.md").decode().strip())
+        self.assertEqual(told.get_payload().strip(), read(f"{beside.ROOT}/python/README.md").decode().strip())
         self.assertEqual([it.split(";")[0] for it in told.get_all("Requires-Dist")], ["pyarrow ", "pandas ", "polars ", "psycopg2 ", "aiohttp ", "prometheus-client ", "tomli "])
         self.assertFalse([it for it in parts if it.startswith("datacube")], "a part has the old name")
 
@@ -126,11 +122,11 @@ class Wheels(unittest.TestCase):
         sources = [os.path.relpath(f"{folder}/{it}", f"{beside.ROOT}/python/src") for folder, _, files in os.walk(f"{beside.ROOT}/python/src/jackraisin") for it in files]
         wanted = {it for it in sources if it.endswith((".py", ".js", "py.typed"))}
         self.assertEqual(wanted - set(parts), set())
-        self.assertEqual(parts["jackraisin/postgres/explorer.html"][0], content(f"{beside.ROOT}/explorer/index.html"))
+        self.assertEqual(parts["jackraisin/postgres/explorer.html"][0], read(f"{beside.ROOT}/explorer/index.html"))
 
     def test_the_program_in_it(self):
         program, mode = self.parts(self.wheel)["jackraisin/bin/datacube"]
-        self.assertEqual((program, stat.S_IMODE(mode)), (content(RELEASED), 0o755))
+        self.assertEqual((program, stat.S_IMODE(mode)), (read(RELEASED), 0o755))
         asked = {tuple(map(int, it.split(b"."))) for it in re.findall(rb"GLIBC_([0-9.]+)\0", program)}
         self.assertEqual(max(asked)[:2], (2, 34), "the tag says which C library is wanted")
 
@@ -144,7 +140,7 @@ class Wheels(unittest.TestCase):
         self.assertEqual(ran.stdout, f"{jackraisin.__version__} True\n")
         feeds = [f"{beside.SHOP}/{it}" for it in ("schema.toml", "market.csv", "street.csv", "online.csv")]
         ran = subprocess.run([f"{self.folder}/v/bin/datacube", "print", *feeds], env=env, stdout=subprocess.PIPE, stderr=subprocess.PIPE)
-        self.assertEqual((ran.returncode, ran.stdout, ran.stderr), (4, content(f"{beside.SHOP}/cube.csv"), b""))
+        self.assertEqual((ran.returncode, ran.stdout, ran.stderr), (4, read(f"{beside.SHOP}/cube.csv"), b""))
 
     def test_of_sources_without_a_program(self):
         wheel = self.built("alone", ["python"])
