@@ -22,6 +22,7 @@ LEFT_OUT = 77
 # What takes longest, the longest first: files, classes, tests, and those that share a browser.
 LONGEST = (
     "test_types", "Wheels", "browser", "OfAFollower", "OfASession", "test_spoiled_cubes", "test_sessions_over_a_store", "test_a_package", "test_listening",
+    "test_a_body_that_doesnt_come", "test_what_leads_to_a_copy", "test_a_store_that_isnt_the_one_that_was_noted", "test_what_leads_to_a_new_copy",
     "test_while_the_follower_is_halted", "test_many_at_once", "test_it_notices_a_change_that_is_made_at_once",
     "test_it_notices_each_change_of_a_source_or_of_the_program", "test_store_trials", "test_installing", "test_spoiled", "test_commands", "test_progress",
     "test_postgres_streamed", "test_postgres_store", "Served", "Commands", "test_postgres", "test_sessions", "test_serve", "test_show", "test_shown",
