@@ -541,9 +541,7 @@ class Readers(test_postgres.Base):
 
     def test_a_long_answer(self):
         self.sales((1, "York", "tea", 5))
-        # (the follower asks its session now and then what it refused, and would wait for the answer)
-        with mock.patch("jackraisin.postgres._follower.SECONDS_BETWEEN_LOOKS", 1000):
-            follower, go, asked = self.follower(), threading.Event(), threading.Event()
+        follower, go, asked = self.follower(), threading.Event(), threading.Event()
         self.addCleanup(go.set)
         usual = jackraisin.Live._read_answer
 

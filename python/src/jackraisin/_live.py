@@ -158,6 +158,10 @@ class Live(Questions):
                     self._kill()
                 raise
 
+    def is_answering(self) -> bool:
+        """Whether a question is under way, for whose answer another one waits."""
+        return self._asking.locked()
+
     def _read_answer(self) -> str:
         """The answer to the question that was sent."""
         first = self._output.readline()

@@ -49,6 +49,8 @@ if TYPE_CHECKING:
 NO_COLUMNS: Final[Mapping[str, Any]] = {}
 # (how often the table's columns are looked at, and how long one wait for changes is)
 SECONDS_BETWEEN_LOOKS, SECONDS_TO_WAIT = 1.0, 0.2
+# (how long the session isn't asked anything at most, while others have questions under way)
+SECONDS_UNASKED = 60.0
 # (after which statements that the server is still at are cancelled)
 SECONDS_TO_END = 1.0
 # (how long nothing is taken at most, while a comparison gets its snapshot; and after how long one is begun again that got none)
@@ -123,6 +125,7 @@ class Follower(Asked, Running):
         self._held: Optional[int] = None
         self._next_anew = 0.0
         self._last_look = 0.0
+        self._last_asked = time.monotonic()
         # (where the server's log ended, and when that was asked for, where the follower hasn't come to yet)
         self._ends: Deque[Tuple[int, float]] = collections.deque()
         self._connections: Set["Connection"] = set()
@@ -592,14 +595,18 @@ class Follower(Asked, Running):
             self._held = None
 
     def _between(self) -> None:
-        """Sees that the session refused nothing, says which rows are left out, and makes certain what was taken."""
+        """Sees that the session refused nothing, says which rows are left out, and makes certain what was taken. While a question is under
+        way the session is asked nothing, since no change would be taken until that is answered; once a minute it is, though."""
         mirror, changes = self._mirror, self._changes
         assert mirror is not None and changes is not None
-        if self._served is mirror:
-            mirror.check()
         why = changes.skipped.taken()
         if why is not None:
             TOLD.warning("rows are left out, %d of them now; the last one: %s", self._state.skipped, why)
+        if mirror.is_answering() and time.monotonic() < self._last_asked + SECONDS_UNASKED:
+            return
+        self._last_asked = time.monotonic()
+        if self._served is mirror:
+            mirror.check()
         if isinstance(mirror, StoredMirror) and mirror.is_chosen:
             mirror.keep()
 

@@ -44,6 +44,10 @@ class Mirror:
                 if self._live is live:
                     raise
 
+    def is_answering(self) -> bool:
+        """Whether a question is under way, for whose answer another one waits."""
+        return self._live.is_answering()
+
     def _found(self, live: Live, at: Callable[[], T]) -> T:
         if self._live is not live:
             raise Replaced
