@@ -6,3 +6,4 @@ pub mod GrowthLaws
 pub mod RankLaws
 pub mod TextLaws
 pub mod WordLaws
+pub mod RankingLaws

@@ -7,3 +7,5 @@ pub mod ShareLaws
 pub mod BottomUpLaws
 pub mod BottomUpCellLaws
 pub mod BottomUpCubeLaws
+pub mod RankedLaws
+pub mod PruneLaws

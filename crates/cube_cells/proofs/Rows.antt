@@ -4,3 +4,4 @@ pub mod RowLaws
 pub mod DrillLaws
 pub mod SliceLaws
 pub mod BottomUpRowLaws
+pub mod WalkedLaws

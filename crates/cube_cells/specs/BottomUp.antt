@@ -6,11 +6,16 @@ use Rattle.std.specs.Cmp.Lexicographic.{slice_cmp}
 use Rattle.std.specs.List.Sorted.{IsStrictlySortedBy}
 use Rattle.std.specs.Ordering.{nat_cmp}
 use Rattle.std.specs.declared.cmp.Ordering.{Ordering}
-use Rattle.cube_cells.specs.Codes.{all_code}
+use Rattle.std.specs.List.{AllZip}
+use Rattle.cube_core.specs.Cube.{AreRows}
+use Rattle.cube_core.specs.Layout.{Layout}
 use Rattle.cube_core.specs.declared.fact.Fact.{Fact}
-use Rattle.cube_cells.specs.Coded.{CodedCells, IsCodedCell, lattice_of}
-use Rattle.cube_cells.specs.Cube.{IsCubeOf, Lattice}
-use Rattle.cube_cells.specs.Fill.{IsCubeOfAll}
+use Rattle.cube_core.specs.declared.key.Row.{Row}
+use Rattle.cube_cells.specs.Codes.{Dictionaries, IsDictionary, all_code}
+use Rattle.cube_cells.specs.Coded.{CodedCells, IsCoded, IsCodedCell, decoded, lattice_of}
+use Rattle.cube_cells.specs.Cube.{Lattice}
+use Rattle.cube_cells.specs.Fill.{IsCubeOfAll, finest_set}
+use Rattle.cube_cells.specs.Rows.{IsRowOf}
 use Rattle.cube_cells.specs.Levels.{mask_of_codes}
 use Rattle.cube_cells.specs.Tally.{Tally, PlusTally, SameTally}
 use Rattle.cube_cells.specs.declared.cube.bottom_up.Item.{Item}
@@ -154,6 +159,10 @@ TakesAll {S} takes old (cell ∷ cells) new = (mid : S) × takes old cell.0 cell
 abbrev pub is_kept_by : List Bool → Codes → Bool
 is_kept_by kept codes = get_or kept (mask_of_codes codes.codes) false
 
+-- no set is kept that has, of the first dimensions, those in which these codes aren't ALL
+pub record IsNoneKept (is_kept : Codes → Bool) (from : ℕ) (codes : Codes) : Type 0 where
+  pub none : (other : Codes) → take from other.codes ≡ take from codes.codes → is_kept other ≡ false
+
 -- the cells of items
 abbrev pub cells_of_items : {N : Type 0} → List (Item N) → CodedCells
 cells_of_items items = map (λ item. (item.codes, item.cell)) items
@@ -177,12 +186,26 @@ pub record TakesWalk {S : Type 0} (takes : S → Codes → Tally → S → Type 
 pub record AreInTextOrder (texts : List (List ℕ)) : Type 0 where
   pub rises : IsStrictlySortedBy (slice_cmp nat_cmp) texts
 
--- the cells of the cube of the facts of a lattice over these grouping sets are taken, in the order of their codes
-pub record TakesCube {S : Type 0} (takes : S → Codes → Tally → S → Type 0) (sets : List ℕ) (finest : Lattice)
-    (old new : S) : Type 0 where
+-- the texts of a dimension in their order, with a code for each
+pub record AreSortedTexts (texts : List (List ℕ)) : Type 0 where
+  pub dictionary : IsDictionary texts
+  pub in_order : AreInTextOrder texts
+
+-- these are the finest cells of some facts, in the order of their codes, which are the ranks of their texts
+pub record AreToWalk (schema : Layout) (number : ℕ) (dictionaries : Dictionaries) (items : CodedCells) : Type 0 where
+  pub facts : List Fact
+  pub cube : IsCubeOfAll facts
+      (lattice_of schema (finest_set (length schema.dimensions) ∷ []) number dictionaries items)
+  pub coded : IsCoded schema (finest_set (length schema.dimensions) ∷ []) number dictionaries items
+  pub in_order : IsStrictlySortedBy codes_cmp items
+  pub texts : All AreInTextOrder dictionaries
+
+-- the cells of the cube of the facts of a lattice over all grouping sets of its schema are taken, in key order
+pub record TakesCube {S : Type 0} (takes : S → Codes → Tally → S → Type 0) (finest : Lattice) (old new : S)
+    : Type 0 where
   pub cells : CodedCells
   pub taken : TakesAll takes old cells new
-  pub in_order : IsStrictlySortedBy codes_cmp cells
   pub each : All (IsCodedCell finest.dictionaries (length finest.schema.measures)) cells
-  pub cube : (facts : List Fact) → 0 < length facts → IsCubeOfAll facts finest
-      → IsCubeOf (lattice_of finest.schema sets (length facts) finest.dictionaries cells) facts
+  pub rows : (facts : List Fact) → IsCubeOfAll facts finest → (rows : List Row)
+      → AllZip (IsRowOf finest.schema.aggregates) (decoded finest.dictionaries cells) rows
+      → AreRows finest.schema facts rows

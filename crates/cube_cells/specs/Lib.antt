@@ -13,3 +13,4 @@ pub mod Fill
 pub mod Places
 pub mod Shares
 pub mod BottomUp
+pub mod Ranking

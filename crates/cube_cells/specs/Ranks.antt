@@ -1,5 +1,5 @@
 -- Ranks of the texts of a dimension: their places in the order of texts (this project's choice).
-use Rattle.std.specs.Prelude.{◌≡◌, ◌<◌, ◌≤◌, ◌/◌, ◌%◌, ℕ, false, nat_lt, List, [], ◌∷◌, length, get_or, if◌then◌else◌}
+use Rattle.std.specs.Prelude.{◌≡◌, ◌<◌, ◌≤◌, ◌/◌, ◌%◌, ℕ, false, nat_lt, List, [], ◌∷◌, length, get_or, map, if◌then◌else◌}
 use Rattle.std.specs.Cmp.Lexicographic.{slice_cmp}
 use Rattle.std.specs.List.{AllZip}
 use Rattle.std.specs.Ordering.{nat_cmp, is_lt}
@@ -30,8 +30,13 @@ pub record AreInOrder (texts : List (List ℕ)) (places : List ℕ) : Type 0 whe
   pub same_length : length places ≡ length texts
   pub below : (i : ℕ) → i < length places → get_or places i 0 < length texts
   pub each : (a : ℕ) → a < length texts → (i : ℕ) × (i < length places) × (get_or places i 0 ≡ a)
+  pub apart : (i j : ℕ) → i < j → j < length places → get_or places i 0 ≡ get_or places j 0 → ⊥
   pub ordered : (i j : ℕ) → i ≤ j → j < length places
       → is_lt (slice_cmp nat_cmp (get_or texts (get_or places j 0) []) (get_or texts (get_or places i 0) [])) ≡ false
+
+-- the texts at places, in the order of these
+abbrev pub texts_at : List (List ℕ) → List ℕ → List (List ℕ)
+texts_at texts places = map (λ place. get_or texts place []) places
 
 -- ranks lead back to the first so many of some places, from each to its place
 pub record LeadBack (count : ℕ) (places ranks : List ℕ) : Type 0 where

@@ -95,6 +95,13 @@ impl<N: Numbers> Cell<N> {
         self.facts
     }
 
+    /// How many measures it has values of.
+    pub fn measures(&self) -> usize
+        ensures { result ≡ length self.now.bags }
+    {
+        self.measures.len()
+    }
+
     /// Adds a fact by its values, a value or null for each measure. Where memory runs out, the cell has some of the
     /// values too.
     pub fn gather(&mut self, values: &[Option<i64>]) -> Result<(), AllocError>

@@ -5,6 +5,8 @@
 //! [`Cell`] is the tally of a group of facts, which answers every aggregate of them.
 //! [`Cube`] is the cells of all kept grouping sets, kept right under adds and removes.
 //! [`OrderedCells`] are its cells in key order, each a [`KeyedCell`].
+//! [`FinestCells`] are those of the finest grouping set alone; a walk over them hands the cells of a whole cube to what
+//! [`TakesCells`].
 #![tactic(auto)]
 
 mod cell;
@@ -13,6 +15,6 @@ pub mod laws;
 mod measure;
 
 pub use cell::Cell;
-pub use cube::{Cube, KeyedCell, OrderedCells, row_of};
+pub use cube::{Codes, Cube, FinestCells, KeyedCell, OrderedCells, TakesCells, row_of};
 pub use cube_core::{CoordRef, reduced};
 pub use cube_values::{Counted, Numbers, Summary};

@@ -1,17 +1,18 @@
 -- Laws of ranks: they compare as the coordinates of their codes do.
-use Rattle.std.proofs.Common.{◌≡◌, ℕ, ◌<◌, ◌≤◌, List, [], ◌∷◌, zero-add, Bool, true, false, refl, sym, ap, ◌∙◌, subst}
+use Rattle.std.proofs.Common.{◌≡◌, ℕ, ◌+◌, ◌<◌, ◌≤◌, ◌==◌, List, [], ◌∷◌, zero-add, Bool, true, false, refl, sym, ap, ◌∙◌, subst}
 use Rattle.std.proofs.Common.{arith, inl, inr, length, get_or, Bor, ◌⊎◌}
 use Rattle.std.specs.Prelude.{All, Contains}
 use Rattle.std.specs.Cmp.{IsTotalOrder, IsStrictWeakOrder}
 use Rattle.std.specs.Cmp.Lexicographic.{slice_cmp}
 use Rattle.std.specs.Fn.{Called, ComparesAs}
-use Rattle.std.specs.List.{range_with_len}
+use Rattle.std.specs.List.{IsDistinct, range_with_len}
 use Rattle.std.specs.List.Sorted.{IsSortedBy, IsPermutation}
 use Rattle.std.specs.Ordering.{nat_cmp, is_lt, ordering_reverse}
 use Rattle.std.specs.declared.cmp.Ordering.{Ordering}
 use Rattle.std.specs.declared.cmp.Ordering.TheVariants.{Less, Equal, Greater}
 use denote.Param.Members.{Mut}
-use Rattle.std.proofs.lemmas.Bool.{cases_lt, and_parts, lt-ltb, le-ltb}
+use Rattle.std.proofs.lemmas.Bool.{both_ways, cases_eq, cases_lt, and_parts, eq-eqb, lt-ltb, le-ltb, ne_eqb}
+use Rattle.std.proofs.lemmas.Map.Keys.{IsDistinct-IsPermutation, IsDistinct-from_apart, apart_from_distinct}
 use Rattle.std.proofs.lemmas.Cmp.{nat_cmp_total, nat_list_cmp_total, tied_itself}
 use Rattle.std.proofs.lemmas.Fn.{always_returns_same}
 use Rattle.std.proofs.lemmas.List.Elements.{All-head, All-tail, Contains-get_or}
@@ -74,9 +75,32 @@ AreInOrder-IsSortedBy texts places moved sorted = record {
       (omega (arith, inside, length-range_with_len 0 (length texts)))) in
       let there = Contains-permutation (range_with_len 0 (length texts)) places a moved first in
       (there.0, there.1, get_or_default places there.0 0 a there.1 ∙ there.2);
+  apart = λ i j up inside same. both_ways (get_or places i 0 == get_or places j 0)
+      (apart_from_distinct (λ a b. a == b) places i j 0 distinct up inside)
+      (eq-eqb (get_or places i 0) (get_or places j 0) same);
   ordered = λ i j up inside. sorted_far (λ a b. is_lt (slice_cmp nat_cmp (get_or texts a []) (get_or texts b [])))
       (ranks_by nat_list_cmp_total (λ a. get_or texts a [])) places sorted i j 0 up inside;
 } where
+  all : List ℕ
+  all = range_with_len 0 (length texts)
+
+  flips : (x y : ℕ) → (x == y) ≡ (y == x)
+  flips x y = elim (cases_eq x y) [
+    | inl same ↦ eq-eqb x y same ∙ sym (eq-eqb y x (sym same))
+    | inr other ↦ ne_eqb x y other ∙ sym (ne_eqb y x (λ same. other (sym same)))
+  ]
+
+  distinct : IsDistinct (λ a b. a == b) places
+  distinct = IsDistinct-IsPermutation (λ a b. a == b) flips all places moved
+      (IsDistinct-from_apart (λ a b. a == b) all rises)
+    where
+    rises : (i j d : ℕ) → i < j → j < length all → (get_or all i d == get_or all j d) ≡ false
+    rises i j d up inside =
+        let small : j < length texts = omega (arith, inside, length-range_with_len 0 (length texts)) in
+        rw (get_or-range_with_len 0 (length texts) i d (omega (arith, up, small)),
+        get_or-range_with_len 0 (length texts) j d small)
+        (ne_eqb (0 + i) (0 + j) (λ same. absurd (omega (arith, up, same))))
+
   long : length places ≡ length texts
   long = length_permutation (range_with_len 0 (length texts)) places moved ∙ length-range_with_len 0 (length texts)
 
@@ -86,6 +110,17 @@ AreInOrder-IsSortedBy texts places moved sorted = record {
       (IsPermutation-sym (range_with_len 0 (length texts)) places moved) there in
       let inside : back.0 < length texts = omega (arith, back.1, length-range_with_len 0 (length texts)) in
       omega (arith, inside, sym back.2, get_or-range_with_len 0 (length texts) back.0 a inside)
+
+-- ranks that lead back to places lead from each place to where it is
+pub LeadBack-place : (texts : List (List ℕ)) (order ranks : List ℕ) → AreInOrder texts order
+    → LeadBack (length order) order ranks → (a : ℕ) → a < length texts
+    → (get_or order (get_or ranks a 0) 0 ≡ a) × (get_or ranks a 0 < length order)
+LeadBack-place texts order ranks in_order has a small =
+    let at = in_order.each a small in
+    let back = has.back at.0 at.1 in
+    let below = has.below at.0 at.1 in
+    let P : ℕ → Type 0 = λ p. (get_or order (get_or ranks p 0) 0 ≡ p) × (get_or ranks p 0 < length order) in
+    subst P at.2 (back, below)
 
 -- ranks that lead back to places in order are ranks of the texts
 pub AreRanks-LeadBack : (texts : List (List ℕ)) (order ranks : List ℕ) → IsDictionary texts → AreInOrder texts order
@@ -100,12 +135,7 @@ AreRanks-LeadBack texts order ranks is in_order has = record {
   text a = get_or texts a []
 
   place_of : (a : ℕ) → a < length texts → (get_or order (get_or ranks a 0) 0 ≡ a) × (get_or ranks a 0 < length order)
-  place_of a small =
-      let at = in_order.each a small in
-      let back = has.back at.0 at.1 in
-      let below = has.below at.0 at.1 in
-      let P : ℕ → Type 0 = λ p. (get_or order (get_or ranks p 0) 0 ≡ p) × (get_or ranks p 0 < length order) in
-      subst P at.2 (back, below)
+  place_of = LeadBack-place texts order ranks in_order has
 
   rising : (a b : ℕ) → a < length texts → b < length texts → get_or ranks a 0 < get_or ranks b 0
       → slice_cmp nat_cmp (text a) (text b) ≡ Less

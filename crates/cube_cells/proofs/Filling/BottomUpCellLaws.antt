@@ -36,7 +36,7 @@ IsPart-held m x = record { adds = λ old new more plus. (plus.bags.each m).held 
 abbrev none_if : Bool → ℕ
 none_if b = if b then 0 else 1
 
-weigh-none : (weight : Codes → ℕ) (part : Tally → ℕ) (cells : CodedCells) → All (λ cell. weight cell.0 ≡ 0) cells
+pub weigh-none : (weight : Codes → ℕ) (part : Tally → ℕ) (cells : CodedCells) → All (λ cell. weight cell.0 ≡ 0) cells
     → weigh weight part cells ≡ 0
 weigh-none weight part [] none = refl
 weigh-none weight part (cell ∷ cells) none =

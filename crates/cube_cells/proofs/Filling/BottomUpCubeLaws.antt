@@ -17,7 +17,7 @@ use Rattle.std.proofs.lemmas.List.{get_or-map, get_or-set_other, get_or-set_same
 use Rattle.std.proofs.lemmas.List.Folds.{list_any_more}
 use Rattle.std.proofs.lemmas.Map.Keys.{apart_from_distinct, sorted_from_all_adjacent}
 use Rattle.std.proofs.lemmas.Map.Lookups.{exact_bytes}
-use Rattle.cube_cells.specs.BottomUp.{CanWalk, IsWalkable, TakesCube, TakesWalk, is_kept_by}
+use Rattle.cube_cells.specs.BottomUp.{CanWalk, IsWalkable}
 use Rattle.cube_cells.proofs.Codes.RankLaws.{Less-from_is_lt}
 use Rattle.cube_cells.proofs.Filling.BottomUpLaws.{apart-same_codes}
 use Rattle.cube_cells.proofs.Filling.ShareLaws.{HaveAll-IsPermutation}
@@ -99,7 +99,7 @@ IsPartOf-held measures m x inside = record {
 }
 
 -- ---- codes of the finest set
-pow-positive : (n : ℕ) → 0 < 2 ^ n
+pub pow-positive : (n : ℕ) → 0 < 2 ^ n
 pow-positive zero = omega arith
 pow-positive (suc n) = omega (arith, pow-succ' 2 n, pow-positive n)
 
@@ -200,7 +200,7 @@ AreFinest-IsCoded schema dictionaries facts items coded of = record {
   };
 }
 
-some_finest : (schema : Layout) (dictionaries : Dictionaries) (facts : List Fact) (items : CodedCells)
+pub some_finest : (schema : Layout) (dictionaries : Dictionaries) (facts : List Fact) (items : CodedCells)
     → AreFinest schema dictionaries facts items → 0 < finest_set (length schema.dimensions)
 some_finest schema dictionaries facts items are =
     at (length schema.dimensions) are.base.is_schema.some_dimension
@@ -727,60 +727,13 @@ AreFinest-IsPermutation schema dictionaries facts number found items coded of mo
     }
 
 -- items in the order of their codes
-sorted_items : {N : Type 0} (items : List (Item N))
+pub sorted_items : {N : Type 0} (items : List (Item N))
     → IsSortedBy (λ a b. is_lt (slice_cmp nat_cmp a.codes.codes b.codes.codes)) items
     → IsSortedBy (λ a b. is_lt (codes_cmp a b)) (cells_of_items items)
 sorted_items {N} items sorted =
     IsSortedBy-map {Y = Codes × Tally} (λ (item : Item N). (item.codes, item.cell))
     (λ a b. is_lt (slice_cmp nat_cmp a.codes.codes b.codes.codes)) (λ x y. is_lt (codes_cmp x y)) items
     (λ a b in_a in_b. refl) sorted
-
--- and so do items that lie in the order of their codes
-pub CanWalk-finest : {N : Type 0} (schema : Layout) (dictionaries : Dictionaries) (facts : List Fact) (number : ℕ)
-    (found : CodedCells) (items : List (Item N))
-    → IsCoded schema (finest_set (length schema.dimensions) ∷ []) number dictionaries found
-    → IsCubeOfAll facts (lattice_of schema (finest_set (length schema.dimensions) ∷ []) number dictionaries found)
-    → IsPermutation found (cells_of_items items)
-    → IsSortedBy (λ a b. is_lt (slice_cmp nat_cmp a.codes.codes b.codes.codes)) items
-    → CanWalk (length schema.dimensions) 0 (cells_of_items items)
-CanWalk-finest schema dictionaries facts number found items coded of moved sorted =
-    let are = AreFinest-IsPermutation schema dictionaries facts number found (cells_of_items items) coded of moved in
-    CanWalk-AreFinest schema dictionaries facts (cells_of_items items) are
-    (strictly_sorted (cells_of_items items) (sorted_items items sorted) are.all.distinct)
-
--- the walk over them takes the cube
-pub TakesCube-TakesWalk : {S : Type 0} (takes : S → Codes → Tally → S → Type 0) (schema : Layout)
-    (dictionaries : Dictionaries) (facts : List Fact) (number : ℕ) (found items : CodedCells) (sets : List ℕ)
-    (kept : List Bool) (old new : S)
-    → IsCoded schema (finest_set (length schema.dimensions) ∷ []) number dictionaries found
-    → IsCubeOfAll facts (lattice_of schema (finest_set (length schema.dimensions) ∷ []) number dictionaries found)
-    → IsPermutation found items → ((mask : ℕ) → get_or kept mask false ≡ is_among mask sets)
-    → All (λ set. set < 2 ^ length schema.dimensions) sets
-    → TakesWalk takes kept (length schema.dimensions) 0 items old new
-    → TakesCube takes sets (lattice_of schema (finest_set (length schema.dimensions) ∷ []) number dictionaries found)
-    old new
-TakesCube-TakesWalk takes schema dictionaries facts number found items sets kept old new coded of moved masks within
-    walk = record {
-      cells = walk.cells;
-      taken = walk.taken;
-      in_order = walk.are.in_order;
-      each = All-IsCodedCell schema dictionaries facts sets items walk.cells
-          (AreFinest-IsPermutation schema dictionaries facts number found items coded of moved) is;
-      cube = λ others some all. IsCubeOf-IsWalkOf schema dictionaries others sets items walk.cells
-          (AreFinest-IsPermutation schema dictionaries others number found items coded all moved) some within is;
-    } where
-      n : ℕ
-      n = length schema.dimensions
-
-      same : is_kept_by kept ≡ is_kept_in sets
-      same = λ i codes. masks (mask_of_codes codes.codes) i
-
-      left : n - 0 ≡ n
-      left = omega arith
-
-      is : IsWalkOf (is_kept_in sets) n 0 items walk.cells
-      is = subst (λ (m : ℕ). IsWalkOf (is_kept_in sets) m 0 items walk.cells) left
-          (subst (λ (is_kept : Codes → Bool). IsWalkOf is_kept (n - 0) 0 items walk.cells) same walk.are)
 
 -- ---- the masks of kept sets
 none_kept : (n mask : ℕ) → get_or (replicate n false) mask false ≡ false
@@ -789,15 +742,15 @@ none_kept (suc n) zero = refl
 none_kept (suc n) (suc mask) = none_kept n mask
 
 -- no set yet
-pub kept-none : (mask : ℕ) → get_or (replicate 256 false) mask false ≡ is_among mask []
-kept-none mask = none_kept 256 mask
+pub kept-none : (n mask : ℕ) → get_or (replicate n false) mask false ≡ is_among mask []
+kept-none n mask = none_kept n mask
 
 -- a set more
-pub kept-more : (kept : List Bool) (sets : List ℕ) (i set_here : ℕ) → length kept ≡ 256 → i < length sets
-    → set_here ≡ get_or sets i set_here → set_here < 256
+pub kept-more : (kept : List Bool) (sets : List ℕ) (i set_here : ℕ) → i < length sets
+    → set_here ≡ get_or sets i set_here → set_here < length kept
     → ((mask : ℕ) → get_or kept mask false ≡ is_among mask (take i sets)) → (mask : ℕ)
     → get_or (set kept set_here true) mask false ≡ is_among mask (take (i + 1) sets)
-kept-more kept sets i set_here long inside is small each mask =
+kept-more kept sets i set_here inside is small each mask =
     by_mask (cases_eq mask set_here)
     ∙ sym (list_any_more (λ other. other == mask) sets i set_here inside
     ∙ ap (λ (s : ℕ). is_among mask (take i sets) || (s == mask)) (sym is))
@@ -810,7 +763,7 @@ kept-more kept sets i set_here long inside is small each mask =
         → get_or (set kept set_here true) mask false ≡ (is_among mask (take i sets) || (set_here == mask))
     by_mask (inl same) =
         ap (λ (m : ℕ). get_or (set kept set_here true) m false) same
-        ∙ get_or-set_same kept set_here true false (omega (arith, long, small))
+        ∙ get_or-set_same kept set_here true false small
         ∙ sym (or_right (is_among mask (take i sets)) (set_here == mask) (eq-eqb set_here mask (sym same)))
     by_mask (inr other) =
         get_or-set_other kept set_here mask true false other ∙ each mask

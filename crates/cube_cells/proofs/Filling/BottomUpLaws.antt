@@ -59,7 +59,7 @@ pub weigh-append : (weight : Codes → ℕ) (part : Tally → ℕ) (a b : CodedC
 weigh-append weight part a b = sum_by-append (λ (c : Codes × Tally). weight c.0 * part c.1) a b
 
 -- by two weights together
-weigh-both : (f g : Codes → ℕ) (part : Tally → ℕ) (cells : CodedCells)
+pub weigh-both : (f g : Codes → ℕ) (part : Tally → ℕ) (cells : CodedCells)
     → weigh (λ codes. f codes + g codes) part cells ≡ weigh f part cells + weigh g part cells
 weigh-both f g part [] = refl
 weigh-both f g part (cell ∷ cells) = omega (

@@ -46,7 +46,7 @@ use Rattle.cube_cells.proofs.Cells.WalkLaws.{same_codes-IsEquivalence}
 abbrev pub same_key_as : Key → Key → Bool
 same_key_as = eq_by_cmp key_cmp
 
-same_key_as-IsEquivalence : IsEquivalence same_key_as
+pub same_key_as-IsEquivalence : IsEquivalence same_key_as
 same_key_as-IsEquivalence = eq_by_cmp_equiv key_cmp-IsTotalOrder
 
 -- a cell is found by its key

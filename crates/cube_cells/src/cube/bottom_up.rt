@@ -1,20 +1,16 @@
 //! The cells of all kept grouping sets in the order of their codes, by a walk over lists of the finest cells (Beyer and
 //! Ramakrishnan 1999): no cell is hashed, and none is kept but those of the lists that are walked over.
-ghost use Rattle.std.specs.Prelude.{◌≡◌, ◌<◌, ◌≤◌, ◌^◌, ◌∷◌, ◌++◌, [], ℕ, List, false, All, IfOk, OnOk, filter, get_or, length, if◌then◌else◌};
+ghost use Rattle.std.specs.Prelude.{◌≡◌, ◌<◌, ◌≤◌, ◌^◌, ◌∷◌, ◌++◌, [], ℕ, false, All, IfOk, OnOk, filter, get_or, length, if◌then◌else◌};
 ghost use Rattle.std.specs.Cmp.Lexicographic.{slice_cmp};
-ghost use Rattle.std.specs.List.Sorted.{IsPermutation, IsSortedBy};
+ghost use Rattle.std.specs.List.Sorted.{IsSortedBy};
 ghost use Rattle.std.specs.Ordering.{nat_cmp, is_lt};
-ghost use Rattle.cube_cells.specs.BottomUp.{AreUnited, AreRaised, CanWalk, IsItem, IsRun, JoinsLast, TakesAll, TakesCube, TakesWalk, cells_of_items, cells_of_lent, column_of, is_kept_by, raise};
+ghost use Rattle.cube_cells.specs.BottomUp.{AreUnited, AreRaised, CanWalk, IsItem, IsNoneKept, IsRun, JoinsLast, TakesAll, TakesWalk, cells_of_items, cells_of_lent, column_of, is_kept_by, raise};
 ghost use Rattle.cube_core.specs.GroupingSet.{is_among};
-ghost use Rattle.cube_core.specs.declared.fact.Fact.{Fact};
-ghost use Rattle.cube_cells.specs.Fill.{IsCubeOfAll, finest_set};
 ghost use Rattle.cube_cells.specs.Tally.{PlusTally, SameTally, Tally};
 ghost use Rattle.cube_cells.specs.declared.cube.codes.Codes.{Codes};
 
-use super::Cube;
 use super::codes::Codes;
-use super::fill::merge_counted;
-use super::levels::Cells;
+use super::fill::{finest_of, merge_counted};
 use crate::cell::Cell;
 use cube_values::Numbers;
 use std::alloc::{AllocError, Global};
@@ -43,69 +39,31 @@ pub struct Lent<'c, N: Numbers> {
     pub cell: &'c Cell<N>,
 }
 
-/// Hands the cells of these grouping sets over, in the order of their codes, for the facts of a cube over the finest grouping
-/// set, if there are any; where the texts of each dimension are in order, this is key order.
-///
-/// The only error is that memory ran out, or numbers to count the facts with.
-pub fn walk_finest<N: Numbers, S: TakesCells<N>>(
-    finest: Cube<N>,
-    sets: &[u8],
-    sink: &mut S,
-) -> Result<(), AllocError>
-    requires finest { finest.sets ≡ finest_set (length finest.schema.dimensions) ∷ [] }
-    requires facts { (facts : List Fact) × IsCubeOfAll facts finest }
-    requires within { All (λ set. set < 2 ^ length finest.schema.dimensions) sets.now }
-    ensures { OnOk result (TakesCube S.takes sets.now finest sink.old sink.new) }
-{
-    let Cube {
-        schema,
-        mut levels,
-        alloc,
-        ..
-    } = finest;
-    let level = levels.remove(0);
-    let dimensions = schema.dimensions().len();
-    let kept = kept_masks(alloc, sets)?;
-    let items = items_in_order(alloc, level.cells)?;
-    walk(alloc, &kept, dimensions, 0, &items, sink)
-}
-
-// For each mask whether it is that of one of these sets.
-fn kept_masks(alloc: Global, sets: &[u8]) -> Result<Vec<bool>, AllocError>
+/// For each mask of so many dimensions whether it is that of one of these sets.
+pub fn kept_masks(alloc: Global, dimensions: usize, sets: &[u8]) -> Result<Vec<bool>, AllocError>
+    requires few { dimensions ≤ 8 }
+    requires within { All (λ set. set < 2 ^ dimensions) sets.now }
     ensures { IfOk result (λ kept. (mask : ℕ) → get_or kept.items mask false ≡ is_among mask sets.now) }
 {
-    let mut kept = vec![in alloc; false; 256]?;
+    let mut kept = vec![in alloc; false; masks_of(dimensions)]?;
     for set in sets {
         kept[usize::from(*set)] = true;
     }
     Ok(kept)
 }
 
-// The cells of a table as items, in the order of their codes.
-fn items_in_order<N: Numbers>(alloc: Global, cells: Cells<N>) -> Result<Vec<Item<N>>, AllocError>
-    ensures same { IfOk result (λ items. IsPermutation cells.entries (cells_of_items items.items)) }
-    ensures order { IfOk result (λ items.
-        IsSortedBy (λ a b. is_lt (slice_cmp nat_cmp a.codes.codes b.codes.codes)) items.items) }
+// How many masks there are of so many dimensions.
+fn masks_of(dimensions: usize) -> usize
+    requires { dimensions ≤ 8 }
+    ensures { result ≡ 2 ^ dimensions }
 {
-    let mut items = items_of(alloc, cells)?;
-    items.sort_unstable_by(|a, b| a.codes.cmp(&b.codes));
-    Ok(items)
-}
-
-// The cells of a table as items.
-fn items_of<N: Numbers>(alloc: Global, cells: Cells<N>) -> Result<Vec<Item<N>>, AllocError>
-    ensures { IfOk result (λ items. cells_of_items items.items ≡ cells.entries) }
-{
-    let mut items = Vec::with_capacity(alloc, cells.len())?;
-    for (codes, cell) in cells {
-        items.push(Item { codes, cell })?;
-    }
-    Ok(items)
+    usize::from(finest_of(dimensions)) + 1
 }
 
 /// Hands the cells of the kept sets over, from a dimension on of so many, for items that agree in those before it.
 ///
-/// Runs of one code come first, then the items with ALL in the dimension. The only error is that memory ran out.
+/// Runs of one code come first, then the items with ALL in the dimension; none is looked at where no set is kept. The only
+/// error is that memory ran out.
 pub fn walk<N: Numbers, S: TakesCells<N>>(
     alloc: Global,
     kept: &[bool],
@@ -121,15 +79,24 @@ pub fn walk<N: Numbers, S: TakesCells<N>>(
     if from == dimensions {
         return take_kept(kept, items, sink);
     }
+    if items.is_empty() {
+        return Ok(());
+    }
+    let first = &items[0];
     if items.len() == 1 {
-        let item = &items[0];
-        return walk_one(kept, dimensions, from, &item.codes, &item.cell, sink);
+        return walk_one(kept, dimensions, from, &first.codes, &first.cell, sink);
+    }
+    if !is_any_kept(kept, from, &first.codes) {
+        return Ok(());
     }
     let mut start = 0;
     while start < items.len() {
         let end = end_of_run(items, from, start);
         walk(alloc, kept, dimensions, from + 1, &items[start..end], sink)?;
         start = end;
+    }
+    if !is_any_kept(kept, from + 1, &first.codes.with_all(from)) {
+        return Ok(());
     }
     let raised = raised(alloc, from, items)?;
     walk(alloc, kept, dimensions, from + 1, &raised, sink)
@@ -151,6 +118,9 @@ fn walk_one<N: Numbers, S: TakesCells<N>>(
     if from == dimensions {
         return take_if_kept(kept, codes, cell, sink);
     }
+    if !is_any_kept(kept, from, codes) {
+        return Ok(());
+    }
     walk_one(kept, dimensions, from + 1, codes, cell, sink)?;
     walk_one(
         kept,
@@ -160,6 +130,22 @@ fn walk_one<N: Numbers, S: TakesCells<N>>(
         cell,
         sink,
     )
+}
+
+// Whether a set is kept that has, of the first so many dimensions, those in which codes aren't ALL.
+fn is_any_kept(kept: &[bool], from: usize, codes: &Codes) -> bool
+    requires { from ≤ 8 }
+    ensures { result ≡ false → IsNoneKept (is_kept_by kept.now) from codes.now }
+{
+    let step = masks_of(from);
+    let mut mask = usize::from(codes.mask()) % step;
+    while mask < kept.len() {
+        if kept[mask] {
+            return true;
+        }
+        mask += step;
+    }
+    false
 }
 
 // Hands the items of kept sets over.
@@ -177,8 +163,8 @@ fn take_kept<N: Numbers, S: TakesCells<N>>(
     Ok(())
 }
 
-// Hands a cell over if its set is kept.
-fn take_if_kept<N: Numbers, S: TakesCells<N>>(
+/// Hands a cell over if its set is kept.
+pub fn take_if_kept<N: Numbers, S: TakesCells<N>>(
     kept: &[bool],
     codes: &Codes,
     cell: &Cell<N>,

@@ -3,10 +3,12 @@ ghost use Rattle.std.specs.Prelude.{◌≡◌, ◌<◌, ◌≤◌, ◌/◌, ◌%
 ghost use Rattle.std.specs.Cmp.Lexicographic.{slice_cmp};
 ghost use Rattle.std.specs.Ordering.{nat_cmp};
 ghost use Rattle.cube_cells.specs.Codes.{IsDictionary};
+ghost use Rattle.cube_cells.specs.Ranking.{AreRankings, IsRanking, ranked_codes};
 ghost use Rattle.cube_cells.specs.Ranks.{AreRanks, AreAllRanks, AreInOrder, LeadBack, rank_of, ranks_of};
 
 use super::codes::Codes;
 use super::dictionary::Dictionary;
+use super::sorted_texts::SortedTexts;
 use std::alloc::{AllocError, Global};
 use std::cmp::Ordering;
 use std::marker::Model;
@@ -113,6 +115,51 @@ pub fn ranks_of(ranks: &[Ranks], codes: &Codes) -> KeyRanks
         found[place] = dimension.rank_of(found[place]);
     }
     KeyRanks::of(found)
+}
+
+/// The texts of a dimension in their order, and the ranks of the codes that they had before.
+#[derive(Drop)]
+pub struct RankedTexts {
+    pub texts: SortedTexts,
+    pub ranks: Ranks,
+}
+
+/// Puts the texts of each dimension in their order. The only error is that memory ran out.
+pub fn all_ranked(
+    alloc: Global,
+    dictionaries: Vec<Dictionary>,
+) -> Result<Vec<RankedTexts>, AllocError>
+    ensures { IfOk result (λ ranked. AreRankings dictionaries.items ranked.items) }
+{
+    let mut ranked = Vec::with_capacity(alloc, dictionaries.len())?;
+    for dictionary in dictionaries {
+        ranked.push(ranked_texts(alloc, dictionary)?)?;
+    }
+    Ok(ranked)
+}
+
+// Puts the texts of a dictionary in their order.
+fn ranked_texts(alloc: Global, dictionary: Dictionary) -> Result<RankedTexts, AllocError>
+    ensures { IfOk result (IsRanking dictionary) }
+{
+    let places = places_in_order(alloc, &dictionary)?;
+    let ranks = ranks_in_order(alloc, &places)?;
+    Ok(RankedTexts {
+        texts: SortedTexts::of(dictionary, places),
+        ranks: Ranks { ranks },
+    })
+}
+
+/// Codes by their ranks.
+pub fn ranked_codes(ranked: &[RankedTexts], codes: &Codes) -> Codes
+    requires { length ranked.now ≤ 8 }
+    ensures { result ≡ ranked_codes ranked.now codes.now }
+{
+    let mut found = codes.codes;
+    for (place, dimension) in ranked.iter().enumerate() {
+        found[place] = dimension.ranks.rank_of(found[place]);
+    }
+    Codes { codes: found }
 }
 
 // The places of the texts of a dictionary, in the order of the texts.

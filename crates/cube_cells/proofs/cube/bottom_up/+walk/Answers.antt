@@ -6,6 +6,7 @@ use Rattle.cube_cells.specs.Coded.{CodedCells}
 use Rattle.cube_cells.proofs.Filling.BottomUpLaws.{CanWalk-raised, CanWalk-run, IsWalking-run, IsWalking-start}
 use Rattle.cube_cells.proofs.Filling.BottomUpLaws.{TakesWalk-kept, TakesWalk-raised, cells_of_items-range}
 use Rattle.cube_cells.proofs.Filling.BottomUpLaws.{length-cells_of_items}
+use Rattle.cube_cells.proofs.Filling.PruneLaws.{TakesWalk-none_first, TakesWalk-runs_first}
 use Rattle.cube_cells.proofs.cube.bottom_up.+walk.Goals as goal
 
 pub returns-then-from-dimensions : goal.returns-then-from-dimensions
@@ -14,6 +15,21 @@ returns-then-from-dimensions g t c =
     on_ok_weaker c.take_kept.result (λ taken. TakesWalk-kept g.S.TakesCells.takes c.args.kept.now c.args.dimensions
     c.args.from (cells_of_items c.args.items.now) c.args.sink.now c.take_kept.new.sink all c.requires.items taken)
     c.take_kept.ensures
+
+pub returns-then-not-is_any_kept : goal.returns-then-not-is_any_kept
+returns-then-not-is_any_kept g t c =
+    TakesWalk-none_first g.S.TakesCells.takes c.args.kept.now c.args.dimensions c.args.from c.args.items.now
+    c.index-items-0.result c.args.sink.now c.requires.items c.index-items-0.is
+    (c.is_any_kept.ensures c.if-not-is_any_kept.true)
+
+pub returns-then-not-is_any_kept-2 : goal.returns-then-not-is_any_kept-2
+returns-then-not-is_any_kept-2 g t c =
+    let below : c.args.from < c.args.dimensions = omega (arith, c.requires.from, c.if-from-dimensions.false) in
+    let past : length (cells_of_items c.args.items.now) ≤ c.loop-start.start =
+    omega (arith, length-cells_of_items c.args.items.now, c.loop-start-test.false) in
+    TakesWalk-runs_first g.S.TakesCells.takes c.args.kept.now c.args.dimensions c.args.from c.args.items.now
+    c.index-items-0.result c.loop-start.start c.args.sink.now c.loop-start.sink below c.loop-start.invariant past
+    c.index-items-0.is (rw c.with_all.ensures at (c.is_any_kept-2.ensures c.if-not-is_any_kept-2.true))
 
 pub loop-start-init : goal.loop-start-init
 loop-start-init g t c =

@@ -4,6 +4,7 @@ use Rattle.cube_cells.specs.BottomUp.{CanWalk}
 use Rattle.cube_cells.specs.Tally.{Tally}
 use Rattle.cube_cells.specs.declared.cube.codes.Codes.{Codes}
 use Rattle.cube_cells.proofs.Filling.BottomUpLaws.{CanWalk-one, CanWalk-one_raised, TakesWalk-one, TakesWalk-one_kept}
+use Rattle.cube_cells.proofs.Filling.PruneLaws.{TakesWalk-none}
 use Rattle.cube_cells.proofs.cube.bottom_up.+walk_one.Goals as goal
 
 pub returns-then-from-dimensions : goal.returns-then-from-dimensions
@@ -12,6 +13,12 @@ returns-then-from-dimensions g t c =
     on_ok_weaker c.take_if_kept.result (λ taken. TakesWalk-one_kept g.S.TakesCells.takes c.args.kept.now
     c.args.dimensions c.args.from (c.args.codes.now, c.args.cell.now) c.args.sink.now c.take_if_kept.new.sink all
     c.requires.item taken) c.take_if_kept.ensures
+
+pub returns-then-not-is_any_kept : goal.returns-then-not-is_any_kept
+returns-then-not-is_any_kept g t c =
+    let item : Codes × Tally = (c.args.codes.now, c.args.cell.now) in
+    TakesWalk-none g.S.TakesCells.takes c.args.kept.now c.args.dimensions c.args.from (item ∷ []) item c.args.sink.now
+    c.requires.item (c.is_any_kept.ensures c.if-not-is_any_kept.true)
 
 pub walk_one-requires : goal.walk_one-requires
 walk_one-requires g t c κs within =

@@ -8,7 +8,7 @@ use Rattle.cube_cells.specs.Tally.{Tally}
 use Rattle.cube_cells.specs.declared.cube.bottom_up.Item.{Item}
 use Rattle.cube_cells.specs.declared.cube.codes.Codes.{Codes}
 use Rattle.cube_cells.proofs.Codes.RankLaws.{IsSortedBy-key}
-use Rattle.cube_cells.proofs.cube.bottom_up.items_in_order.Goals as goal
+use Rattle.cube_cells.proofs.cube.finest_cells.items_in_order.Goals as goal
 
 pub returns-clause-same : goal.returns-clause-same
 returns-clause-same g c = subst (λ (cells : CodedCells). IsPermutation cells

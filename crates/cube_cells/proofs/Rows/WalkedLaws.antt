@@ -1,0 +1,186 @@
+-- Laws of walks over the finest cells of some facts: the rows of the cells that are handed over are those of their cube.
+use Rattle.std.proofs.Common.{◌≡◌, ℕ, zero, suc, ◌-◌, ◌<◌, ◌≤◌, List, [], ◌∷◌, Bool, true, false, refl, sym, ap, ◌∙◌, subst}
+use Rattle.std.proofs.Common.{arith, get_or, length, replicate, if◌then◌else◌}
+use Rattle.std.specs.Prelude.{All, IfSome, is_some}
+use Rattle.std.specs.List.{AllZip}
+use Rattle.std.specs.List.Sorted.{IsStrictlySortedBy}
+use Rattle.std.proofs.lemmas.Bool.{both_ways}
+use Rattle.std.proofs.lemmas.List.Elements.{All-cons, All-nil}
+use Rattle.std.proofs.lemmas.List.Sorted.{IsPermutation-refl}
+use Rattle.cube_core.specs.Cube.{AreRows}
+use Rattle.cube_core.specs.Group.{group_of}
+use Rattle.cube_core.specs.GroupingSet.{is_among}
+use Rattle.cube_core.specs.Layout.{Layout}
+use Rattle.cube_core.specs.declared.fact.Fact.{Fact}
+use Rattle.cube_core.specs.declared.key.Coord.{Coord}
+use Rattle.cube_core.specs.declared.key.Coord.TheVariants as coord
+use Rattle.cube_core.specs.declared.key.Key.{Key}
+use Rattle.cube_core.specs.declared.key.Row.{Row}
+use Rattle.cube_cells.specs.BottomUp.{AreToWalk, CanWalk, IsWalkOf, TakesAll, TakesCube, TakesWalk, codes_cmp, is_kept_by}
+use Rattle.cube_cells.specs.Codes.{Dictionaries, all_code, are_codes, coords_at}
+use Rattle.cube_cells.specs.Coded.{AreNewCells, CodedCells, IsCodedCell, decoded, lattice_of, total_codes}
+use Rattle.cube_cells.specs.Cube.{Cells, IsCubeOf, cell_at}
+use Rattle.cube_cells.specs.Fill.{IsCubeOfAll, finest_set}
+use Rattle.cube_cells.specs.Levels.{mask_of_codes}
+use Rattle.cube_cells.specs.Rows.{IsRowOf}
+use Rattle.cube_cells.specs.Tally.{Tally, IsTallyOf}
+use Rattle.cube_cells.specs.declared.cube.codes.Codes.{Codes}
+use Rattle.cube_cells.proofs.Cells.NewLaws.{IsCubeOf-AreNewCells}
+use Rattle.cube_cells.proofs.Codes.KeyLaws.{all_code-replicate}
+use Rattle.cube_cells.proofs.Filling.BottomUpCubeLaws.{AreFinest, AreFinest-IsPermutation, All-IsCodedCell}
+use Rattle.cube_cells.proofs.Filling.BottomUpCubeLaws.{CanWalk-AreFinest, IsCubeOf-IsWalkOf, is_kept_in}
+use Rattle.cube_cells.proofs.Rows.BottomUpRowLaws.{AreRowsOver-codes_cmp}
+
+AreFinest-AreToWalk : (schema : Layout) (number : ℕ) (dictionaries : Dictionaries) (items : CodedCells)
+    (facts : List Fact) → AreToWalk schema number dictionaries items
+    → IsCubeOfAll facts (lattice_of schema (finest_set (length schema.dimensions) ∷ []) number dictionaries items)
+    → AreFinest schema dictionaries facts items
+AreFinest-AreToWalk schema number dictionaries items facts are of =
+    AreFinest-IsPermutation schema dictionaries facts number items items are.coded of (IsPermutation-refl items)
+
+pub CanWalk-AreToWalk : (schema : Layout) (number : ℕ) (dictionaries : Dictionaries) (items : CodedCells)
+    → AreToWalk schema number dictionaries items → CanWalk (length schema.dimensions) 0 items
+CanWalk-AreToWalk schema number dictionaries items are = CanWalk-AreFinest schema dictionaries are.facts items
+    (AreFinest-AreToWalk schema number dictionaries items are.facts are are.cube) are.in_order
+
+-- ---- over some facts
+pub TakesCube-TakesWalk : {S : Type 0} (takes : S → Codes → Tally → S → Type 0) (schema : Layout) (number : ℕ)
+    (dictionaries : Dictionaries) (items : CodedCells) (kept : List Bool) (old new : S)
+    → AreToWalk schema number dictionaries items → (number ≡ 0 → ⊥)
+    → ((mask : ℕ) → get_or kept mask false ≡ is_among mask schema.grouping_sets)
+    → TakesWalk takes kept (length schema.dimensions) 0 items old new
+    → TakesCube takes (lattice_of schema (finest_set (length schema.dimensions) ∷ []) number dictionaries items) old new
+TakesCube-TakesWalk takes schema number dictionaries items kept old new are some masks walk = record {
+  cells = walk.cells;
+  taken = walk.taken;
+  each = each;
+  rows = λ facts of rows zipped. AreRowsOver-codes_cmp schema dictionaries facts sets walk.cells rows
+      (omega (arith, are.coded.lattice.dictionaries, are.coded.lattice.schema.dimensions_at_most)) are.coded.texts
+      are.texts each walk.are.in_order
+      (IsCubeOf-IsWalkOf schema dictionaries facts sets items walk.cells
+      (AreFinest-AreToWalk schema number dictionaries items facts are of) (more facts of)
+      are.coded.lattice.schema.sets_are_of_dimensions is) zipped;
+} where
+  n : ℕ
+  n = length schema.dimensions
+
+  sets : List ℕ
+  sets = schema.grouping_sets
+
+  more : (facts : List Fact) → IsCubeOfAll facts (lattice_of schema (finest_set n ∷ []) number dictionaries items)
+      → 0 < length facts
+  more [] of = absurd (some of.facts_are)
+  more (fact ∷ facts) of = omega arith
+
+  same : is_kept_by kept ≡ is_kept_in sets
+  same = λ i codes. masks (mask_of_codes codes.codes) i
+
+  is : IsWalkOf (is_kept_in sets) n 0 items walk.cells
+  is = subst (λ (m : ℕ). IsWalkOf (is_kept_in sets) m 0 items walk.cells) (omega arith)
+      (subst (λ (is_kept : Codes → Bool). IsWalkOf is_kept (n - 0) 0 items walk.cells) same walk.are)
+
+  each : All (IsCodedCell dictionaries (length schema.measures)) walk.cells
+  each = All-IsCodedCell schema dictionaries are.facts sets items walk.cells
+      (AreFinest-AreToWalk schema number dictionaries items are.facts are are.cube) is
+
+-- ---- over no facts
+-- the grand total has one key, whatever texts there are
+coords_at-total : (dictionaries : Dictionaries) (k : ℕ) → coords_at dictionaries (replicate k all_code)
+    ≡ coords_at (replicate (length dictionaries) []) (replicate k all_code)
+coords_at-total [] k = refl
+coords_at-total (texts ∷ dictionaries) zero =
+    ap (λ (coords : List Coord). coord.All ∷ coords) (coords_at-total dictionaries zero)
+coords_at-total (texts ∷ dictionaries) (suc k) =
+    ap (λ (coords : List Coord). coord.All ∷ coords) (coords_at-total dictionaries k)
+
+are_codes-total : (dictionaries : Dictionaries) (k : ℕ) → length dictionaries ≤ k
+    → are_codes dictionaries (replicate k all_code) ≡ true
+are_codes-total [] k room = all_code-replicate k
+are_codes-total (texts ∷ dictionaries) zero room = absurd (omega (arith, room))
+are_codes-total (texts ∷ dictionaries) (suc k) room = are_codes-total dictionaries k (omega (arith, room))
+
+decoded-total : (dictionaries : Dictionaries) (t : Tally) → decoded dictionaries ((total_codes, t) ∷ [])
+    ≡ decoded (replicate (length dictionaries) []) ((total_codes, t) ∷ [])
+decoded-total dictionaries t =
+    let make : List Coord → Cells = λ coords. (record { coords = coords }, t) ∷ [] in
+    ap make (coords_at-total dictionaries 8)
+
+one-sorted : (cell : Codes × Tally) → IsStrictlySortedBy codes_cmp (cell ∷ [])
+unfolding IsStrictlySortedBy
+one-sorted cell = (tt, tt)
+
+none-sorted : IsStrictlySortedBy codes_cmp []
+unfolding IsStrictlySortedBy
+none-sorted = tt
+
+-- cells of no facts are the cube of no facts, whatever texts there are
+IsCubeOf-none : (schema : Layout) (dictionaries : Dictionaries) (cells : CodedCells) (facts : List Fact)
+    → length schema.dimensions ≤ 8 → 0 ≡ length facts
+    → decoded dictionaries cells ≡ decoded (replicate (length schema.dimensions) []) cells
+    → AreNewCells (is_among 0 schema.grouping_sets) (length schema.measures) cells
+    → IsCubeOf (lattice_of schema schema.grouping_sets (length facts) dictionaries cells) facts
+IsCubeOf-none schema dictionaries cells (fact ∷ facts) room none same new = absurd (omega (arith, none))
+IsCubeOf-none schema dictionaries cells [] room none same new =
+    let cube = IsCubeOf-AreNewCells schema schema.grouping_sets cells room new in
+    record {
+      keys = λ key. ap (λ (keyed : Cells). is_some (cell_at keyed key)) same ∙ cube.keys key;
+      tallies = λ key. subst (λ (keyed : Cells). IfSome (cell_at keyed key) (IsTallyOf (group_of key []))) (sym same)
+          (cube.tallies key);
+      widths = λ key. subst (λ (keyed : Cells). IfSome (cell_at keyed key)
+          (λ t. length t.bags ≡ length schema.measures)) (sym same) (cube.widths key);
+    }
+
+pub TakesCube-total : {S : Type 0} (takes : S → Codes → Tally → S → Type 0) (schema : Layout) (number : ℕ)
+    (dictionaries : Dictionaries) (items : CodedCells) (kept : List Bool) (t : Tally) (old new : S)
+    → AreToWalk schema number dictionaries items → number ≡ 0
+    → ((mask : ℕ) → get_or kept mask false ≡ is_among mask schema.grouping_sets) → IsTallyOf [] t
+    → length t.bags ≡ length schema.measures
+    → TakesAll takes old (if is_kept_by kept total_codes then (total_codes, t) ∷ [] else []) new
+    → TakesCube takes (lattice_of schema (finest_set (length schema.dimensions) ∷ []) number dictionaries items) old new
+TakesCube-total {S} takes schema number dictionaries items kept t old new are none masks tally width taken =
+    by_kept (is_among 0 sets) refl
+    (subst (λ (b : Bool). TakesAll takes old (if b then (total_codes, t) ∷ [] else []) new) (masks 0) taken)
+  where
+    sets : List ℕ
+    sets = schema.grouping_sets
+
+    long : length dictionaries ≡ length schema.dimensions
+    long = are.coded.lattice.dictionaries
+
+    room : length schema.dimensions ≤ 8
+    room = are.coded.lattice.schema.dimensions_at_most
+
+    all : (cells : CodedCells) → TakesAll takes old cells new
+        → All (IsCodedCell dictionaries (length schema.measures)) cells → IsStrictlySortedBy codes_cmp cells
+        → decoded dictionaries cells ≡ decoded (replicate (length schema.dimensions) []) cells
+        → AreNewCells (is_among 0 sets) (length schema.measures) cells
+        → TakesCube takes (lattice_of schema (finest_set (length schema.dimensions) ∷ []) number dictionaries items) old
+        new
+    all cells takes_all each sorted same are_new = record {
+      cells = cells;
+      taken = takes_all;
+      each = each;
+      rows = λ facts of rows zipped. AreRowsOver-codes_cmp schema dictionaries facts sets cells rows
+          (omega (arith, long, room)) are.coded.texts are.texts each sorted
+          (IsCubeOf-none schema dictionaries cells facts room (sym none ∙ of.facts_are) same are_new) zipped;
+    }
+
+    by_kept : (b : Bool) → is_among 0 sets ≡ b
+        → TakesAll takes old (if b then (total_codes, t) ∷ [] else []) new
+        → TakesCube takes (lattice_of schema (finest_set (length schema.dimensions) ∷ []) number dictionaries items) old
+        new
+    by_kept true is takes_one = all ((total_codes, t) ∷ []) takes_one
+        (All-cons (IsCodedCell dictionaries (length schema.measures)) (total_codes, t) [] (record {
+          codes = are_codes-total dictionaries 8 (omega (arith, long, room));
+          eight = refl;
+          width = width;
+          some = refl;
+        }) (All-nil (IsCodedCell dictionaries (length schema.measures)))) (one-sorted (total_codes, t))
+        (decoded-total dictionaries t
+        ∙ ap (λ (n : ℕ). decoded (replicate n []) ((total_codes, t) ∷ [])) long) (record {
+          none = λ never. absurd (both_ways (is_among 0 sets) never is);
+          total = λ _. (t, refl, tally, width);
+        })
+    by_kept false is takes_none = all [] takes_none (All-nil (IsCodedCell dictionaries (length schema.measures)))
+        none-sorted refl
+        (record { none = λ _. refl; total = λ never. absurd (both_ways (is_among 0 sets) is never) })

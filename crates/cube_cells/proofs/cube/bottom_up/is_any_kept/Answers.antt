@@ -1,0 +1,23 @@
+use Rattle.std.proofs.Common.{rules, arith, ◌≡◌, ◌+◌, ◌^◌, ◌%◌, false, get_or, subst, ap, ◌∙◌, ℕ}
+use Rattle.cube_cells.specs.Levels.{mask_of_codes}
+use Rattle.cube_cells.proofs.Filling.PruneLaws.{IsLooking, IsLooking-next, IsLooking-start, IsNoneKept-IsLooking}
+use Rattle.cube_cells.proofs.cube.bottom_up.is_any_kept.Goals as goal
+
+pub loop-mask-init : goal.loop-mask-init
+loop-mask-init c = record {
+  step = c.masks_of-step.ensures;
+  looking = rw (c.masks_of-step.ensures, c.from.ensures, c.mask.ensures)
+      (IsLooking-start c.args.kept.now c.args.from c.args.codes.now);
+}
+
+pub loop-mask-preserved : goal.loop-mask-preserved
+loop-mask-preserved c = record {
+  step = c.loop-mask.invariant.step;
+  looking = IsLooking-next c.args.kept.now c.args.from c.args.codes.now c.loop-mask.mask _
+      c.loop-mask.invariant.looking c.if-kept-mask.false
+      (ap (λ (n : ℕ). c.loop-mask.mask + n) c.masks_of-step.ensures);
+}
+
+pub returns : goal.returns
+returns c = λ none. IsNoneKept-IsLooking c.args.kept.now c.args.from c.args.codes.now c.loop-mask.mask
+    c.loop-mask.invariant.looking (omega arith)
