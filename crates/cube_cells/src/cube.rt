@@ -29,13 +29,13 @@ mod walk;
 mod workers;
 
 use crate::cell::Cell;
+pub use bottom_up::TakesCells;
 use cell_key::CellKey;
 use codes::ALL;
+pub use codes::Codes;
 use cube_core::{Coord, DimensionValues, Fact, HashKey, Key, Schema};
 use cube_values::{Counted, Numbers};
 use dictionary::Dictionary;
-pub use bottom_up::TakesCells;
-pub use codes::Codes;
 pub use finest_cells::FinestCells;
 pub use keyed::KeyedCell;
 use levels::{Level, new_levels};

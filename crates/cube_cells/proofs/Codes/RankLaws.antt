@@ -94,12 +94,14 @@ AreInOrder-IsSortedBy texts places moved sorted = record {
   distinct = IsDistinct-IsPermutation (λ a b. a == b) flips all places moved
       (IsDistinct-from_apart (λ a b. a == b) all rises)
     where
-    rises : (i j d : ℕ) → i < j → j < length all → (get_or all i d == get_or all j d) ≡ false
-    rises i j d up inside =
-        let small : j < length texts = omega (arith, inside, length-range_with_len 0 (length texts)) in
-        rw (get_or-range_with_len 0 (length texts) i d (omega (arith, up, small)),
-        get_or-range_with_len 0 (length texts) j d small)
-        (ne_eqb (0 + i) (0 + j) (λ same. absurd (omega (arith, up, same))))
+      rises : (i j d : ℕ) → i < j → j < length all → (get_or all i d == get_or all j d) ≡ false
+      rises i j d up inside =
+          let small : j < length texts = omega (arith, inside, length-range_with_len 0 (length texts)) in
+          rw (
+            get_or-range_with_len 0 (length texts) i d (omega (arith, up, small)),
+            get_or-range_with_len 0 (length texts) j d small,
+          )
+          (ne_eqb (0 + i) (0 + j) (λ same. absurd (omega (arith, up, same))))
 
   long : length places ≡ length texts
   long = length_permutation (range_with_len 0 (length texts)) places moved ∙ length-range_with_len 0 (length texts)

@@ -59,10 +59,10 @@ mask-prefix (suc from) (x ∷ a) (y ∷ b) same =
     let bit : ℕ → ℕ = λ code. if code == all_code then 0 else 1 in
     let power : 2 ^ suc from ≡ 2 * 2 ^ from = pow-succ' 2 from in
     rw power (
-      mod-bit (bit x) (mask_of_codes a) (2 ^ from) (bit-small (x == all_code)) (pow-positive from)
-      ∙ ap (λ (n : ℕ). bit x + 2 * n) (mask-prefix from a b tail)
-      ∙ ap (λ (code : ℕ). bit code + 2 * (mask_of_codes b % 2 ^ from)) head
-      ∙ sym (mod-bit (bit y) (mask_of_codes b) (2 ^ from) (bit-small (y == all_code)) (pow-positive from))
+    mod-bit (bit x) (mask_of_codes a) (2 ^ from) (bit-small (x == all_code)) (pow-positive from)
+    ∙ ap (λ (n : ℕ). bit x + 2 * n) (mask-prefix from a b tail)
+    ∙ ap (λ (code : ℕ). bit code + 2 * (mask_of_codes b % 2 ^ from)) head
+    ∙ sym (mod-bit (bit y) (mask_of_codes b) (2 ^ from) (bit-small (y == all_code)) (pow-positive from))
     )
 
 -- numbers of one rest that are less than a step apart are the same
