@@ -8,7 +8,7 @@ use Rattle.std.proofs.lemmas.Bool.{cases_lt}
 use Rattle.std.proofs.lemmas.List.{get_or_past, take-set, take_all, take_more_set}
 use Rattle.std.proofs.lemmas.List.Elements.{All-nil, All-weaker}
 use Rattle.std.proofs.lemmas.Nat.{mod-mul-add}
-use Rattle.cube_cells.specs.BottomUp.{AreRunsOf, CanWalk, IsItem, IsNoneKept, IsPart, IsWalkOf, IsWalkable, TakesAll}
+use Rattle.cube_cells.specs.BottomUp.{AreRunsOf, CanWalk, IsItem, IsNoneKept, IsWalkOf, IsWalkable}
 use Rattle.cube_cells.specs.BottomUp.{TakesWalk, all_at, cells_of_items, codes_cmp, is_kept_by, only, spread, weigh}
 use Rattle.cube_cells.specs.Codes.{all_code}
 use Rattle.cube_cells.specs.Coded.{CodedCells}

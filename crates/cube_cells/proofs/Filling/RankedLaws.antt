@@ -1,5 +1,5 @@
 -- Laws of finest cells whose codes become the ranks of their texts: they are cells of the same facts.
-use Rattle.std.proofs.Common.{◌≡◌, ℕ, zero, suc, ◌^◌, ◌-◌, ◌<◌, ◌≤◌, ◌==◌, ◌||◌, List, [], ◌∷◌, Bool, true, false, refl, sym, ap, ◌∙◌}
+use Rattle.std.proofs.Common.{◌≡◌, ℕ, ◌^◌, ◌<◌, List, [], ◌∷◌, false, refl, sym, ap, ◌∙◌}
 use Rattle.std.proofs.Common.{subst, arith, inl, inr, length, map, nat_lt}
 use Rattle.std.specs.Prelude.{All, IfSome, is_some}
 use Rattle.std.specs.List.{AllByRecursion, IsDistinct}
@@ -20,10 +20,9 @@ use Rattle.cube_core.specs.declared.key.Key.{Key}
 use Rattle.cube_cells.specs.BottomUp.{AreInTextOrder, AreSortedTexts, AreToWalk, IsItem, cells_of_items}
 use Rattle.cube_cells.specs.Codes.{Dictionaries, IsDictionary, key_at}
 use Rattle.cube_cells.specs.Coded.{CodedCells, IsCoded, IsCodedCell, decoded, is_total_code, lattice_of, same_codes}
-use Rattle.cube_cells.specs.Cube.{Cells, IsCubeOf, cell_at, count_in}
+use Rattle.cube_cells.specs.Cube.{Cells, cell_at, count_in}
 use Rattle.cube_cells.specs.Fill.{IsCubeOfAll, finest_set}
 use Rattle.cube_cells.specs.Ranking.{AreRankings, ranked_cells, ranked_codes, ranked_dictionaries}
-use Rattle.cube_cells.specs.Ranks.{ranks_of}
 use Rattle.cube_cells.specs.Tally.{Tally, IsTallyOf}
 use Rattle.cube_cells.specs.declared.cube.bottom_up.Item.{Item}
 use Rattle.cube_cells.specs.declared.cube.codes.Codes.{Codes}
@@ -33,7 +32,7 @@ use Rattle.cube_cells.proofs.Cells.NewLaws.{IsStrictlySortedBy-one}
 use Rattle.cube_cells.proofs.Cells.WalkLaws.{same_codes-exact}
 use Rattle.cube_cells.proofs.Codes.RankingLaws.{All-AreSortedTexts, SameCoords-AreRankings, length-ranked_dictionaries}
 use Rattle.cube_cells.proofs.Codes.RankingLaws.{length-ranks_of}
-use Rattle.cube_cells.proofs.Filling.BottomUpCubeLaws.{AreFinest, AreFinest-IsCoded, AreFinest-IsPermutation, All-IsItem}
+use Rattle.cube_cells.proofs.Filling.BottomUpCubeLaws.{AreFinest, AreFinest-IsPermutation, All-IsItem}
 use Rattle.cube_cells.proofs.Filling.BottomUpCubeLaws.{pow-positive, some_finest, sorted_items, strictly_sorted}
 use Rattle.cube_cells.proofs.Filling.ShareLaws.{HaveAll-IsPermutation}
 use Rattle.cube_cells.proofs.Rows.RowLaws.{IsDistinct-decoded, same_key_as, same_key_as-IsEquivalence}

@@ -2,27 +2,22 @@
 use Rattle.std.proofs.Common.{◌≡◌, ℕ, zero, suc, ◌-◌, ◌<◌, ◌≤◌, List, [], ◌∷◌, Bool, true, false, refl, sym, ap, ◌∙◌, subst}
 use Rattle.std.proofs.Common.{arith, get_or, length, replicate, if◌then◌else◌}
 use Rattle.std.specs.Prelude.{All, IfSome, is_some}
-use Rattle.std.specs.List.{AllZip}
 use Rattle.std.specs.List.Sorted.{IsStrictlySortedBy}
 use Rattle.std.proofs.lemmas.Bool.{both_ways}
 use Rattle.std.proofs.lemmas.List.Elements.{All-cons, All-nil}
 use Rattle.std.proofs.lemmas.List.Sorted.{IsPermutation-refl}
-use Rattle.cube_core.specs.Cube.{AreRows}
 use Rattle.cube_core.specs.Group.{group_of}
 use Rattle.cube_core.specs.GroupingSet.{is_among}
 use Rattle.cube_core.specs.Layout.{Layout}
 use Rattle.cube_core.specs.declared.fact.Fact.{Fact}
 use Rattle.cube_core.specs.declared.key.Coord.{Coord}
 use Rattle.cube_core.specs.declared.key.Coord.TheVariants as coord
-use Rattle.cube_core.specs.declared.key.Key.{Key}
-use Rattle.cube_core.specs.declared.key.Row.{Row}
 use Rattle.cube_cells.specs.BottomUp.{AreToWalk, CanWalk, IsWalkOf, TakesAll, TakesCube, TakesWalk, codes_cmp, is_kept_by}
 use Rattle.cube_cells.specs.Codes.{Dictionaries, all_code, are_codes, coords_at}
 use Rattle.cube_cells.specs.Coded.{AreNewCells, CodedCells, IsCodedCell, decoded, lattice_of, total_codes}
 use Rattle.cube_cells.specs.Cube.{Cells, IsCubeOf, cell_at}
 use Rattle.cube_cells.specs.Fill.{IsCubeOfAll, finest_set}
 use Rattle.cube_cells.specs.Levels.{mask_of_codes}
-use Rattle.cube_cells.specs.Rows.{IsRowOf}
 use Rattle.cube_cells.specs.Tally.{Tally, IsTallyOf}
 use Rattle.cube_cells.specs.declared.cube.codes.Codes.{Codes}
 use Rattle.cube_cells.proofs.Cells.NewLaws.{IsCubeOf-AreNewCells}

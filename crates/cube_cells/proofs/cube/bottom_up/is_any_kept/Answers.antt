@@ -1,6 +1,5 @@
-use Rattle.std.proofs.Common.{rules, arith, ◌≡◌, ◌+◌, ◌^◌, ◌%◌, false, get_or, subst, ap, ◌∙◌, ℕ}
-use Rattle.cube_cells.specs.Levels.{mask_of_codes}
-use Rattle.cube_cells.proofs.Filling.PruneLaws.{IsLooking, IsLooking-next, IsLooking-start, IsNoneKept-IsLooking}
+use Rattle.std.proofs.Common.{arith, ◌+◌, ap, ℕ}
+use Rattle.cube_cells.proofs.Filling.PruneLaws.{IsLooking-next, IsLooking-start, IsNoneKept-IsLooking}
 use Rattle.cube_cells.proofs.cube.bottom_up.is_any_kept.Goals as goal
 
 pub loop-mask-init : goal.loop-mask-init

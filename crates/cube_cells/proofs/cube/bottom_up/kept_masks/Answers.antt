@@ -1,4 +1,4 @@
-use Rattle.std.proofs.Common.{rules, ◌≡◌, ◌<◌, ◌^◌, ◌∙◌, false, true, arith, length, get_or, replicate, subst, ℕ}
+use Rattle.std.proofs.Common.{rules, ◌≡◌, ◌<◌, ◌^◌, ◌∙◌, false, true, arith, length, get_or, replicate, ℕ}
 use Rattle.std.proofs.lemmas.List.{get_or_default, length-replicate, length-set}
 use Rattle.cube_cells.proofs.Filling.BottomUpCubeLaws.{kept-more, kept-none}
 use Rattle.cube_cells.proofs.cube.bottom_up.kept_masks.Goals as goal

@@ -1,7 +1,7 @@
-use Rattle.std.proofs.Common.{◌≡◌, ◌∙◌, ap, sym}
+use Rattle.std.proofs.Common.{◌∙◌, ap, sym}
 use Rattle.std.specs.Hash.{le_bytes}
 use Rattle.std.proofs.lemmas.Nat.{from_le_bytes-to_le_bytes_8}
-use Rattle.cube_cells.specs.CellKey.{number_of, taken}
+use Rattle.cube_cells.specs.CellKey.{taken}
 use Rattle.cube_cells.proofs.cube.cell_key.CellHasherHasher.write_u64.Goals as goal
 
 pub returns : goal.returns
