@@ -3,3 +3,4 @@ mod FieldLaws
 pub mod LineLaws
 mod PartLaws
 pub mod RowShapeLaws
+mod WalkedLaws

@@ -1,3 +1,5 @@
 pub mod Lines
 pub mod Rows
 pub mod Shape
+pub mod Walked
+pub mod WalkedRows

@@ -107,8 +107,8 @@ fn digits_of_answers(alloc: Global, schema: &Schema) -> Result<Vec<u8>, AllocErr
     Ok(digits)
 }
 
-// The header line of the schema.
-fn text_of_header(alloc: Global, schema: &Schema) -> Result<Vec<u8>, AllocError>
+/// The header line of the schema.
+pub(crate) fn text_of_header(alloc: Global, schema: &Schema) -> Result<Vec<u8>, AllocError>
     ensures { IfOk result (λ text. text.items ≡ line (header_fields schema.now)) }
 {
     let mut text = Vec::new(alloc);

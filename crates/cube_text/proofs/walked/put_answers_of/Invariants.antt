@@ -1,0 +1,6 @@
+use Rattle.cube_text.proofs.WalkedLaws.{HasAnswersBelow}
+use Rattle.cube_text.proofs.walked.put_answers_of.Given as goal
+
+abbrev pub invariant-loop-aggregate : goal.invariant-loop-aggregate
+invariant-loop-aggregate g l =
+    HasAnswersBelow l.cells.schema l.cell l.aggregate-index l.initial.text.items l.text.items

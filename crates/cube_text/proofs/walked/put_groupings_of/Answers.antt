@@ -1,0 +1,35 @@
+use Rattle.std.proofs.Common.{◌≡◌, ◌<◌, ◌≤◌, ◌∙◌, ◌++◌, ap, arith, length, map, List}
+use Rattle.std.proofs.lemmas.List.{take_all}
+use Rattle.cube_core.specs.Text.{grouping_text}
+use Rattle.cube_core.specs.declared.key.Coord.{Coord}
+use Rattle.cube_core.specs.declared.key.Coord.TheVariants as coord
+use Rattle.cube_cells.specs.Codes.{coords_at}
+use Rattle.cube_cells.proofs.Codes.KeyLaws.{length-coords_at}
+use Rattle.cube_lines.specs.Parts.{parts}
+use Rattle.cube_text.proofs.FieldLaws.{AddsParts-next}
+use Rattle.cube_text.proofs.walked.put_groupings_of.Goals as goal
+
+pub loop-dimension-preserved : goal.loop-dimension-preserved
+loop-dimension-preserved g c =
+    let coords = coords_at c.args.cells.now.dictionaries c.args.codes.now.codes in
+    let inside : c.loop-dimension.dimension < length coords = omega (
+      arith,
+      c.loop-dimension-test.true,
+      c.dimensions-dimension-end.ensures,
+      length-coords_at c.args.cells.now.dictionaries c.args.codes.now.codes,
+    ) in
+    AddsParts-next grouping_text coords c.loop-dimension.dimension coord.All _ c.args.text.now.items
+    c.loop-dimension.text.items c.push_grouping.new.text.items inside c.coord.ensures c.loop-dimension.invariant
+    c.in_ok-push_grouping.ensures
+
+pub returns : goal.returns
+returns g c =
+    let coords = coords_at c.args.cells.now.dictionaries c.args.codes.now.codes in
+    let past : length coords ≤ c.loop-dimension.dimension = omega (
+      arith,
+      c.loop-dimension-test.false,
+      c.dimensions-dimension-end.ensures,
+      length-coords_at c.args.cells.now.dictionaries c.args.codes.now.codes,
+    ) in
+    c.loop-dimension.invariant ∙ ap (λ (cs : List Coord). c.args.text.now.items ++ parts (map grouping_text cs))
+    (take_all c.loop-dimension.dimension coords past)
