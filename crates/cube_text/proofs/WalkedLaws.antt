@@ -1,11 +1,11 @@
 -- Laws of a text to which a walk adds the line of the row of each cell.
-use Rattle.std.proofs.Common.{◌≡◌, ◌∙◌, ◌++◌, ◌+◌, ◌<◌, ◌≤◌, ◌∷◌, [], ℕ, List, Bor, length, map, take, get_or, refl, sym, ap, subst}
+use Rattle.std.proofs.Common.{◌≡◌, ◌∙◌, ◌++◌, ◌+◌, ◌<◌, ◌≤◌, ◌∷◌, [], ℕ, List, Bor, length, take, get_or, refl, sym, ap, subst}
 use Rattle.std.proofs.Common.{append_assoc, arith, length-append}
 use Rattle.std.specs.Prelude.{All}
 use Rattle.std.specs.List.{AllZip, flat_map}
 use Rattle.std.proofs.Math.Seq.{get_or-append_seam, take-append_seam}
 use Rattle.std.proofs.lemmas.List.{append-nil, get_or-map, length-map, take_all, take_more}
-use Rattle.std.proofs.lemmas.List.Elements.{All-head, All-nil, All-tail, All-weaker}
+use Rattle.std.proofs.lemmas.List.Elements.{All-head, All-tail, All-weaker}
 use Rattle.cube_core.specs.Answer.{IsAnswer}
 use Rattle.cube_core.specs.Layout.{Layout}
 use Rattle.cube_core.specs.Printed.{IsPrinted}

@@ -1,4 +1,4 @@
-use Rattle.std.proofs.Common.{◌≡◌, ◌<◌, ◌≤◌, ◌∙◌, ◌++◌, ap, arith, length, map, List}
+use Rattle.std.proofs.Common.{◌<◌, ◌≤◌, ◌∙◌, ◌++◌, ap, arith, length, map, List}
 use Rattle.std.proofs.lemmas.List.{take_all}
 use Rattle.cube_core.specs.Text.{grouping_text}
 use Rattle.cube_core.specs.declared.key.Coord.{Coord}
