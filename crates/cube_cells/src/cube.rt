@@ -40,6 +40,7 @@ pub use finest_cells::FinestCells;
 pub use keyed::KeyedCell;
 use levels::{Level, new_levels};
 pub use ordered::{OrderedCells, row_of};
+pub use sorted_texts::SortedTexts;
 use std::alloc::{AllocError, Global};
 use std::marker::Model;
 use walk::{add_to_sets, find_cell, gather_in_sets, hold_in_sets, take_from_sets};

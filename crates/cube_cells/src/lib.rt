@@ -15,6 +15,8 @@ pub mod laws;
 mod measure;
 
 pub use cell::Cell;
-pub use cube::{Codes as KeyCodes, Cube, FinestCells, KeyedCell, OrderedCells, TakesCells, row_of};
+pub use cube::{
+    Codes as KeyCodes, Cube, FinestCells, KeyedCell, OrderedCells, SortedTexts, TakesCells, row_of,
+};
 pub use cube_core::{CoordRef, reduced};
 pub use cube_values::{Counted, Numbers, Summary};

@@ -4,3 +4,4 @@ pub mod LineLaws
 mod PartLaws
 pub mod RowShapeLaws
 mod WalkedLaws
+mod ShownLaws

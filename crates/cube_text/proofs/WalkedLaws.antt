@@ -26,6 +26,7 @@ use Rattle.cube_cells.specs.Tally.{Tally}
 use Rattle.cube_cells.specs.declared.cube.codes.Codes.{Codes}
 use Rattle.cube_lines.specs.Parts.{AddsParts, parts}
 use Rattle.cube_text.specs.Rows.{AddsRow, IsAnswerOf, line_with}
+use Rattle.cube_text.specs.Shown.{AreShown}
 use Rattle.cube_text.specs.Walked.{AddsAnswers}
 use Rattle.cube_text.specs.WalkedRows.{TakesRow}
 use Rattle.cube_text.specs.declared.walked.RowsText.{RowsText}
@@ -93,21 +94,23 @@ pub record AddsRows {N : Type 0} (finest : Lattice) (cells : CodedCells) (old ne
   pub added : new.text.items ≡ old.text.items ++ flat_map (line_with (digits_of_answers finest.schema)) rows
 
 AddsRows-TakesAll : {N : Type 0} (finest : Lattice) (cells : CodedCells) (old new : RowsText N)
-    → old.cells.now ≡ finest → TakesAll TakesRow old cells new
+    → old.cells.now ≡ finest → AreShown finest.dictionaries old.shown.items → TakesAll TakesRow old cells new
     → All (λ cell. length cell.1.bags ≡ length finest.schema.measures) cells → AddsRows finest cells old new
-AddsRows-TakesAll {N} finest [] old new is taken widths = record {
+AddsRows-TakesAll {N} finest [] old new is shown taken widths = record {
   rows = [];
   are = tt;
   added = ap (λ (t : RowsText N). t.text.items) taken ∙ sym (append-nil old.text.items);
 }
-AddsRows-TakesAll {N} finest (cell ∷ cells) old new is taken widths =
+AddsRows-TakesAll {N} finest (cell ∷ cells) old new is shown taken widths =
     let W : Codes × Tally → Type 0 = λ one. length one.1.bags ≡ length finest.schema.measures in
-    let P : Lattice → Type 0 = λ l. length cell.1.bags ≡ length l.schema.measures
+    let P : Lattice → Type 0 = λ l. AreShown l.dictionaries old.shown.items
+    → length cell.1.bags ≡ length l.schema.measures
     → AddsRow (digits_of_answers l.schema) l.schema.aggregates (key_at l.dictionaries cell.0.codes, cell.1)
     old.text.items taken.0.text.items in
-    let row = subst P is taken.1.adds (All-head W cell cells widths) in
+    let row = subst P is taken.1.adds shown (All-head W cell cells widths) in
     let next : taken.0.cells.now ≡ finest = ap (λ (b : Bor Lattice). b.now) taken.1.same ∙ is in
-    let later = AddsRows-TakesAll finest cells taken.0 new next taken.2 (All-tail W cell cells widths) in
+    let still : AreShown finest.dictionaries taken.0.shown.items = rw taken.1.same_shown shown in
+    let later = AddsRows-TakesAll finest cells taken.0 new next still taken.2 (All-tail W cell cells widths) in
     let lines : List Row → List ℕ = flat_map (line_with (digits_of_answers finest.schema)) in
     record {
       rows = row.row ∷ later.rows;
@@ -118,14 +121,14 @@ AddsRows-TakesAll {N} finest (cell ∷ cells) old new is taken widths =
 
 -- a text to which a walk added the rows behind the header is the printed cube
 pub IsPrinted-TakesCube : {N : Type 0} (finest : Lattice) (old new : RowsText N) (facts : List Fact)
-    → TakesCube TakesRow finest old new → old.cells.now ≡ finest
+    → TakesCube TakesRow finest old new → old.cells.now ≡ finest → AreShown finest.dictionaries old.shown.items
     → old.text.items ≡ line (header_fields finest.schema) → IsCubeOfAll facts finest
     → IsPrinted finest.schema facts new.text.items
-IsPrinted-TakesCube finest old new facts walk is header all =
+IsPrinted-TakesCube finest old new facts walk is shown header all =
     let widths : All (λ cell. length cell.1.bags ≡ length finest.schema.measures) walk.cells =
     All-weaker (IsCodedCell finest.dictionaries (length finest.schema.measures))
     (λ cell. length cell.1.bags ≡ length finest.schema.measures) (λ cell coded. coded.width) walk.cells walk.each in
-    let adds = AddsRows-TakesAll finest walk.cells old new is walk.taken widths in
+    let adds = AddsRows-TakesAll finest walk.cells old new is shown walk.taken widths in
     record {
       rows = adds.rows;
       are_rows = walk.rows facts all adds.rows adds.are;

@@ -3,3 +3,4 @@ pub mod Rows
 pub mod Shape
 pub mod Walked
 pub mod WalkedRows
+pub mod Shown

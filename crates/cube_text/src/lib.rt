@@ -7,6 +7,7 @@
 mod fields;
 mod lines;
 mod print;
+mod shown;
 mod walked;
 
 pub use lines::{Lines, end_line, into_text, no_lines, put_field};

@@ -1,16 +1,19 @@
 //! The text of a cube, made in a walk over its finest cells: no other cell is kept, and none is sorted.
-ghost use Rattle.std.specs.Prelude.{◌≡◌, List, length, map, IfOk, OnOk};
+ghost use Rattle.std.specs.Prelude.{◌≡◌, ◌<◌, ◌≤◌, ◌∷◌, [], List, get_or, length, map, IfOk, OnOk};
 ghost use Rattle.cube_core.specs.Printed.{IsPrinted};
 ghost use Rattle.cube_core.specs.Text.{coord_text, digits_of_answers, grouping_text};
 ghost use Rattle.cube_core.specs.declared.fact.Fact.{Fact};
+ghost use Rattle.cube_core.specs.declared.key.Coord.TheVariants as coord;
 ghost use Rattle.cube_cells.specs.Codes.{key_at};
 ghost use Rattle.cube_cells.specs.Fill.{IsCubeOfAll};
 ghost use Rattle.cube_lines.specs.Parts.{AddsParts};
 ghost use Rattle.cube_text.specs.Rows.{AddsRow};
+ghost use Rattle.cube_text.specs.Shown.{AreShown};
 ghost use Rattle.cube_text.specs.Walked.{AddsAnswers};
 
 use crate::fields::{close_line, push_coord, push_grouping};
 use crate::print::text_of_header;
+use crate::shown::{Shown, all_shown, part_at};
 use cube_cells::{Cell, FinestCells, KeyCodes, Numbers, TakesCells};
 use cube_lines::push_answer;
 use itoa::Buffer;
@@ -20,6 +23,7 @@ use std::alloc::{AllocError, Global};
 #[derive(Drop)]
 pub struct RowsText<'c, N: Numbers> {
     cells: &'c FinestCells<N>,
+    shown: Vec<Shown>,
     text: Vec<u8>,
 }
 
@@ -32,7 +36,7 @@ impl<'c, N: Numbers> TakesCells<N> for RowsText<'c, N> {
         if cell.measures() != self.cells.schema().measures().len() {
             return Ok(());
         }
-        put_row_of(&mut self.text, self.cells, codes, cell)
+        put_row_of(&mut self.text, self.cells, &self.shown, codes, cell)
     }
 }
 
@@ -47,7 +51,8 @@ pub fn print_walked<N: Numbers>(
 {
     let schema = cells.schema();
     let text = text_of_header(alloc, schema)?;
-    let mut rows = RowsText { cells, text };
+    let shown = all_shown(alloc, cells)?;
+    let mut rows = RowsText { cells, shown, text };
     cells.walk(&mut rows)?;
     Ok(rows.text)
 }
@@ -56,15 +61,17 @@ pub fn print_walked<N: Numbers>(
 fn put_row_of<N: Numbers>(
     text: &mut Vec<u8>,
     cells: &FinestCells<N>,
+    shown: &[Shown],
     codes: &KeyCodes,
     cell: &Cell<N>,
 ) -> Result<(), AllocError>
     requires { length cell.now.bags ≡ length cells.now.schema.measures }
-    ensures { OnOk result (AddsRow (digits_of_answers cells.now.schema) cells.now.schema.aggregates
+    ensures { OnOk result (AreShown cells.now.dictionaries shown.now →
+        AddsRow (digits_of_answers cells.now.schema) cells.now.schema.aggregates
         (key_at cells.now.dictionaries codes.now.codes, cell.now) text.old.items text.new.items) }
 {
     let start = text.as_slice().len();
-    put_key_of(text, cells, codes)?;
+    put_key_of(text, cells, shown, codes)?;
     put_groupings_of(text, cells, codes)?;
     put_answers_of(text, cells, cell)?;
     close_line(text, start)
@@ -73,15 +80,38 @@ fn put_row_of<N: Numbers>(
 fn put_key_of<N: Numbers>(
     text: &mut Vec<u8>,
     cells: &FinestCells<N>,
+    shown: &[Shown],
     codes: &KeyCodes,
 ) -> Result<(), AllocError>
-    ensures { OnOk result (AddsParts (map coord_text (key_at cells.now.dictionaries codes.now.codes).coords)
+    ensures longer { OnOk result (length text.old.items ≤ length text.new.items) }
+    ensures shown { OnOk result (AreShown cells.now.dictionaries shown.now →
+        AddsParts (map coord_text (key_at cells.now.dictionaries codes.now.codes).coords)
         text.old.items text.new.items) }
 {
     for dimension in 0..cells.dimensions() {
-        push_coord(text, cells.coord(codes, dimension))?;
+        put_coord(text, cells, shown, codes, dimension)?;
     }
     Ok(())
+}
+
+// Puts what a row shows of the coordinate of codes in a dimension, and a comma.
+fn put_coord<N: Numbers>(
+    text: &mut Vec<u8>,
+    cells: &FinestCells<N>,
+    shown: &[Shown],
+    codes: &KeyCodes,
+    dimension: usize,
+) -> Result<(), AllocError>
+    requires { dimension < length cells.now.dictionaries }
+    ensures longer { OnOk result (length text.old.items ≤ length text.new.items) }
+    ensures shown { OnOk result (AreShown cells.now.dictionaries shown.now →
+        AddsParts (coord_text (get_or (key_at cells.now.dictionaries codes.now.codes).coords dimension coord.All) ∷ [])
+        text.old.items text.new.items) }
+{
+    match part_at(shown, codes, dimension) {
+        Some(found) => text.extend_from_slice(found),
+        None => push_coord(text, cells.coord(codes, dimension)),
+    }
 }
 
 fn put_groupings_of<N: Numbers>(

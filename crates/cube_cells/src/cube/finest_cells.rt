@@ -94,6 +94,14 @@ impl<N: Numbers> FinestCells<N> {
         self.texts.len()
     }
 
+    /// The texts of a dimension, counted from 0, in their order: the place of each is its code.
+    pub fn texts(&self, dimension: usize) -> &SortedTexts
+        requires { dimension < length self.now.dictionaries }
+        ensures { result.now ≡ get_or self.now.dictionaries dimension [] }
+    {
+        &self.texts[dimension]
+    }
+
     /// The coordinate of codes in a dimension, counted from 0.
     pub fn coord(&self, codes: &Codes, dimension: usize) -> CoordRef<'_>
         requires { dimension < length self.now.dictionaries }

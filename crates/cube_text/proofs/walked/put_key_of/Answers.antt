@@ -1,5 +1,5 @@
-use Rattle.std.proofs.Common.{◌<◌, ◌≤◌, ◌∙◌, ◌++◌, ap, arith, length, map, List}
-use Rattle.std.proofs.lemmas.List.{take_all}
+use Rattle.std.proofs.Common.{◌<◌, ◌≤◌, ◌∙◌, ◌++◌, ap, arith, get_or, length, map, refl, sym, List}
+use Rattle.std.proofs.lemmas.List.{append-nil, take_all}
 use Rattle.cube_core.specs.Text.{coord_text}
 use Rattle.cube_core.specs.declared.key.Coord.{Coord}
 use Rattle.cube_core.specs.declared.key.Coord.TheVariants as coord
@@ -8,6 +8,12 @@ use Rattle.cube_cells.proofs.Codes.KeyLaws.{length-coords_at}
 use Rattle.cube_lines.specs.Parts.{parts}
 use Rattle.cube_text.proofs.FieldLaws.{AddsParts-next}
 use Rattle.cube_text.proofs.walked.put_key_of.Goals as goal
+
+pub loop-dimension-init : goal.loop-dimension-init
+loop-dimension-init g c = record {
+  longer = omega arith;
+  shown = λ are. sym (append-nil c.args.text.now.items);
+}
 
 pub loop-dimension-preserved : goal.loop-dimension-preserved
 loop-dimension-preserved g c =
@@ -18,12 +24,16 @@ loop-dimension-preserved g c =
       c.dimensions-dimension-end.ensures,
       length-coords_at c.args.cells.now.dictionaries c.args.codes.now.codes,
     ) in
-    AddsParts-next coord_text coords c.loop-dimension.dimension coord.All _ c.args.text.now.items
-    c.loop-dimension.text.items c.push_coord.new.text.items inside c.coord.ensures c.loop-dimension.invariant
-    c.in_ok-push_coord.ensures
+    record {
+      longer = omega (arith, c.loop-dimension.invariant.longer, c.in_ok-put_coord.ensures.longer);
+      shown = λ are. AddsParts-next coord_text coords c.loop-dimension.dimension coord.All
+          (get_or coords c.loop-dimension.dimension coord.All) c.args.text.now.items c.loop-dimension.text.items
+          c.put_coord.new.text.items inside refl (c.loop-dimension.invariant.shown are)
+          (c.in_ok-put_coord.ensures.shown are);
+    }
 
-pub returns : goal.returns
-returns g c =
+pub returns-clause-shown : goal.returns-clause-shown
+returns-clause-shown g c = λ are.
     let coords = coords_at c.args.cells.now.dictionaries c.args.codes.now.codes in
     let past : length coords ≤ c.loop-dimension.dimension = omega (
       arith,
@@ -31,5 +41,5 @@ returns g c =
       c.dimensions-dimension-end.ensures,
       length-coords_at c.args.cells.now.dictionaries c.args.codes.now.codes,
     ) in
-    c.loop-dimension.invariant ∙ ap (λ (cs : List Coord). c.args.text.now.items ++ parts (map coord_text cs))
+    c.loop-dimension.invariant.shown are ∙ ap (λ (cs : List Coord). c.args.text.now.items ++ parts (map coord_text cs))
     (take_all c.loop-dimension.dimension coords past)
