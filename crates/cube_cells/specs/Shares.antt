@@ -2,6 +2,7 @@
 -- each dimension is coded by itself, and each share has the facts whose codes are its own (this project's choice).
 use Rattle.std.specs.Prelude.{◌≡◌, ◌<◌, ◌-◌, ◌%◌, ◌==◌, ◌++◌, ℕ, suc, Bool, true, List, [], ◌∷◌, length, map}
 use Rattle.std.specs.Prelude.{get_or, replicate, sum_by, Option, None, All, if◌then◌else◌}
+use Rattle.std.specs.List.{fold}
 use Rattle.std.specs.List.Sorted.{IsPermutation}
 use Rattle.cube_core.specs.Layout.{IsSchema}
 use Rattle.cube_core.specs.Takes.{fits}
@@ -41,6 +42,11 @@ pub record AreCodedIn (dimension : ℕ) (facts : List Fact) (texts : List (List 
 -- a column has the codes of all facts in a dimension
 abbrev pub IsColumnOf : ℕ → List Fact → Column → Type 0
 IsColumnOf dimension facts column = AreCodedIn dimension facts column.dictionary column.codes.items
+
+-- the texts that facts have in a dimension, each once, in the order in which they come
+abbrev pub texts_had : ℕ → List Fact → List (List ℕ)
+texts_had dimension facts =
+    fold (λ texts value. texts_with value texts) [] (map (λ fact. get_or fact.dims dimension None) facts)
 
 -- there is a column for each dimension
 pub record AreColumnsOf (dimensions : ℕ) (facts : List Fact) (columns : List Column) : Type 0 where

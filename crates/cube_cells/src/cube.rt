@@ -75,8 +75,8 @@ impl<N: Numbers> Model for Cube<N> {
 }
 
 impl Cube {
-    /// The cube of no fact over all grouping sets of the schema: the grand total alone. The only error is that memory ran
-    /// out.
+    /// The cube of no fact over all grouping sets of the schema: the grand total alone, where its set is kept, and else
+    /// no cell. The only error is that memory ran out.
     pub fn new(alloc: Global, schema: &Schema) -> Result<Cube, AllocError>
         ensures new { IfOk result (IsNewLattice schema.now schema.now.grouping_sets) }
         ensures cube { IfOk result (λ cube. IsCubeOf cube []) }

@@ -47,7 +47,3 @@ is_among set sets = list_any (λ other. other == set) sets
 -- each of these sets is among others
 abbrev pub AreAmong : List ℕ → List ℕ → Type 0
 AreAmong sets others = AllByRecursion (λ set. IsTrue (is_among set others)) sets
-
--- each of these is a grouping set of so many dimensions
-abbrev pub AreGroupingSets : ℕ → List ℕ → Type 0
-AreGroupingSets dimensions sets = AreAmong sets (all_sets dimensions)

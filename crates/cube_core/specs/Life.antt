@@ -42,7 +42,7 @@ since_delete [] = []
 since_delete (change ∷ changes) =
     if list_any is_delete (change ∷ changes) then since_delete changes else change ∷ changes
 
--- the fact of a present id after a change that takes it not away:
+-- the fact of a present id after a change that doesn't take it away:
 -- an update or an upsert puts its fact, an amendment some fields of it
 abbrev pub updated_by : Fact → Change → Fact
 updated_by fact (Insert id other) = fact

@@ -98,10 +98,6 @@ all_wanted (wanted ∷ pattern) (c ∷ coords) = is_wanted wanted c && all_wante
 abbrev pub matches : Wanted → Key → Bool
 matches pattern key = all_wanted pattern key.coords
 
--- the slice of rows by a pattern: those whose key it matches
-abbrev pub slice_of : Wanted → List Row → List Row
-slice_of pattern rows = filter (λ row. matches pattern row.key) rows
-
 -- the row of a key, where there is one
 abbrev pub row_at : Key → List Row → Option Row
 row_at key rows = find (λ row. eq_by_cmp key_cmp row.key key) rows

@@ -5,9 +5,6 @@ use Rattle.std.specs.List.{AllByRecursion, AllZip}
 use Rattle.cube_core.specs.Arrival.{Arrivals, of_sources}
 use Rattle.cube_core.specs.FeedRecords.{Good, feed_of}
 use Rattle.cube_core.specs.Layout.{Layout}
-use Rattle.cube_core.specs.Printed.{IsPrinted}
-use Rattle.cube_core.specs.Sources.{SurviveTogether}
-use Rattle.cube_core.specs.declared.fact.Fact.{Fact}
 use Rattle.cube_core.specs.declared.change.Item.{Item}
 
 -- the bytes of each source, from the first; of a source whose reader doesn't tell its bytes nothing is said
@@ -29,9 +26,3 @@ AreGood s sources = AllByRecursion (IsGood s) sources
 -- taken: what an arrival list has of each source are the items of its feed, each once and in their order
 abbrev pub AreTaken : Layout → SourceBytes → Arrivals → Type 0
 AreTaken s sources arrivals = AllZip (AreItemsOf s) sources (of_sources (length sources) arrivals)
-
--- printed: the text is the printed cube of the facts that survive together in so many sources of an arrival list
-pub record IsPrintedAt (s : Layout) (sources : ℕ) (arrivals : Arrivals) (text : List ℕ) : Type 0 where
-  pub facts : List Fact
-  pub survive : SurviveTogether s (of_sources sources arrivals) facts
-  pub printed : IsPrinted s facts text

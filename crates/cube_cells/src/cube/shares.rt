@@ -3,7 +3,7 @@ ghost use Rattle.std.specs.Prelude.{◌≡◌, ◌<◌, ◌≤◌, ◌∷◌, �
 ghost use Rattle.cube_core.specs.Layout.{IsSchema};
 ghost use Rattle.cube_core.specs.Takes.{fits};
 ghost use Rattle.cube_cells.specs.Fill.{AreMade, IsCubeOfAll, finest_set};
-ghost use Rattle.cube_cells.specs.Shares.{AreCoded, AreFinestCells, AreJoined, IsColumnOf, IsShare, Joins, PutsCode, codes_at, dictionaries_of, facts_coded, share_of};
+ghost use Rattle.cube_cells.specs.Shares.{AreCoded, AreFinestCells, AreJoined, IsColumnOf, IsShare, Joins, PutsCode, codes_at, dictionaries_of, facts_coded, share_of, texts_had};
 
 use super::Cube;
 use super::cell_key::CellKey;
@@ -182,7 +182,7 @@ fn all_made<X: Drop>(alloc: Global, made: Vec<Result<X, AllocError>>) -> Result<
     Ok(all)
 }
 
-// The codes of facts in a dimension.
+// The codes of facts in a dimension, and the texts that they have there.
 fn column_of(
     alloc: Global,
     schema: &Schema,
@@ -191,7 +191,9 @@ fn column_of(
 ) -> Result<Column, AllocError>
     requires inside { dimension < length schema.now.dimensions }
     requires fit { All (λ fact. fits schema.now fact ≡ true) (map (λ fact. fact.now) facts.now) }
-    ensures { IfOk result (IsColumnOf dimension (map (λ fact. fact.now) facts.now)) }
+    ensures column { IfOk result (IsColumnOf dimension (map (λ fact. fact.now) facts.now)) }
+    ensures texts { IfOk result (λ column.
+        column.dictionary ≡ texts_had dimension (map (λ fact. fact.now) facts.now)) }
 {
     let codes = Vec::with_capacity(alloc, facts.len())?;
     let dictionary = Dictionary::new(alloc, schema.hash_key());

@@ -10,7 +10,7 @@ loop-dimension-init c =
 pub loop-dimension-preserved : goal.loop-dimension-preserved
 loop-dimension-preserved c = rw c.in_ok-push.ensures.items
     (AreMade-push (λ d. IsColumnOf d (map (λ fact. fact.now) c.args.facts.now)) c.loop-dimension.dimension
-    c.loop-dimension.made.items c.column_of.result c.loop-dimension.invariant c.column_of.ensures)
+    c.loop-dimension.made.items c.column_of.result c.loop-dimension.invariant c.column_of.ensures.column)
 
 pub returns : goal.returns
 returns c =
