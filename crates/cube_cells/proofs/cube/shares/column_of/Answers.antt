@@ -1,8 +1,21 @@
-use Rattle.std.proofs.Common.{arith, ◌≡◌, ◌<◌, ◌+◌, ◌++◌, ◌∷◌, [], List, ap, ◌∙◌, sym, length, get_or, map, take}
-use Rattle.std.proofs.lemmas.List.{get_or_read, get_or-map, length-map, take_all, take_more}
+use Rattle.std.proofs.Common.{arith, ◌≡◌, ◌<◌, ◌+◌, ◌++◌, ◌∷◌, [], List, ap, ◌∙◌, sym, length, get_or, map, take, ℕ, Option, None}
+use Rattle.std.specs.List.{fold}
+use Rattle.std.proofs.lemmas.List.{get_or_read, get_or-map, length-map, map-append, take_all, take_more}
+use Rattle.std.proofs.lemmas.List.Sums.{fold-append}
 use Rattle.cube_core.specs.declared.fact.Fact.{Fact}
+use Rattle.cube_cells.specs.Codes.{texts_with}
+use Rattle.cube_cells.specs.Shares.{texts_had}
 use Rattle.cube_cells.proofs.Filling.ShareLaws.{IsColumnOf-PutsCode}
 use Rattle.cube_cells.proofs.cube.shares.column_of.Goals as goal
+
+-- the texts of one fact more
+texts_had-more : (dimension : ℕ) (facts : List Fact) (fact : Fact)
+    → texts_had dimension (facts ++ fact ∷ [])
+    ≡ texts_with (get_or fact.dims dimension None) (texts_had dimension facts)
+texts_had-more dimension facts fact =
+    let value : Fact → Option (List ℕ) = λ one. get_or one.dims dimension None in
+    ap (fold (λ texts one. texts_with one texts) []) (map-append value facts (fact ∷ []))
+    ∙ fold-append (λ texts one. texts_with one texts) [] (map value facts) (value fact ∷ [])
 
 pub loop-fact-preserved : goal.loop-fact-preserved
 loop-fact-preserved c =
@@ -17,8 +30,12 @@ loop-fact-preserved c =
     let next : take (i + 1) facts ≡ take i facts ++ fact.now ∷ [] =
     take_more facts i fact.now (omega (arith, inside, length-map refs (λ fact. fact.now)))
     ∙ ap (λ (f : Fact). take i facts ++ f ∷ []) (at fact.now) in
+    let puts = c.in_ok-push.ensures in
     rw next (IsColumnOf-PutsCode c.args.dimension (take i facts) fact.now c.loop-fact.column c.push.new.self
-    c.loop-fact.invariant (rw c.get.ensures at c.in_ok-push.ensures))
+    c.loop-fact.invariant.0 (rw c.get.ensures at puts),
+    (rw c.get.ensures at puts).texts
+    ∙ ap (texts_with (get_or fact.now.dims c.args.dimension None)) c.loop-fact.invariant.1
+    ∙ sym (texts_had-more c.args.dimension (take i facts) fact.now))
 
 pub returns : goal.returns
 returns c =
