@@ -43,4 +43,4 @@ returns c =
     let facts : List Fact = map (λ fact. fact.now) refs in
     let all : take c.loop-fact.fact-index facts ≡ facts =
     take_all c.loop-fact.fact-index facts (omega (arith, length-map refs (λ fact. fact.now))) in
-    rw all at c.loop-fact.invariant
+    record { column = rw all at c.loop-fact.invariant.0; texts = rw all at c.loop-fact.invariant.1 }

@@ -1,4 +1,4 @@
-use Rattle.std.proofs.Common.{◌≡◌, ◌×◌, map, take}
+use Rattle.std.proofs.Common.{◌≡◌, map, take}
 use Rattle.cube_cells.specs.Shares.{IsColumnOf, texts_had}
 use Rattle.cube_cells.proofs.cube.shares.column_of.Given as goal
 
