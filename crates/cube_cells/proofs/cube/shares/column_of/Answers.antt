@@ -31,11 +31,13 @@ loop-fact-preserved c =
     take_more facts i fact.now (omega (arith, inside, length-map refs (λ fact. fact.now)))
     ∙ ap (λ (f : Fact). take i facts ++ f ∷ []) (at fact.now) in
     let puts = c.in_ok-push.ensures in
-    rw next (IsColumnOf-PutsCode c.args.dimension (take i facts) fact.now c.loop-fact.column c.push.new.self
-    c.loop-fact.invariant.0 (rw c.get.ensures at puts),
-    (rw c.get.ensures at puts).texts
-    ∙ ap (texts_with (get_or fact.now.dims c.args.dimension None)) c.loop-fact.invariant.1
-    ∙ sym (texts_had-more c.args.dimension (take i facts) fact.now))
+    rw next (
+      IsColumnOf-PutsCode c.args.dimension (take i facts) fact.now c.loop-fact.column c.push.new.self
+          c.loop-fact.invariant.0 (rw c.get.ensures at puts),
+      (rw c.get.ensures at puts).texts
+          ∙ ap (texts_with (get_or fact.now.dims c.args.dimension None)) c.loop-fact.invariant.1
+          ∙ sym (texts_had-more c.args.dimension (take i facts) fact.now),
+    )
 
 pub returns : goal.returns
 returns c =
