@@ -124,6 +124,10 @@ where_option = texts_option (codes "where")
 abbrev pub strict_option : Rule
 strict_option = flag (codes "strict")
 
+-- `--max-cells`, how many cells the cube may have: any text, which is looked at later
+abbrev pub max_cells_option : Rule
+max_cells_option = text_option (codes "max-cells")
+
 -- `--why`, which has more lines say why a command failed
 abbrev pub why_option : Rule
 why_option = flag (codes "why")
@@ -175,9 +179,10 @@ width_option = between_option (codes "width") 20 10000
 abbrev pub with_view : App → App
 with_view line = with_rule (with_rule (with_rule line json_option) aligned_option) width_option
 
--- a command with the options for the facts that count and for the lines that may be refused behind its words
+-- a command with the options for the facts that count, for the lines that may be refused and for the cells that there
+-- may be behind its words
 abbrev pub with_facts : App → App
-with_facts line = with_rule (with_rule line where_option) strict_option
+with_facts line = with_rule (with_rule (with_rule line where_option) strict_option) max_cells_option
 
 -- a command with the two options of a store behind its words
 abbrev pub with_store : App → App
@@ -351,6 +356,7 @@ pub record AreRunWords (rows : List Row) (run : RunWords) : Type 0 where
   pub view : AreViewWords rows run.view
   pub conditions : words_of (codes "where") rows ≡ map (λ word. word.now) run.conditions.items
   pub is_strict : run.strict ≡ is_given (one_of (codes "strict") rows)
+  pub max_cells : option_map (λ text. text.now) run.max_cells ≡ first_of (codes "max-cells") rows
 
 -- a number is between two bounds
 abbrev pub IsBetween : ℕ → ℕ → ℕ → Type 0
@@ -429,6 +435,7 @@ pub record AreTableWords (rows : List Row) (table : TableWords) : Type 0 where
   pub view : AreViewWords rows table.view
   pub conditions : words_of (codes "where") rows ≡ map (λ word. word.now) table.conditions.items
   pub is_strict : table.strict ≡ is_given (one_of (codes "strict") rows)
+  pub max_cells : option_map (λ text. text.now) table.max_cells ≡ first_of (codes "max-cells") rows
 
 -- `table` has at least one file, and its options, where they are given, are in their bounds
 pub record TableHasRoom (table : TableWords) : Type 0 where

@@ -395,6 +395,14 @@ const STRICT: Word = Word {
     help: "Fails where a line is refused, and writes nothing then",
 };
 
+// How many cells the cube may have.
+const MAX_CELLS: Word = Word {
+    name: "max-cells",
+    form: Form::Text("N"),
+    is_needed: false,
+    help: "Fails where the whole cube has more than N cells, and writes nothing then; N is 1 to 9223372036854775807",
+};
+
 // For a store of which nothing is supposed after a torn write.
 const WARY: Word = Word {
     name: "wary",
@@ -475,7 +483,7 @@ pub(crate) const OWN_FILES: [Line; 2] = [
             WHY,
         ],
         is_run: false,
-        options: &[JSON, ALIGNED, WIDTH, WHERE, STRICT],
+        options: &[JSON, ALIGNED, WIDTH, WHERE, STRICT, MAX_CELLS],
     },
     Line {
         name: "schema",
@@ -525,6 +533,7 @@ pub(crate) const PRINTS: [Line; 3] = [
             WIDTH,
             WHERE,
             STRICT,
+            MAX_CELLS,
         ],
     },
     Line {
@@ -553,7 +562,7 @@ pub(crate) const VIEWS: [Line; 3] = [
             },
         ],
         is_run: true,
-        options: &[JSON, ALIGNED, WIDTH, WHERE, STRICT],
+        options: &[JSON, ALIGNED, WIDTH, WHERE, STRICT, MAX_CELLS],
     },
     Line {
         name: "drill",
@@ -575,7 +584,7 @@ pub(crate) const VIEWS: [Line; 3] = [
             },
         ],
         is_run: true,
-        options: &[JSON, ALIGNED, WIDTH, WHERE, STRICT],
+        options: &[JSON, ALIGNED, WIDTH, WHERE, STRICT, MAX_CELLS],
     },
     Line {
         name: "rollup",
@@ -597,7 +606,7 @@ pub(crate) const VIEWS: [Line; 3] = [
             },
         ],
         is_run: true,
-        options: &[JSON, ALIGNED, WIDTH, WHERE, STRICT],
+        options: &[JSON, ALIGNED, WIDTH, WHERE, STRICT, MAX_CELLS],
     },
 ];
 

@@ -35,6 +35,6 @@ pub use progress::Progress;
 pub use request::{LiveWords, MergeWords, Request, RunWords, SchemaWords, TableWords, ViewWords};
 pub use views::View;
 pub use words::{
-    clashing_views, clashing_words, read_words, unlawful_max_record, unlawful_shard,
-    unreadable_words,
+    clashing_views, clashing_words, read_words, unlawful_max_cells, unlawful_max_record,
+    unlawful_shard, unreadable_words,
 };

@@ -56,6 +56,8 @@ pub struct RunWords<'a> {
     pub conditions: Vec<&'a str>,
     /// Whether a refused line is a failure; of `refusals` it isn't.
     pub strict: bool,
+    /// How many cells the cube may have, as the words spell it; none where they leave it out, and of `refusals`.
+    pub max_cells: Option<&'a str>,
     /// Whether more lines say why it failed, where standard error is no terminal too.
     pub why: bool,
 }
@@ -144,6 +146,8 @@ pub struct TableWords<'a> {
     pub conditions: Vec<&'a str>,
     /// Whether a refused line is a failure.
     pub strict: bool,
+    /// How many cells the cube may have, as the words spell it; none where they leave it out.
+    pub max_cells: Option<&'a str>,
     /// Whether more lines say why it failed, where standard error is no terminal too.
     pub why: bool,
 }
@@ -410,6 +414,7 @@ fn run_words<'a>(alloc: Global, words: &ArgMatches<'a>) -> Result<Option<RunWord
         view,
         conditions,
         strict: has_flag(words, "strict"),
+        max_cells: word_of(words, "max-cells"),
         why: live.why,
     }))
 }
@@ -557,6 +562,7 @@ fn table_words<'a>(
         view,
         conditions,
         strict: has_flag(words, "strict"),
+        max_cells: word_of(words, "max-cells"),
         why: has_flag(words, "why"),
     }))
 }

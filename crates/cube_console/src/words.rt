@@ -99,6 +99,17 @@ pub fn unlawful_max_record(alloc: Global) -> Error
     )
 }
 
+/// What there is to say of a number of cells that isn't spelled as one is, or isn't in its bounds.
+pub fn unlawful_max_cells(alloc: Global) -> Error
+    ensures { (kind_of result ≡ kind.InvalidValue) ⊎ (kind_of result ≡ kind.OutOfMemory) }
+{
+    refusal(
+        alloc,
+        ErrorKind::InvalidValue,
+        "invalid value for '--max-cells <N>': N is a number of cells from 1 to 9223372036854775807, in digits without leading zeros",
+    )
+}
+
 /// What there is to say of a store with an option that works on the feeds alone.
 pub fn clashing_words(alloc: Global) -> Error
     ensures { (kind_of result ≡ kind.ArgumentConflict) ⊎ (kind_of result ≡ kind.OutOfMemory) }
