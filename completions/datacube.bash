@@ -38,6 +38,7 @@ G4
 G5
 G6
 G7
+G8
 1
 2
 3
@@ -80,14 +81,14 @@ _datacube() {
     local word=${COMP_WORDS[COMP_CWORD]} command=${COMP_WORDS[1]} words IFS=$' \t\n'
     COMPREPLY=()
     case $command in
-    table) words='--by --of --ring --shard --max-record --builders --threads --quiet --why --json --aligned --width --where --strict -h --help' ;;
+    table) words='--by --of --ring --shard --max-record --builders --threads --quiet --why --json --aligned --width --where --strict --max-cells -h --help' ;;
     schema) words='--by --of --why -h --help' ;;
     check) words='--why -h --help' ;;
-    print) words='--ring --shard --max-record --builders --threads --quiet --why --store --wary --partial --json --aligned --width --where --strict -h --help' ;;
+    print) words='--ring --shard --max-record --builders --threads --quiet --why --store --wary --partial --json --aligned --width --where --strict --max-cells -h --help' ;;
     refusals) words='--ring --shard --max-record --builders --threads --quiet --why --store --wary -h --help' ;;
-    slice) words='--ring --shard --max-record --builders --threads --quiet --why --store --wary --json --aligned --width --where --strict -h --help' ;;
-    drill) words='--ring --shard --max-record --builders --threads --quiet --why --store --wary --json --aligned --width --where --strict -h --help' ;;
-    rollup) words='--ring --shard --max-record --builders --threads --quiet --why --store --wary --json --aligned --width --where --strict -h --help' ;;
+    slice) words='--ring --shard --max-record --builders --threads --quiet --why --store --wary --json --aligned --width --where --strict --max-cells -h --help' ;;
+    drill) words='--ring --shard --max-record --builders --threads --quiet --why --store --wary --json --aligned --width --where --strict --max-cells -h --help' ;;
+    rollup) words='--ring --shard --max-record --builders --threads --quiet --why --store --wary --json --aligned --width --where --strict --max-cells -h --help' ;;
     live) words='--ring --shard --max-record --threads --quiet --why --store --wary --commit-every -h --help' ;;
     merge) words='--partial --check --quiet --why -h --help' ;;
     explain) words='--why -h --help' ;;
@@ -95,7 +96,7 @@ _datacube() {
     esac
     if [ "$COMP_CWORD" -eq 1 ]; then
         COMPREPLY=($(compgen -W 'table schema check print refusals slice drill rollup live merge explain -h --help -V --version' -- "$word"))
-    elif [[ ${COMP_WORDS[COMP_CWORD - 1]} == @(--builders|--by|--commit-every|--max-record|--of|--ring|--shard|--threads|--where|--width) ]]; then
+    elif [[ ${COMP_WORDS[COMP_CWORD - 1]} == @(--builders|--by|--commit-every|--max-cells|--max-record|--of|--ring|--shard|--threads|--where|--width) ]]; then
         compopt +o default
     elif [[ $word == -* ]]; then
         COMPREPLY=($(compgen -W "$words" -- "$word"))

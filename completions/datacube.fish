@@ -27,6 +27,7 @@ complete -c datacube -n '__fish_seen_subcommand_from table' -l aligned -d 'Write
 complete -c datacube -n '__fish_seen_subcommand_from table' -l width -x -d 'How many columns a line takes at most, 20 to 10000; where left out as many as COLUMNS says, on a terminal; does nothing without --aligned'
 complete -c datacube -n '__fish_seen_subcommand_from table' -l where -x -d 'Counts only facts of which CONDITION holds, as city=York,Leeds or \'price>=10\'; where it is given several times, of which all hold'
 complete -c datacube -n '__fish_seen_subcommand_from table' -l strict -d 'Fails where a line is refused, and writes nothing then'
+complete -c datacube -n '__fish_seen_subcommand_from table' -l max-cells -x -d 'Fails where the whole cube has more than N cells, and writes nothing then; N is 1 to 9223372036854775807'
 complete -c datacube -n '__fish_seen_subcommand_from table' -s h -l help -d 'Print help'
 complete -c datacube -n '__fish_seen_subcommand_from schema' -l by -x -d 'The columns that are dimensions, 1 to 8, with `:` and a number the first so many characters; guessed where left out'
 complete -c datacube -n '__fish_seen_subcommand_from schema' -l of -x -d 'The columns that are measures, 1 to 4, with `:` and a number that many decimals; guessed where left out'
@@ -50,6 +51,7 @@ complete -c datacube -n '__fish_seen_subcommand_from print' -l aligned -d 'Write
 complete -c datacube -n '__fish_seen_subcommand_from print' -l width -x -d 'How many columns a line takes at most, 20 to 10000; where left out as many as COLUMNS says, on a terminal; does nothing without --aligned'
 complete -c datacube -n '__fish_seen_subcommand_from print' -l where -x -d 'Counts only facts of which CONDITION holds, as city=York,Leeds or \'price>=10\'; where it is given several times, of which all hold'
 complete -c datacube -n '__fish_seen_subcommand_from print' -l strict -d 'Fails where a line is refused, and writes nothing then'
+complete -c datacube -n '__fish_seen_subcommand_from print' -l max-cells -x -d 'Fails where the whole cube has more than N cells, and writes nothing then; N is 1 to 9223372036854775807'
 complete -c datacube -n '__fish_seen_subcommand_from print' -s h -l help -d 'Print help'
 complete -c datacube -n '__fish_seen_subcommand_from print' -F
 complete -c datacube -n '__fish_seen_subcommand_from refusals' -l ring -x -d 'How many records may wait between a feed and a builder, 1 to 65536 [default: 64]'
@@ -77,6 +79,7 @@ complete -c datacube -n '__fish_seen_subcommand_from slice' -l aligned -d 'Write
 complete -c datacube -n '__fish_seen_subcommand_from slice' -l width -x -d 'How many columns a line takes at most, 20 to 10000; where left out as many as COLUMNS says, on a terminal; does nothing without --aligned'
 complete -c datacube -n '__fish_seen_subcommand_from slice' -l where -x -d 'Counts only facts of which CONDITION holds, as city=York,Leeds or \'price>=10\'; where it is given several times, of which all hold'
 complete -c datacube -n '__fish_seen_subcommand_from slice' -l strict -d 'Fails where a line is refused, and writes nothing then'
+complete -c datacube -n '__fish_seen_subcommand_from slice' -l max-cells -x -d 'Fails where the whole cube has more than N cells, and writes nothing then; N is 1 to 9223372036854775807'
 complete -c datacube -n '__fish_seen_subcommand_from slice' -s h -l help -d 'Print help'
 complete -c datacube -n '__fish_seen_subcommand_from slice' -F
 complete -c datacube -n '__fish_seen_subcommand_from drill' -l ring -x -d 'How many records may wait between a feed and a builder, 1 to 65536 [default: 64]'
@@ -93,6 +96,7 @@ complete -c datacube -n '__fish_seen_subcommand_from drill' -l aligned -d 'Write
 complete -c datacube -n '__fish_seen_subcommand_from drill' -l width -x -d 'How many columns a line takes at most, 20 to 10000; where left out as many as COLUMNS says, on a terminal; does nothing without --aligned'
 complete -c datacube -n '__fish_seen_subcommand_from drill' -l where -x -d 'Counts only facts of which CONDITION holds, as city=York,Leeds or \'price>=10\'; where it is given several times, of which all hold'
 complete -c datacube -n '__fish_seen_subcommand_from drill' -l strict -d 'Fails where a line is refused, and writes nothing then'
+complete -c datacube -n '__fish_seen_subcommand_from drill' -l max-cells -x -d 'Fails where the whole cube has more than N cells, and writes nothing then; N is 1 to 9223372036854775807'
 complete -c datacube -n '__fish_seen_subcommand_from drill' -s h -l help -d 'Print help'
 complete -c datacube -n '__fish_seen_subcommand_from drill' -F
 complete -c datacube -n '__fish_seen_subcommand_from rollup' -l ring -x -d 'How many records may wait between a feed and a builder, 1 to 65536 [default: 64]'
@@ -109,6 +113,7 @@ complete -c datacube -n '__fish_seen_subcommand_from rollup' -l aligned -d 'Writ
 complete -c datacube -n '__fish_seen_subcommand_from rollup' -l width -x -d 'How many columns a line takes at most, 20 to 10000; where left out as many as COLUMNS says, on a terminal; does nothing without --aligned'
 complete -c datacube -n '__fish_seen_subcommand_from rollup' -l where -x -d 'Counts only facts of which CONDITION holds, as city=York,Leeds or \'price>=10\'; where it is given several times, of which all hold'
 complete -c datacube -n '__fish_seen_subcommand_from rollup' -l strict -d 'Fails where a line is refused, and writes nothing then'
+complete -c datacube -n '__fish_seen_subcommand_from rollup' -l max-cells -x -d 'Fails where the whole cube has more than N cells, and writes nothing then; N is 1 to 9223372036854775807'
 complete -c datacube -n '__fish_seen_subcommand_from rollup' -s h -l help -d 'Print help'
 complete -c datacube -n '__fish_seen_subcommand_from rollup' -F
 complete -c datacube -n '__fish_seen_subcommand_from live' -l ring -x -d 'How many records may wait between a feed and a builder, 1 to 65536 [default: 64]'
@@ -130,4 +135,4 @@ complete -c datacube -n '__fish_seen_subcommand_from merge' -s h -l help -d 'Pri
 complete -c datacube -n '__fish_seen_subcommand_from merge' -F
 complete -c datacube -n '__fish_seen_subcommand_from explain' -l why -d 'Says more where it fails: the file, the line, the column, the value, what was wanted and how to mend it; on a terminal it does so anyway'
 complete -c datacube -n '__fish_seen_subcommand_from explain' -s h -l help -d 'Print help'
-complete -c datacube -n '__fish_seen_subcommand_from explain' -a '"S1" "S2" "S3" "S4" "S5" "S6" "S7" "S8" "S9" "S10" "S11" "S12" "L1" "L2" "L3" "L4" "L5" "L6" "F1" "F2" "F3" "F4" "F5" "F6" "P1" "P2" "P3" "P4" "P5" "P6" "P7" "P8" "G1" "G2" "G3" "G4" "G5" "G6" "G7" "1" "2" "3" "4" "5" "6" "7" "8" "9" "schema unreadable" "feed unreadable" "too many feeds" "unknown code" "no random key" "Q1" "Q2" "Q3" "M1" "M2" "M3" "M4" "M5" "M6" "M7" "M8" "standard input is taken" "too many cubes" "D1" "D2" "D3" "D4" "D5" "D6" "D7" "D8" "D9" "no columns"'
+complete -c datacube -n '__fish_seen_subcommand_from explain' -a '"S1" "S2" "S3" "S4" "S5" "S6" "S7" "S8" "S9" "S10" "S11" "S12" "L1" "L2" "L3" "L4" "L5" "L6" "F1" "F2" "F3" "F4" "F5" "F6" "P1" "P2" "P3" "P4" "P5" "P6" "P7" "P8" "G1" "G2" "G3" "G4" "G5" "G6" "G7" "G8" "1" "2" "3" "4" "5" "6" "7" "8" "9" "schema unreadable" "feed unreadable" "too many feeds" "unknown code" "no random key" "Q1" "Q2" "Q3" "M1" "M2" "M3" "M4" "M5" "M6" "M7" "M8" "standard input is taken" "too many cubes" "D1" "D2" "D3" "D4" "D5" "D6" "D7" "D8" "D9" "no columns"'

@@ -1035,15 +1035,20 @@ def is_size(word):
     return size_of(word) is not None
 
 
+def is_cell_bound(word):
+    return bool(re.fullmatch(rb"[1-9][0-9]*", word)) and int(word) < 2**63
+
+
 # (whether an option's word is right; None where it has none)
 OPTIONS = {b"--ring": is_up_to(65536), b"--builders": is_up_to(8), b"--threads": is_up_to(16), b"--shard": is_shard,
            b"--max-record": is_size, b"--commit-every": is_up_to(1000000), b"--by": is_text, b"--of": is_text, b"--partial": None, b"--check": None,
-           b"--json": None, b"--aligned": None, b"--width": is_between(20, 10000), b"--where": is_text, b"--strict": None}
+           b"--json": None, b"--aligned": None, b"--width": is_between(20, 10000), b"--where": is_text, b"--strict": None,
+           b"--max-cells": is_cell_bound}
 # (options that may stand several times)
 REPEATED = [b"--where"]
 OF_FEEDS = [b"--ring", b"--builders", b"--threads", b"--shard", b"--max-record"]
 OF_VIEWS = [b"--json", b"--aligned", b"--width"]
-OF_CUBES = [*OF_VIEWS, b"--where", b"--strict"]
+OF_CUBES = [*OF_VIEWS, b"--where", b"--strict", b"--max-cells"]
 
 
 class Words:
@@ -1155,6 +1160,8 @@ def run_over(schema, given, paths):
     run = Run(schema, read_feeds(schema, paths, given.most(schema)), given.shard(), conditions)
     if b"--strict" in given.options and run.refused:
         raise Failure("G7 %d %d %d" % run.refused[0], 1)
+    if len(run.rows) > int(given.options.get(b"--max-cells", len(run.rows))):
+        raise Failure("G8", 1)
     run.view = view_of(given.options, schema)
     return run
 

@@ -52,9 +52,13 @@ def test_commands(room, rng):
     if strict and whole and whole.refused:
         code = code or "G7 %d %d %d" % whole.refused[0]
     run = oracle.Run(schema, feeds, conditions=conditions) if not code else None
+    most = max(1, len(run.rows if run else []) + rng.choice([-1, 0, 1]))
+    bound = ["--max-cells", str(most)] if rng.random() < 0.25 else []
+    if bound and run and len(run.rows) > most:
+        run, code = None, "G8"
     pattern = [rng.choice(["any", "any", None, oracle.ALL, *make.TEXTS[:4]]) for _ in schema.dimensions]
     key = [rng.choice([oracle.ALL, oracle.ALL, None, *make.TEXTS[:4]]) for _ in schema.dimensions]
-    place, some, status = rng.randrange(len(schema.dimensions)), [*options, *strict, *asked], whole and whole.status
+    place, some, status = rng.randrange(len(schema.dimensions)), [*options, *strict, *bound, *asked], whole and whole.status
     below = run.drill(key, place) if run else b""
     code_below = below if isinstance(below, str) else code
     room.expect(["print", *some, "case.toml", *files], answer(code, status, lambda: run.print()))

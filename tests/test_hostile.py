@@ -217,6 +217,7 @@ def commands(program):
     some = ["--where", "kind=a,b", "--where", "amount>=-3", "--where", "region!=\\N"]
     made["print --where --strict"] = (["print", "--strict", *some, "schema.toml", good, good], b"")
     made["slice"] = (["slice", "schema.toml", "?,=a", *files[:2]], b"")
+    made["slice --max-cells"] = (["slice", "--max-cells", "1000", "schema.toml", "?,=a", *files[:2]], b"")
     made["drill"] = (["drill", "schema.toml", "\\A,\\A", "kind", *files[:2]], b"")
     made["rollup"] = (["rollup", "schema.toml", "=west,=a", "kind", *files[:2]], b"")
     made["refusals"] = (["refusals", "schema.toml", *files[:2]], b"")

@@ -101,6 +101,31 @@ class Limits(unittest.TestCase):
             self.assertRaises(jackraisin.Unsayable, jackraisin.cube, WIDE, feed, timeout=it)
 
 
+    def test_cubes_of_too_many_cells(self):
+        """Two facts that have their regions apart and their kind in common: two cells of both, two of regions, one of kinds,
+        and the grand total."""
+        feed = f"{self.folder}/feed.csv"
+        with open(feed, "w", encoding="utf-8") as out:
+            out.write("op,id,region,kind,amount\nI,1,west,tea,24\nI,2,east,tea,24\n")
+        calls = (
+            lambda most: jackraisin.cube(PLAIN, feed, max_cells=most),
+            lambda most: jackraisin.cube(PLAIN, feed, max_cells=most, partial=True, strict=True),
+            lambda most: jackraisin.slice(PLAIN, feed, {}, max_cells=most),
+            lambda most: jackraisin.drill(PLAIN, feed, {}, "kind", max_cells=most),
+            lambda most: jackraisin.rollup(PLAIN, feed, {}, "kind", max_cells=most),
+        )
+        for call in calls:
+            for most in (6, 2**63 - 1):
+                call(most)
+            for most in (5, 1):
+                with self.assertRaises(jackraisin.Failure) as caught:
+                    call(most)
+                self.assertEqual((caught.exception.line, caught.exception.status), ("G8", 1))
+                self.assertIn("--max-cells", caught.exception.meaning)
+            for most in (0, -1, 2**63):
+                self.assertRaises(jackraisin.Failure, call, most)
+        self.assertEqual(len(jackraisin.cube(PLAIN, feed, where="region=west", max_cells=4)), 4)
+
     def test_records_that_are_too_long(self):
         """The header has 24 bytes, and the record 14."""
         feed = f"{self.folder}/feed.csv"

@@ -33,6 +33,7 @@ def cube(
     wary: bool = False,
     where: Conditions = (),
     strict: bool = False,
+    max_cells: Optional[int] = None,
     timeout: Optional[float] = None,
     max_memory: Optional[int] = None,
 ) -> Cube:
@@ -41,9 +42,10 @@ def cube(
     the changes that it keeps come after the feeds, of which there may be none then. With conditions it is the
     cube of the facts of which all of them hold: one as a text, or several, each as `city=York,Leeds` or `cents>=100`
     (docs/FORMATS.md). A record of a feed may have `max_record` bytes, a number or a text as `64K`; a longer one is a `Failure`,
-    `F6`. Where it is strict, a refused line is one, `G7`. `partial` doesn't go with a store. A program that takes more seconds
-    than `timeout` is killed (`TimedOut`); one that wants more bytes of memory than `max_memory` ends by a code (`Failure`)."""
-    options = options_of(threads, shard, max_record, store, wary) + chosen(where, strict)
+    `F6`. Where it is strict, a refused line is one, `G7`; so is a whole cube of more than `max_cells` cells, `G8`. `partial`
+    doesn't go with a store. A program that takes more seconds than `timeout` is killed (`TimedOut`); one that wants more bytes
+    of memory than `max_memory` ends by a code (`Failure`)."""
+    options = options_of(threads, shard, max_record, store, wary) + chosen(where, strict, max_cells)
     return asked("print", schema, feeds, [], options + ["--partial"] * partial, Limits(timeout, max_memory))
 
 
@@ -59,13 +61,14 @@ def slice(
     wary: bool = False,
     where: Conditions = (),
     strict: bool = False,
+    max_cells: Optional[int] = None,
     timeout: Optional[float] = None,
     max_memory: Optional[int] = None,
 ) -> Cube:
     """The rows that a pattern matches. A dimension that a mapping doesn't name is ALL: `{"city": ANY}` are the totals of
     each city, and of all. Feeds, shard, store, conditions and limits are those of `cube`, here and below."""
     schema = schema_of(schema)
-    options = options_of(threads, shard, max_record, store, wary) + chosen(where, strict)
+    options = options_of(threads, shard, max_record, store, wary) + chosen(where, strict, max_cells)
     return asked("slice", schema, feeds, [word_of(fields_of(schema.dimensions, pattern))], options, Limits(timeout, max_memory))
 
 
@@ -82,13 +85,14 @@ def drill(
     wary: bool = False,
     where: Conditions = (),
     strict: bool = False,
+    max_cells: Optional[int] = None,
     timeout: Optional[float] = None,
     max_memory: Optional[int] = None,
 ) -> Cube:
     """The rows one step below a cell: those with each value of a dimension that is ALL in it."""
     schema = schema_of(schema)
     words = [word_of(fields_of(schema.dimensions, cell)), dimension.encode("utf-8")]
-    options = options_of(threads, shard, max_record, store, wary) + chosen(where, strict)
+    options = options_of(threads, shard, max_record, store, wary) + chosen(where, strict, max_cells)
     return asked("drill", schema, feeds, words, options, Limits(timeout, max_memory))
 
 
@@ -105,13 +109,14 @@ def rollup(
     wary: bool = False,
     where: Conditions = (),
     strict: bool = False,
+    max_cells: Optional[int] = None,
     timeout: Optional[float] = None,
     max_memory: Optional[int] = None,
 ) -> Cube:
     """The row one step above a cell: the one with ALL at a dimension, or none where that is no cell of the cube."""
     schema = schema_of(schema)
     words = [word_of(fields_of(schema.dimensions, cell)), dimension.encode("utf-8")]
-    options = options_of(threads, shard, max_record, store, wary) + chosen(where, strict)
+    options = options_of(threads, shard, max_record, store, wary) + chosen(where, strict, max_cells)
     return asked("rollup", schema, feeds, words, options, Limits(timeout, max_memory))
 
 
@@ -164,10 +169,12 @@ def options_of(
     return options if store is None else [*options, f"--store={os.fspath(store)}"] + ["--wary"] * wary
 
 
-def chosen(where: Conditions, strict: bool) -> List[Word]:
-    """The options for conditions, of which one may stand alone, and for a strict run; each word is UTF-8 whatever the locale."""
+def chosen(where: Conditions, strict: bool, max_cells: Optional[int]) -> List[Word]:
+    """The options for conditions, of which one may stand alone, for a strict run, and for how many cells there may be; each
+    word is UTF-8 whatever the locale."""
     conditions = [text_of(it, "a condition") for it in ([where] if isinstance(where, str) else where)]
     options: List[Word] = [b"--where=" + it.encode("utf-8") for it in conditions]
+    options += [] if max_cells is None else [f"--max-cells={max_cells}"]
     return [*options, "--strict"] if strict else options
 
 
