@@ -160,7 +160,7 @@ pub const WORD_ADVICE: [Advice; 10] = [
 ];
 
 /// Feeds, runs and merges: what was wanted at each code.
-pub const CODE_ADVICE: [Advice; 24] = [
+pub const CODE_ADVICE: [Advice; 25] = [
     Advice {
         code: "F1",
         lines: &[
@@ -226,6 +226,13 @@ pub const CODE_ADVICE: [Advice; 24] = [
         code: "G7",
         lines: &[
             "With --strict a refused line is a failure, and nothing was written. `datacube refusals` shows all.",
+        ],
+    },
+    Advice {
+        code: "G8",
+        lines: &[
+            "The whole cube has more cells than --max-cells allows, and nothing was written: allow more, or",
+            "keep fewer grouping sets, or leave out a dimension of many texts.",
         ],
     },
     Advice {

@@ -4,6 +4,7 @@ ghost use Rattle.cube_tool.specs.Answering.{Fits};
 ghost use Rattle.cube_console.specs.CommandLine.{RunHasRoom, LiveHasRoom};
 
 use crate::pauses::SessionPauses;
+use crate::reads::Reads;
 use crate::terms::terms_of;
 use crate::views::{stored_told_of, view_of};
 use crate::watch::Watch;
@@ -189,6 +190,7 @@ pub(crate) fn ask_kept<T: Threads + Wait + Clock + Sync>(
     words: &RunWords,
     path: &str,
     schema: &Schema,
+    reads: Reads,
     asked: Asked,
     progress: &Progress<'_, T, Stderr>,
 ) -> Result<Status, StoredFailure>
@@ -196,7 +198,13 @@ pub(crate) fn ask_kept<T: Threads + Wait + Clock + Sync>(
     requires feeds { length words.now.feeds.items ≤ 64 }
 {
     let question = question_of(rt, schema, asked)?;
-    let terms = terms_of(rt, schema, &words.conditions, words.strict)?;
+    let terms = terms_of(
+        rt,
+        schema,
+        &words.conditions,
+        words.strict,
+        reads.max_cells,
+    )?;
     let asked = &AskedOn { question, terms };
     if words.wary {
         let start = Wary;

@@ -21,7 +21,10 @@ mod why;
 use crate::kept::{ask_kept, serve_kept};
 use crate::named::named_cubes;
 use crate::own_files::{explain_own_file, print_table, write_schema};
-use crate::reads::{Reads, max_record_of, read_so, refuse_max_record, refuse_shard, shard_of};
+use crate::reads::{
+    Reads, max_cells_of, max_record_of, read_so, refuse_max_cells, refuse_max_record, refuse_shard,
+    shard_of,
+};
 use crate::terms::terms_of;
 use crate::views::{mixes_views, refuse_views, told_of, view_of};
 use crate::watch::Watch;
@@ -195,13 +198,20 @@ fn obey<T: Threads + Wait + Clock + Copy + Send + Sync + 'static>(
     let Some(max_record) = max_record_of(request) else {
         return told(refuse_max_record(rt));
     };
+    let Some(max_cells) = max_cells_of(request) else {
+        return told(refuse_max_cells(rt));
+    };
     if has_clash(request) {
         return told(refuse_clash(rt));
     }
     if mixes_views(request) {
         return told(refuse_views(rt));
     }
-    let reads = Reads { shard, max_record };
+    let reads = Reads {
+        shard,
+        max_record,
+        max_cells,
+    };
     obey_words(rt, threads, request, reads, progress)
 }
 
@@ -368,8 +378,10 @@ fn answer<T: Threads + Wait + Clock + Sync>(
 {
     let schema = schema_of(rt, words.schema, &words.feeds, 1, reads)?;
     match words.store {
-        Some(path) => ask_kept(rt, threads, words, path, &schema, asked, progress),
-        None => told(answer_fed(rt, threads, words, &schema, asked, progress)),
+        Some(path) => ask_kept(rt, threads, words, path, &schema, reads, asked, progress),
+        None => told(answer_fed(
+            rt, threads, words, &schema, reads, asked, progress,
+        )),
     }
 }
 
@@ -379,6 +391,7 @@ fn answer_fed<T: Threads + Wait + Clock + Sync>(
     threads: &T,
     words: &RunWords,
     schema: &Schema,
+    reads: Reads,
     asked: Asked,
     progress: &Progress<'_, T, Stderr>,
 ) -> Result<Status, Failure>
@@ -387,9 +400,9 @@ fn answer_fed<T: Threads + Wait + Clock + Sync>(
 {
     if let Asked::Cube { is_partial: true } = asked {
         let partial = schema.partial(rt.alloc())?;
-        return answer_under(rt, threads, words, &partial, asked, progress);
+        return answer_under(rt, threads, words, &partial, reads, asked, progress);
     }
-    answer_under(rt, threads, words, schema, asked, progress)
+    answer_under(rt, threads, words, schema, reads, asked, progress)
 }
 
 /// Whether the words name a store, and an option that works on the feeds alone: the partial form, or several builders.
@@ -417,6 +430,7 @@ fn answer_under<T: Threads + Wait + Clock + Sync>(
     threads: &T,
     words: &RunWords,
     schema: &Schema,
+    reads: Reads,
     asked: Asked,
     progress: &Progress<'_, T, Stderr>,
 ) -> Result<Status, Failure>
@@ -425,7 +439,13 @@ fn answer_under<T: Threads + Wait + Clock + Sync>(
 {
     let alloc = rt.alloc();
     let question = question_of(rt, schema, asked)?;
-    let terms = terms_of(rt, schema, &words.conditions, words.strict)?;
+    let terms = terms_of(
+        rt,
+        schema,
+        &words.conditions,
+        words.strict,
+        reads.max_cells,
+    )?;
     let feeds = open_feeds(rt, &words.feeds, progress.counts())?;
     let settings = settings_of(threads, words.ring, words.builders, words.threads);
     progress.begin(Phase::Reading { feeds: feeds.len() });

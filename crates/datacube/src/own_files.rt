@@ -92,7 +92,7 @@ pub(crate) fn print_table<T: Threads + Wait + Clock + Sync>(
         Ok(text) => {
             let schema = read_schema(rt.alloc(), text.as_bytes())?;
             let schema = read_so(schema, reads).with_hash_key(drawn_key(rt)?);
-            print_under(rt, threads, words, &schema, begun, progress)
+            print_under(rt, threads, words, &schema, reads, begun, progress)
         }
         Err(fault) => told(rt, fault, first, &begun.bytes, words.why),
     }
@@ -115,13 +115,20 @@ fn print_under<T: Threads + Wait + Clock + Sync>(
     threads: &T,
     words: &TableWords,
     schema: &Schema,
+    reads: Reads,
     begun: Begun,
     progress: &Progress<'_, T, Stderr>,
 ) -> Result<Status, Failure>
     requires room { TableHasRoom words.now }
     requires files { length words.now.files.items ≤ 64 }
 {
-    let terms = terms_of(rt, schema, &words.conditions, words.strict)?;
+    let terms = terms_of(
+        rt,
+        schema,
+        &words.conditions,
+        words.strict,
+        reads.max_cells,
+    )?;
     let feeds = open_files(rt, &words.files, begun, progress.counts())?;
     let settings = settings_of(threads, words.ring, words.builders, words.threads);
     progress.begin(Phase::Reading { feeds: feeds.len() });

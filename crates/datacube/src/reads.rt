@@ -1,22 +1,25 @@
-//! How the words say that feeds are read: which share of them, and how many bytes a record may have.
+//! How the words say that feeds are read: which share of them, and how many bytes a record may have; and how many cells
+//! their cube may have.
 ghost use Rattle.std.specs.Prelude.{◌≡◌, IfSome};
 ghost use Rattle.cube_core.specs.Layout.{IsRecordBound};
 ghost use Rattle.cube_core.specs.Shard.{IsShard};
 ghost use Rattle.cube_tool.specs.MaxRecord.{record_bound};
 
-use cube_console::{Request, unlawful_max_record, unlawful_shard};
+use cube_console::{Request, unlawful_max_cells, unlawful_max_record, unlawful_shard};
 use cube_core::{Schema, Shard};
 use cube_tool::command::{
-    Failure, Status, answer_words, read_max_record, read_shard, record_bound,
+    Failure, Status, answer_words, read_max_cells, read_max_record, read_shard, record_bound,
 };
 
-/// How feeds are read.
+/// How feeds are read, and how large their cube may be.
 #[derive(Clone, Copy)]
 pub(crate) struct Reads {
     /// The share of them.
     pub(crate) shard: Shard,
     /// How many bytes a record may have, where the words say it.
     pub(crate) max_record: Option<u64>,
+    /// How many cells the cube may have, where the words say it.
+    pub(crate) max_cells: Option<u64>,
 }
 
 /// The same schema, whose feeds are read so.
@@ -63,6 +66,22 @@ pub(crate) fn max_record_of(request: &Request) -> Option<Option<u64>>
     }
 }
 
+/// How many cells the cube may have, where the words say it, and none where what they say is no such number.
+pub(crate) fn max_cells_of(request: &Request) -> Option<Option<u64>> {
+    let word = match request {
+        Request::Print { run, .. }
+        | Request::Slice { run, .. }
+        | Request::Drill { run, .. }
+        | Request::RollUp { run, .. } => run.max_cells,
+        Request::Table { table } => table.max_cells,
+        _ => None,
+    };
+    match word {
+        Some(word) => Some(Some(read_max_cells(word)?)),
+        None => Some(None),
+    }
+}
+
 /// Says that the words name no share.
 pub(crate) fn refuse_shard(rt: &HostRuntime) -> Result<Status, Failure> {
     let alloc = rt.alloc();
@@ -74,5 +93,12 @@ pub(crate) fn refuse_shard(rt: &HostRuntime) -> Result<Status, Failure> {
 pub(crate) fn refuse_max_record(rt: &HostRuntime) -> Result<Status, Failure> {
     let alloc = rt.alloc();
     let refusal = unlawful_max_record(alloc);
+    answer_words(alloc, &refusal, &mut rt.stdout(), &mut rt.stderr())
+}
+
+/// Says that the words name no number of cells that a cube may have.
+pub(crate) fn refuse_max_cells(rt: &HostRuntime) -> Result<Status, Failure> {
+    let alloc = rt.alloc();
+    let refusal = unlawful_max_cells(alloc);
     answer_words(alloc, &refusal, &mut rt.stdout(), &mut rt.stderr())
 }

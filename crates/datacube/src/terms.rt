@@ -2,12 +2,14 @@
 use cube_core::{QueryFault, Schema};
 use cube_tool::command::{Failure, Terms, read_condition};
 
-/// The terms that words set under a schema: the conditions that they spell, and whether a refused line is a failure.
+/// The terms that words set under a schema: the conditions that they spell, whether a refused line is a failure, and how many
+/// cells the cube may have.
 pub(crate) fn terms_of(
     rt: &HostRuntime,
     schema: &Schema,
     words: &[&str],
     is_strict: bool,
+    max_cells: Option<u64>,
 ) -> Result<Terms, Failure> {
     let alloc = rt.alloc();
     let mut conditions = Vec::new(alloc);
@@ -20,5 +22,6 @@ pub(crate) fn terms_of(
     Ok(Terms {
         conditions,
         is_strict,
+        max_cells,
     })
 }

@@ -2,7 +2,7 @@
 //! DATACUBE_WHY ask for it. The files are read again, once the command has failed.
 use crate::own_files::own_schema;
 use crate::path_of;
-use crate::reads::{Reads, max_record_of, read_so};
+use crate::reads::{Reads, max_cells_of, max_record_of, read_so};
 use cube_build::Built;
 use cube_console::Request;
 use cube_core::Schema;
@@ -202,8 +202,12 @@ fn schema_path<'w>(request: &Request<'w>) -> Option<&'w str> {
 fn schema_again(rt: &HostRuntime, request: &Request) -> Option<Schema> {
     let schema = plain_schema_again(rt, request)?;
     let shard = schema.shard();
-    let max_record = max_record_of(request)?;
-    Some(read_so(schema, Reads { shard, max_record }))
+    let reads = Reads {
+        shard,
+        max_record: max_record_of(request)?,
+        max_cells: max_cells_of(request)?,
+    };
+    Some(read_so(schema, reads))
 }
 
 // The schema of a request, read again; of `table` made again.
