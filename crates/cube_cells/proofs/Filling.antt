@@ -9,3 +9,4 @@ pub mod BottomUpCellLaws
 pub mod BottomUpCubeLaws
 pub mod RankedLaws
 pub mod PruneLaws
+pub mod PartLaws

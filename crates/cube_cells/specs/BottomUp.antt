@@ -90,6 +90,8 @@ pub record AreRunsOf (is_kept : Codes → Bool) (left from : ℕ) (items cells :
   pub each : (measures : ℕ) → All (IsItem measures) items → All (IsItem measures) cells
   pub before : (bound : ℕ) → All (λ item. get_or item.0.codes from 0 < bound) items
       → All (λ cell. get_or cell.0.codes from 0 < bound) cells
+  pub after : (bound : ℕ) → All (λ item. bound ≤ get_or item.0.codes from 0) items
+      → All (λ cell. bound ≤ get_or cell.0.codes from 0) cells
 
 -- the items with ALL in a dimension, those of the same codes joined
 pub record AreRaised (from : ℕ) (items raised : CodedCells) : Type 0 where
@@ -182,6 +184,13 @@ pub record TakesWalk {S : Type 0} (takes : S → Codes → Tally → S → Type 
   pub are : IsWalkOf (is_kept_by kept) (dimensions - from) from items cells
   pub taken : TakesAll takes old cells new
 
+-- the cells of the runs of one code of a dimension are taken
+pub record TakesRuns {S : Type 0} (takes : S → Codes → Tally → S → Type 0) (kept : List Bool) (dimensions from : ℕ)
+    (items : CodedCells) (old new : S) : Type 0 where
+  pub cells : CodedCells
+  pub are : AreRunsOf (is_kept_by kept) (dimensions - (from + 1)) from items cells
+  pub taken : TakesAll takes old cells new
+
 -- the texts of a dimension differ and stand in their order, so that their codes are their ranks
 pub record AreInTextOrder (texts : List (List ℕ)) : Type 0 where
   pub rises : IsStrictlySortedBy (slice_cmp nat_cmp) texts
@@ -200,12 +209,16 @@ pub record AreToWalk (schema : Layout) (number : ℕ) (dictionaries : Dictionari
   pub in_order : IsStrictlySortedBy codes_cmp items
   pub texts : All AreInTextOrder dictionaries
 
--- the cells of the cube of the facts of a lattice over all grouping sets of its schema are taken, in key order
-pub record TakesCube {S : Type 0} (takes : S → Codes → Tally → S → Type 0) (finest : Lattice) (old new : S)
-    : Type 0 where
-  pub cells : CodedCells
-  pub taken : TakesAll takes old cells new
+-- these are the cells of the cube of the facts of a lattice over all grouping sets of its schema, in key order
+pub record AreCellsOfCube (finest : Lattice) (cells : CodedCells) : Type 0 where
   pub each : All (IsCodedCell finest.dictionaries (length finest.schema.measures)) cells
   pub rows : (facts : List Fact) → IsCubeOfAll facts finest → (rows : List Row)
       → AllZip (IsRowOf finest.schema.aggregates) (decoded finest.dictionaries cells) rows
       → AreRows finest.schema facts rows
+
+-- they are taken
+pub record TakesCube {S : Type 0} (takes : S → Codes → Tally → S → Type 0) (finest : Lattice) (old new : S)
+    : Type 0 where
+  pub cells : CodedCells
+  pub taken : TakesAll takes old cells new
+  pub are : AreCellsOfCube finest cells

@@ -14,3 +14,4 @@ pub mod Places
 pub mod Shares
 pub mod BottomUp
 pub mod Ranking
+pub mod WalkParts

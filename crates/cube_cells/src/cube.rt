@@ -26,6 +26,7 @@ mod rows;
 mod shares;
 mod sorted_texts;
 mod walk;
+mod walk_parts;
 mod workers;
 
 use crate::cell::Cell;
@@ -44,6 +45,7 @@ pub use sorted_texts::SortedTexts;
 use std::alloc::{AllocError, Global};
 use std::marker::Model;
 use walk::{add_to_sets, find_cell, gather_in_sets, hold_in_sets, take_from_sets};
+pub use walk_parts::{RaisedCells, WalkPart};
 
 /// A cube over facts: for each kept grouping set, the cells of its keys that cover a fact (Gray et al. 1997), and
 /// the grand total where its set is kept.

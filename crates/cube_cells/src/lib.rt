@@ -6,7 +6,7 @@
 //! [`Cube`] is the cells of all kept grouping sets, kept right under adds and removes.
 //! [`OrderedCells`] are its cells in key order, each a [`KeyedCell`].
 //! [`FinestCells`] are those of the finest grouping set alone; a walk over them hands the cells of a whole cube to what
-//! [`TakesCells`].
+//! [`TakesCells`]. [`RaisedCells`] cut such a walk into [`WalkPart`]s, which several threads may take.
 #![tactic(auto)]
 
 mod cell;
@@ -16,7 +16,8 @@ mod measure;
 
 pub use cell::Cell;
 pub use cube::{
-    Codes as KeyCodes, Cube, FinestCells, KeyedCell, OrderedCells, SortedTexts, TakesCells, row_of,
+    Codes as KeyCodes, Cube, FinestCells, KeyedCell, OrderedCells, RaisedCells, SortedTexts,
+    TakesCells, WalkPart, row_of,
 };
 pub use cube_core::{CoordRef, reduced};
 pub use cube_values::{Counted, Numbers, Summary};

@@ -26,7 +26,7 @@ use Rattle.std.proofs.lemmas.List.{get_or-set_other, length-replicate, length-se
 use Rattle.std.proofs.lemmas.List.Elements.{All-from_recursion, recursion_from_All}
 use Rattle.std.proofs.lemmas.List.Sums.{sum_by-append, sum_by-cons}
 use Rattle.cube_cells.specs.BottomUp.{AreRaised, AreRunsOf, BeginsRun, HavePrefix, IsFree, IsItem, IsPart, IsRun}
-use Rattle.cube_cells.specs.BottomUp.{CanWalk, IsWalkOf, IsWalkable, TakesAll, TakesWalk}
+use Rattle.cube_cells.specs.BottomUp.{CanWalk, IsWalkOf, IsWalkable, TakesAll, TakesRuns, TakesWalk}
 use Rattle.cube_cells.specs.BottomUp.{cells_of_items, cells_of_lent, is_kept_by}
 use Rattle.cube_cells.specs.declared.cube.bottom_up.Item.{Item}
 use Rattle.cube_cells.specs.declared.cube.bottom_up.Lent.{Lent}
@@ -45,7 +45,7 @@ use Rattle.cube_cells.proofs.Cells.WalkLaws.{same_codes-IsEquivalence}
 use Rattle.cube_cells.proofs.Codes.RankLaws.{Less-from_is_lt}
 
 -- no cell
-no_cell : Codes × Tally
+pub no_cell : Codes × Tally
 no_cell = (record { codes = [] }, record { facts = 0; bags = [] })
 
 -- ---- weighing
@@ -97,7 +97,7 @@ sorted-append {K} R (x ∷ a) b first second below =
       sorted-append R a b first.1 second (All-tail P x a below),
     )
 
-All-parts : {X : Type 0} (P : X → Type 0) (a b : List X) → All P (a ++ b) → All P a × All P b
+pub All-parts : {X : Type 0} (P : X → Type 0) (a b : List X) → All P (a ++ b) → All P a × All P b
 All-parts P [] b all = (All-nil P, all)
 All-parts P (x ∷ a) b all =
     let rest = All-parts P a b (All-tail P x (a ++ b) all) in
@@ -154,15 +154,15 @@ eight_of measures cells each = λ k d inside. (each k d inside).eight
 All-Less : (from : ℕ) (prefix : List ℕ) (code : ℕ) (a b : CodedCells) → from < 8
     → All (λ cell. length cell.0.codes ≡ 8) a → All (λ cell. length cell.0.codes ≡ 8) b → HavePrefix from prefix a
     → HavePrefix from prefix b → All (λ cell. get_or cell.0.codes from 0 < code) a
-    → All (λ cell. get_or cell.0.codes from 0 ≡ code) b → All (λ x. All (λ y. codes_cmp x y ≡ Less) b) a
+    → All (λ cell. code ≤ get_or cell.0.codes from 0) b → All (λ x. All (λ y. codes_cmp x y ≡ Less) b) a
 All-Less from prefix code a b small eight_a eight_b under_a under_b below at = λ k d inside j e within.
     let x : Codes × Tally = get_or a k d in
     let y : Codes × Tally = get_or b j e in
-    let is : get_or y.0.codes from 0 ≡ code = at j e within in
+    let above : code ≤ get_or y.0.codes from 0 = at j e within in
     let under : get_or x.0.codes from 0 < code = below k d inside in
     Less-at from x.0.codes y.0.codes (under_a k d inside ∙ sym (under_b j e within))
     (omega (arith, eight_a k d inside, small)) (omega (arith, eight_b j e within, small))
-    (omega (arith, is, under))
+    (omega (arith, above, under))
 
 -- ---- the walk
 -- the kept ones weigh what all weigh where no other weighs anything
@@ -214,50 +214,59 @@ AreRunsOf-nil is_kept left from = record {
   under = λ prefix under. under;
   each = λ measures each. each;
   before = λ bound below. All-nil (λ (cell : Codes × Tally). get_or cell.0.codes from 0 < bound);
+  after = λ bound above. All-nil (λ (cell : Codes × Tally). bound ≤ get_or cell.0.codes from 0);
 }
 
--- a run more
-AreRunsOf-more : (is_kept : Codes → Bool) (measures left from code : ℕ) (prefix : List ℕ) (items run done more : CodedCells)
-    → from < 8 → All (IsItem measures) items → All (IsItem measures) run → HavePrefix from prefix items
-    → HavePrefix from prefix run → All (λ item. get_or item.0.codes from 0 < code) items
-    → All (λ item. get_or item.0.codes from 0 ≡ code) run → 0 < length run → AreRunsOf is_kept left from items done
-    → IsWalkOf is_kept left (from + 1) run more → AreRunsOf is_kept left from (items ++ run) (done ++ more)
-AreRunsOf-more is_kept measures left from code prefix items run done more small of_items of_run under_items under_run
-    below at some runs walk = record {
-      in_order = sorted-append codes_cmp done more runs.in_order walk.in_order
-          (All-Less from prefix code done more small (eight_of measures done (runs.each measures of_items))
-          (eight_of measures more of_more) (runs.under prefix under_items) (at_more prefix under_run).0
-          (runs.before code below) (at_more prefix under_run).1);
+-- one run
+AreRunsOf-same : (is_kept : Codes → Bool) (measures left from code : ℕ) (prefix : List ℕ) (run more : CodedCells)
+    → from < 8 → All (IsItem measures) run → HavePrefix from prefix run → All (λ item. get_or item.0.codes from 0 ≡ code) run → 0 < length run
+    → IsWalkOf is_kept left (from + 1) run more → AreRunsOf is_kept left from run more
+AreRunsOf-same is_kept measures left from code prefix run more small of_run under_run at some walk = record {
+  in_order = walk.in_order;
+  weighs = walk.weighs;
+  under = λ other under. (at_more other under).0;
+  each = walk.each;
+  before = λ bound below k d inside. omega (arith, code_of k d inside, below 0 no_cell some, at 0 no_cell some);
+  after = λ bound above k d inside. omega (arith, code_of k d inside, above 0 no_cell some, at 0 no_cell some);
+} where
+  at_more : (other : List ℕ) → HavePrefix from other run
+      → HavePrefix from other more × All (λ cell. get_or cell.0.codes from 0 ≡ code) more
+  at_more other under = HavePrefix-parts from other code more small (eight_of measures more (walk.each measures of_run))
+      (walk.under (other ++ code ∷ [])
+      (HavePrefix-more from other code run small (eight_of measures run of_run) under at))
+
+  code_of : All (λ cell. get_or cell.0.codes from 0 ≡ code) more
+  code_of = (at_more prefix under_run).1
+
+-- runs behind runs of lower codes
+AreRunsOf-append : (is_kept : Codes → Bool) (measures left from code : ℕ) (prefix : List ℕ)
+    (items run done more : CodedCells) → from < 8 → All (IsItem measures) items → All (IsItem measures) run
+    → HavePrefix from prefix items → HavePrefix from prefix run → All (λ item. get_or item.0.codes from 0 < code) items
+    → All (λ item. code ≤ get_or item.0.codes from 0) run → AreRunsOf is_kept left from items done
+    → AreRunsOf is_kept left from run more → AreRunsOf is_kept left from (items ++ run) (done ++ more)
+AreRunsOf-append is_kept measures left from code prefix items run done more small of_items of_run under_items under_run
+    below above first second = record {
+      in_order = sorted-append codes_cmp done more first.in_order second.in_order
+          (All-Less from prefix code done more small (eight_of measures done (first.each measures of_items))
+          (eight_of measures more (second.each measures of_run)) (first.under prefix under_items)
+          (second.under prefix under_run) (first.before code below) (second.after code above));
       weighs = λ part is weight. omega (
         arith,
         weigh-append weight part done more,
-        runs.weighs part is weight,
-        walk.weighs part is weight,
+        first.weighs part is weight,
+        second.weighs part is weight,
         weigh-append (spread (only is_kept weight) left (from + 1)) part items run,
       );
-      under = λ other under.
-          let P : Codes × Tally → Type 0 = λ cell. take from cell.0.codes ≡ other in
-          let parts = All-parts P items run under in
-          All-append P done more (runs.under other parts.0) (at_more other parts.1).0;
-      each = λ bags each.
-          let parts = All-parts (IsItem bags) items run each in
-          All-append (IsItem bags) done more (runs.each bags parts.0) (walk.each bags parts.1);
-      before = λ bound under.
-          let P : Codes × Tally → Type 0 = λ cell. get_or cell.0.codes from 0 < bound in
-          let parts = All-parts P items run under in
-          let first : get_or (get_or run 0 no_cell).0.codes from 0 < bound = parts.1 0 no_cell some in
-          let is : get_or (get_or run 0 no_cell).0.codes from 0 ≡ code = at 0 no_cell some in
-          All-append P done more (runs.before bound parts.0) (λ k d inside.
-          omega (arith, (at_more prefix under_run).1 k d inside, first, is));
+      under = λ other. both (λ cell. take from cell.0.codes ≡ other) (first.under other) (second.under other);
+      each = λ bags. both (IsItem bags) (first.each bags) (second.each bags);
+      before = λ bound. both (λ cell. get_or cell.0.codes from 0 < bound) (first.before bound) (second.before bound);
+      after = λ bound. both (λ cell. bound ≤ get_or cell.0.codes from 0) (first.after bound) (second.after bound);
     } where
-      of_more : All (IsItem measures) more
-      of_more = walk.each measures of_run
-
-      at_more : (other : List ℕ) → HavePrefix from other run
-          → HavePrefix from other more × All (λ cell. get_or cell.0.codes from 0 ≡ code) more
-      at_more other under = HavePrefix-parts from other code more small (eight_of measures more of_more)
-          (walk.under (other ++ code ∷ [])
-          (HavePrefix-more from other code run small (eight_of measures run of_run) under at))
+      both : (P : Codes × Tally → Type 0) → (All P items → All P done) → (All P run → All P more)
+          → All P (items ++ run) → All P (done ++ more)
+      both P f g all =
+          let parts = All-parts P items run all in
+          All-append P done more (f parts.0) (g parts.1)
 
 -- the items with ALL in a dimension
 HavePrefix-AreRaised : (from : ℕ) (prefix : List ℕ) (items raised : CodedCells) → from < 8
@@ -282,7 +291,7 @@ IsWalkOf-AreRaised is_kept measures left from items raised done more walkable ru
       (eight_of measures done (runs.each measures walkable.each)) (eight_of measures more of_more)
       (runs.under walkable.prefix walkable.under) (at_more walkable.prefix walkable.under).0
       (runs.before all_code (λ k d inside. walkable.free k d inside from (omega arith) (omega arith)))
-      (at_more walkable.prefix walkable.under).1);
+      (λ k d inside. omega (arith, (at_more walkable.prefix walkable.under).1 k d inside)));
   weighs = λ part is weight.
       let f : Codes → ℕ = spread (only is_kept weight) left (from + 1) in
       omega (
@@ -367,102 +376,157 @@ run_of-same from items start end is k d inside =
     ∙ sym (get_or-map (λ (item : Codes × Tally). get_or item.0.codes from 0) items (start + k) d 0 within)
     ∙ is.same (start + k) (omega arith) (omega (arith, short, is.after))
 
--- a run can be walked over
+-- what is true of items is true of those between two places
+pub All-range : (P : Codes × Tally → Type 0) (items : CodedCells) (start end : ℕ) → All P items
+    → All P (run_of items start end)
+All-range P items start end all = All-take P (end - start) (drop start items) (All-drop P start items all)
+
+-- they can be walked over
+pub IsWalkable-range : (measures left from : ℕ) (items : CodedCells) (start end : ℕ) → start ≤ end
+    → IsWalkable measures left from items → IsWalkable measures left from (run_of items start end)
+IsWalkable-range measures left from items start end up walkable = record {
+  in_order =
+      let all = subst (IsStrictlySortedBy codes_cmp) (run_of-split items start end up) walkable.in_order in
+      let rest = (sorted-parts codes_cmp (take start items) (run_of items start end ++ drop end items) all).1 in
+      (sorted-parts codes_cmp (run_of items start end) (drop end items) rest).0;
+  prefix = walkable.prefix;
+  under = All-range (λ (cell : Codes × Tally). take from cell.0.codes ≡ walkable.prefix) items start end walkable.under;
+  each = All-range (IsItem measures) items start end walkable.each;
+  free = All-range (IsFree left from) items start end walkable.free;
+  within = walkable.within;
+}
+
+-- a run can be walked over from the next dimension on
 pub IsWalkable-run : (measures left from : ℕ) (items : CodedCells) (start end : ℕ)
     → IsWalkable measures (suc left) from items → IsRun (column_of from items) start end
     → IsWalkable measures left (from + 1) (run_of items start end)
-IsWalkable-run measures left from items start end walkable is = record {
-  in_order =
-      let all = subst (IsStrictlySortedBy codes_cmp) (run_of-split items start end (omega (arith, is.after)))
-      walkable.in_order in
-      let rest = (sorted-parts codes_cmp (take start items) (run_of items start end ++ drop end items) all).1 in
-      (sorted-parts codes_cmp (run_of items start end) (drop end items) rest).0;
-  prefix = walkable.prefix ++ get_or (column_of from items) start 0 ∷ [];
-  under = HavePrefix-more from walkable.prefix (get_or (column_of from items) start 0) (run_of items start end)
-      (omega (arith, walkable.within)) (eight_of measures (run_of items start end) each) under
-      (run_of-same from items start end is);
-  each = each;
-  free = All-take (IsFree left (from + 1)) (end - start) (drop start items) (All-drop (IsFree left (from + 1)) start items
-      (λ k d inside i after below. walkable.free k d inside i (omega arith) (omega arith)));
-  within = omega (arith, walkable.within);
-} where
-  each : All (IsItem measures) (run_of items start end)
-  each = All-take (IsItem measures) (end - start) (drop start items) (All-drop (IsItem measures) start items walkable.each)
+IsWalkable-run measures left from items start end walkable is =
+    let all = IsWalkable-range measures (suc left) from items start end (omega (arith, is.after)) walkable in
+    record {
+      in_order = all.in_order;
+      prefix = all.prefix ++ get_or (column_of from items) start 0 ∷ [];
+      under = HavePrefix-more from all.prefix (get_or (column_of from items) start 0) (run_of items start end)
+          (omega (arith, walkable.within)) (eight_of measures (run_of items start end) all.each) all.under
+          (run_of-same from items start end is);
+      each = all.each;
+      free = λ k d inside i after below. all.free k d inside i (omega (arith, after)) (omega (arith, below));
+      within = omega (arith, walkable.within);
+    }
 
-  under : HavePrefix from walkable.prefix (run_of items start end)
-  under = All-take (λ (cell : Codes × Tally). take from cell.0.codes ≡ walkable.prefix) (end - start) (drop start items)
-      (All-drop (λ (cell : Codes × Tally). take from cell.0.codes ≡ walkable.prefix) start items walkable.under)
+-- a range of items that begins where a run does, and the runs before it
+pub AreRunsOf-range : (is_kept : Codes → Bool) (measures left from : ℕ) (items : CodedCells) (start end : ℕ)
+    (done more : CodedCells) → IsWalkable measures (suc left) from items → BeginsRun (column_of from items) start
+    → start < end → end ≤ length items → AreRunsOf is_kept left from (take start items) done
+    → AreRunsOf is_kept left from (run_of items start end) more
+    → AreRunsOf is_kept left from (take end items) (done ++ more)
+AreRunsOf-range is_kept measures left from items start end done more walkable begins up room first second =
+    subst (λ (cells : CodedCells). AreRunsOf is_kept left from cells (done ++ more)) all
+    (AreRunsOf-append is_kept measures left from code walkable.prefix (take start items) (run_of items start end) done
+    more (omega (arith, walkable.within)) (All-take (IsItem measures) start items walkable.each)
+    (All-range (IsItem measures) items start end walkable.each) (All-take P start items walkable.under)
+    (All-range P items start end walkable.under) below above first second)
+  where
+    P : Codes × Tally → Type 0
+    P cell = take from cell.0.codes ≡ walkable.prefix
 
--- and is a run more
+    code : ℕ
+    code = get_or (column_of from items) start 0
+
+    all : take start items ++ run_of items start end ≡ take end items
+    all =
+        let places : start + (end - start) ≡ end = omega (arith, up) in
+        sym (take-add start (end - start) items) ∙ ap (λ (n : ℕ). take n items) places
+
+    code_at : (k : ℕ) (d : Codes × Tally) → k < length items
+        → get_or (column_of from items) k 0 ≡ get_or (get_or items k d).0.codes from 0
+    code_at k d within = get_or-map (λ (item : Codes × Tally). get_or item.0.codes from 0) items k d 0 within
+
+    below : All (λ item. get_or item.0.codes from 0 < code) (take start items)
+    below k d inside =
+        let before : k < start = omega (arith, inside, length-take start items) in
+        let within : k < length items = omega (arith, inside, length-take start items) in
+        let at = ap (λ (item : Codes × Tally). get_or item.0.codes from 0) (get_or-take start items k d before) in
+        omega (
+          arith,
+          at,
+          code_at k d within,
+          begins k before (omega (
+            arith,
+            up,
+            room,
+            length-map items (λ (item : Codes × Tally).
+                get_or item.0.codes from 0),
+          )),
+        )
+
+    above : All (λ item. code ≤ get_or item.0.codes from 0) (run_of items start end)
+    above k d inside =
+        let short : k < end - start = omega (arith, inside, length-take (end - start) (drop start items)) in
+        let within : start + k < length items = omega (arith, short, room) in
+        let at = ap (λ (item : Codes × Tally). get_or item.0.codes from 0)
+        (get_or-take (end - start) (drop start items) k d short ∙ get_or-drop start items k d) in
+        omega (
+          arith,
+          at,
+          code_at (start + k) d within,
+          column_of-rises measures left from items start (start + k) walkable (omega arith) within,
+        )
+
+-- a run is a run more
 pub AreRunsOf-run : (is_kept : Codes → Bool) (measures left from : ℕ) (items : CodedCells) (start end : ℕ)
     (done more : CodedCells) → IsWalkable measures (suc left) from items → BeginsRun (column_of from items) start
     → IsRun (column_of from items) start end → AreRunsOf is_kept left from (take start items) done
     → IsWalkOf is_kept left (from + 1) (run_of items start end) more
     → AreRunsOf is_kept left from (take end items) (done ++ more)
 AreRunsOf-run is_kept measures left from items start end done more walkable begins is runs walk =
-    subst (λ (cells : CodedCells). AreRunsOf is_kept left from cells (done ++ more)) all
-    (AreRunsOf-more is_kept measures left from (get_or (column_of from items) start 0) walkable.prefix
-    (take start items) (run_of items start end) done more (omega (arith, walkable.within))
-    (All-take (IsItem measures) start items walkable.each)
-    (All-take (IsItem measures) (end - start) (drop start items)
-    (All-drop (IsItem measures) start items walkable.each))
-    (All-take P start items walkable.under)
-    (All-take P (end - start) (drop start items) (All-drop P start items walkable.under)) below
-    (run_of-same from items start end is) some runs walk)
-  where
-    P : Codes × Tally → Type 0
-    P cell = take from cell.0.codes ≡ walkable.prefix
-
-    long : length (column_of from items) ≡ length items
-    long = length-map items (λ (item : Codes × Tally). get_or item.0.codes from 0)
-
-    all : take start items ++ run_of items start end ≡ take end items
-    all =
-        let places : start + (end - start) ≡ end = omega (arith, is.after) in
-        sym (take-add start (end - start) items) ∙ ap (λ (n : ℕ). take n items) places
-
-    some : 0 < length (run_of items start end)
-    some = omega (arith, length-take (end - start) (drop start items), length-drop start items, is.after, is.within, long)
-
-    below : All (λ item. get_or item.0.codes from 0 < get_or (column_of from items) start 0) (take start items)
-    below k d inside =
-        let before : k < start = omega (arith, inside, length-take start items) in
-        let within : k < length items = omega (arith, inside, length-take start items) in
-        let at : get_or (take start items) k d ≡ get_or items k d = get_or-take start items k d before in
-        let code : get_or (column_of from items) k 0 ≡ get_or (get_or items k d).0.codes from 0 =
-        get_or-map (λ (item : Codes × Tally). get_or item.0.codes from 0) items k d 0 within in
-        let here : get_or (column_of from items) k 0 < get_or (column_of from items) start 0 =
-        begins k before (omega (arith, is.after, is.within)) in
-        let shown : get_or (get_or (take start items) k d).0.codes from 0 ≡ get_or (get_or items k d).0.codes from 0 =
-        ap (λ (item : Codes × Tally). get_or item.0.codes from 0) at in
-        omega (arith, shown, code, here)
+    let long : length (column_of from items) ≡ length items =
+    length-map items (λ (item : Codes × Tally). get_or item.0.codes from 0) in
+    let some : 0 < length (run_of items start end) = omega (
+      arith,
+      length-take (end - start) (drop start items),
+      length-drop start items,
+      is.after,
+      is.within,
+      long,
+    ) in
+    AreRunsOf-range is_kept measures left from items start end done more walkable begins is.after
+    (omega (arith, is.within, long)) runs
+    (AreRunsOf-same is_kept measures left from (get_or (column_of from items) start 0) walkable.prefix
+    (run_of items start end) more (omega (arith, walkable.within))
+    (All-range (IsItem measures) items start end walkable.each)
+    (All-range (λ (cell : Codes × Tally). take from cell.0.codes ≡ walkable.prefix) items start end walkable.under)
+    (run_of-same from items start end is) some walk)
 
 -- the next run begins behind it
 pub BeginsRun-next : (measures left from : ℕ) (items : CodedCells) (start end : ℕ)
-    → IsWalkable measures (suc left) from items → BeginsRun (column_of from items) start
-    → IsRun (column_of from items) start end → BeginsRun (column_of from items) end
-BeginsRun-next measures left from items start end walkable begins is k before within = by_place (cases_lt k start) where
-  column : List ℕ
-  column = column_of from items
+    → IsWalkable measures (suc left) from items → IsRun (column_of from items) start end
+    → BeginsRun (column_of from items) end
+BeginsRun-next measures left from items start end walkable is k before within =
+    omega (arith, up_to (cases_lt k start), above)
+  where
+    column : List ℕ
+    column = column_of from items
 
-  rises : get_or column start 0 ≤ get_or column end 0
-  rises = column_of-rises measures left from items start end walkable (omega (arith, is.after))
-      (omega (arith, within, length-map items (λ (item : Codes × Tally). get_or item.0.codes from 0)))
+    long : length column ≡ length items
+    long = length-map items (λ (item : Codes × Tally). get_or item.0.codes from 0)
 
-  above : get_or column start 0 < get_or column end 0
-  above = by_code (cases_order (get_or column end 0) (get_or column start 0)) where
-    by_code : (get_or column end 0 ≡ get_or column start 0)
-        ⊎ ((get_or column end 0 < get_or column start 0) ⊎ (get_or column start 0 < get_or column end 0))
-        → get_or column start 0 < get_or column end 0
-    by_code (inl same) = absurd (is.other within same)
-    by_code (inr (inl down)) = absurd (omega (arith, down, rises))
-    by_code (inr (inr up)) = up
+    rises : get_or column start 0 ≤ get_or column end 0
+    rises = column_of-rises measures left from items start end walkable (omega (arith, is.after))
+        (omega (arith, within, long))
 
-  by_place : (k < start) ⊎ (start ≤ k) → get_or column k 0 < get_or column end 0
-  by_place (inl earlier) =
-      let here : get_or column k 0 < get_or column start 0 = begins k earlier (omega (arith, within, is.after)) in
-      omega (arith, here, above)
-  by_place (inr later) = omega (arith, is.same k later before, above)
+    above : get_or column start 0 < get_or column end 0
+    above = by_code (cases_order (get_or column end 0) (get_or column start 0)) where
+      by_code : (get_or column end 0 ≡ get_or column start 0)
+          ⊎ ((get_or column end 0 < get_or column start 0) ⊎ (get_or column start 0 < get_or column end 0))
+          → get_or column start 0 < get_or column end 0
+      by_code (inl same) = absurd (is.other within same)
+      by_code (inr (inl down)) = absurd (omega (arith, down, rises))
+      by_code (inr (inr up)) = up
+
+    up_to : (k < start) ⊎ (start ≤ k) → get_or column k 0 ≤ get_or column start 0
+    up_to (inl earlier) = column_of-rises measures left from items k start walkable (omega (arith, earlier))
+        (omega (arith, within, is.after, long))
+    up_to (inr later) = omega (arith, is.same k later before)
 
 -- ---- items with ALL in a dimension
 weigh-raise : (from : ℕ) (part : Tally → ℕ) (weight : Codes → ℕ) (items : CodedCells)
@@ -928,14 +992,20 @@ pub record IsWalking {S : Type 0} (takes : S → Codes → Tally → S → Type 
   pub runs : AreRunsOf (is_kept_by kept) (dimensions - (from + 1)) from (take start items) cells
   pub taken : TakesAll takes old cells now
 
+-- a dimension less is left
+pub CanWalk-left : (dimensions from : ℕ) (items : CodedCells) → (can : CanWalk dimensions from items)
+    → from < dimensions → IsWalkable can.0 (suc (dimensions - (from + 1))) from items
+CanWalk-left dimensions from items can below =
+    let left : dimensions - from ≡ suc (dimensions - (from + 1)) = omega (arith, below) in
+    subst (λ (n : ℕ). IsWalkable can.0 n from items) left can.1
+
 pub IsWalking-start : {S : Type 0} (takes : S → Codes → Tally → S → Type 0) (kept : List Bool) (dimensions from : ℕ)
     (items : CodedCells) (sink : S) → CanWalk dimensions from items → from < dimensions
     → IsWalking takes kept dimensions from items 0 sink sink
 IsWalking-start takes kept dimensions from items sink can below =
-    let left : dimensions - from ≡ suc (dimensions - (from + 1)) = omega (arith, below) in
     record {
       measures = can.0;
-      walkable = subst (λ (n : ℕ). IsWalkable can.0 n from items) left can.1;
+      walkable = CanWalk-left dimensions from items can below;
       within = omega arith;
       begins = λ k before inside. absurd (omega (arith, before));
       cells = [];
@@ -960,37 +1030,51 @@ IsWalking-run takes kept dimensions from items start end old now new walking is 
   measures = walking.measures;
   walkable = walking.walkable;
   within = omega (arith, is.within, length-map items (λ (item : Codes × Tally). get_or item.0.codes from 0));
-  begins = BeginsRun-next walking.measures (dimensions - (from + 1)) from items start end walking.walkable
-      walking.begins is;
+  begins = BeginsRun-next walking.measures (dimensions - (from + 1)) from items start end walking.walkable is;
   cells = walking.cells ++ walk.cells;
   runs = AreRunsOf-run (is_kept_by kept) walking.measures (dimensions - (from + 1)) from items start end
       walking.cells walk.cells walking.walkable walking.begins is walking.runs walk.are;
   taken = TakesAll-append takes walking.cells walk.cells old now new walking.taken walk.taken;
 }
 
-pub CanWalk-raised : {S : Type 0} (takes : S → Codes → Tally → S → Type 0) (kept : List Bool) (dimensions from : ℕ)
-    (items raised : CodedCells) (start : ℕ) (old now : S) → IsWalking takes kept dimensions from items start old now
-    → AreRaised from items raised → CanWalk dimensions (from + 1) raised
-CanWalk-raised takes kept dimensions from items raised start old now walking is = (
-  walking.measures,
-  IsWalkable-AreRaised walking.measures (dimensions - (from + 1)) from items raised walking.walkable is,
+-- all runs are walked over
+pub TakesRuns-IsWalking : {S : Type 0} (takes : S → Codes → Tally → S → Type 0) (kept : List Bool) (dimensions from : ℕ)
+    (items : CodedCells) (start : ℕ) (old now : S) → IsWalking takes kept dimensions from items start old now
+    → length items ≤ start → TakesRuns takes kept dimensions from items old now
+TakesRuns-IsWalking takes kept dimensions from items start old now walking past = record {
+  cells = walking.cells;
+  are = subst (λ (l : CodedCells). AreRunsOf (is_kept_by kept) (dimensions - (from + 1)) from l walking.cells)
+      (take_all start items past) walking.runs;
+  taken = walking.taken;
+}
+
+pub CanWalk-raised : (dimensions from : ℕ) (items raised : CodedCells) → CanWalk dimensions from items
+    → from < dimensions → AreRaised from items raised → CanWalk dimensions (from + 1) raised
+CanWalk-raised dimensions from items raised can below is = (
+  can.0,
+  IsWalkable-AreRaised can.0 (dimensions - (from + 1)) from items raised (CanWalk-left dimensions from items can below) is,
 )
 
 -- all runs, and the items with ALL
+pub IsWalkOf-raised : (is_kept : Codes → Bool) (dimensions from : ℕ) (items raised done more : CodedCells)
+    → CanWalk dimensions from items → from < dimensions
+    → AreRunsOf is_kept (dimensions - (from + 1)) from items done → AreRaised from items raised
+    → IsWalkOf is_kept (dimensions - (from + 1)) (from + 1) raised more
+    → IsWalkOf is_kept (dimensions - from) from items (done ++ more)
+IsWalkOf-raised is_kept dimensions from items raised done more can below runs is walk =
+    let left : suc (dimensions - (from + 1)) ≡ dimensions - from = omega (arith, below) in
+    subst (λ (n : ℕ). IsWalkOf is_kept n from items (done ++ more)) left
+    (IsWalkOf-AreRaised is_kept can.0 (dimensions - (from + 1)) from items raised done more
+    (CanWalk-left dimensions from items can below) runs is walk)
+
 pub TakesWalk-raised : {S : Type 0} (takes : S → Codes → Tally → S → Type 0) (kept : List Bool) (dimensions from : ℕ)
-    (items raised : CodedCells) (start : ℕ) (old now new : S) → from < dimensions
-    → IsWalking takes kept dimensions from items start old now → length items ≤ start → AreRaised from items raised
+    (items raised : CodedCells) (old now new : S) → CanWalk dimensions from items → from < dimensions
+    → TakesRuns takes kept dimensions from items old now → AreRaised from items raised
     → TakesWalk takes kept dimensions (from + 1) raised now new → TakesWalk takes kept dimensions from items old new
-TakesWalk-raised takes kept dimensions from items raised start old now new below walking past is walk = record {
-  cells = walking.cells ++ walk.cells;
-  are =
-      let left : suc (dimensions - (from + 1)) ≡ dimensions - from = omega (arith, below) in
-      let runs = subst (λ (l : CodedCells). AreRunsOf (is_kept_by kept) (dimensions - (from + 1)) from l walking.cells)
-      (take_all start items past) walking.runs in
-      subst (λ (n : ℕ). IsWalkOf (is_kept_by kept) n from items (walking.cells ++ walk.cells)) left
-      (IsWalkOf-AreRaised (is_kept_by kept) walking.measures (dimensions - (from + 1)) from items raised
-      walking.cells walk.cells walking.walkable runs is walk.are);
-  taken = TakesAll-append takes walking.cells walk.cells old now new walking.taken walk.taken;
+TakesWalk-raised takes kept dimensions from items raised old now new can below runs is walk = record {
+  cells = runs.cells ++ walk.cells;
+  are = IsWalkOf-raised (is_kept_by kept) dimensions from items raised runs.cells walk.cells can below runs.are is walk.are;
+  taken = TakesAll-append takes runs.cells walk.cells old now new runs.taken walk.taken;
 }
 
 -- where no dimension is left
@@ -1031,21 +1115,15 @@ one-element (x ∷ y ∷ xs) d one = absurd (omega (arith, one))
 
 pub CanWalk-one : (dimensions from : ℕ) (item : Codes × Tally) → CanWalk dimensions from (item ∷ [])
     → from < dimensions → CanWalk dimensions (from + 1) (item ∷ [])
-CanWalk-one dimensions from item can below =
-    let left : dimensions - from ≡ suc (dimensions - (from + 1)) = omega (arith, below) in (
-      can.0,
-      IsWalkable-one can.0 (dimensions - (from + 1)) from item
-          (subst (λ (n : ℕ). IsWalkable can.0 n from (item ∷ [])) left can.1),
-    )
+CanWalk-one dimensions from item can below = (
+  can.0,
+  IsWalkable-one can.0 (dimensions - (from + 1)) from item (CanWalk-left dimensions from (item ∷ []) can below),
+)
 
 pub CanWalk-one_raised : (dimensions from : ℕ) (item : Codes × Tally) → CanWalk dimensions from (item ∷ [])
     → from < dimensions → CanWalk dimensions (from + 1) ((all_at from item.0, item.1) ∷ [])
-CanWalk-one_raised dimensions from item can below =
-    let left : dimensions - from ≡ suc (dimensions - (from + 1)) = omega (arith, below) in (
-      can.0,
-      IsWalkable-AreRaised can.0 (dimensions - (from + 1)) from (item ∷ []) ((all_at from item.0, item.1) ∷ [])
-          (subst (λ (n : ℕ). IsWalkable can.0 n from (item ∷ [])) left can.1) (AreRaised-one from item),
-    )
+CanWalk-one_raised dimensions from item can below = CanWalk-raised dimensions from (item ∷ [])
+    ((all_at from item.0, item.1) ∷ []) can below (AreRaised-one from item)
 
 pub TakesWalk-one : {S : Type 0} (takes : S → Codes → Tally → S → Type 0) (kept : List Bool) (dimensions from : ℕ)
     (item : Codes × Tally) (old mid new : S) → CanWalk dimensions from (item ∷ []) → from < dimensions
@@ -1053,10 +1131,11 @@ pub TakesWalk-one : {S : Type 0} (takes : S → Codes → Tally → S → Type 0
     → TakesWalk takes kept dimensions (from + 1) ((all_at from item.0, item.1) ∷ []) mid new
     → TakesWalk takes kept dimensions from (item ∷ []) old new
 TakesWalk-one takes kept dimensions from item old mid new can below first second =
-    TakesWalk-raised takes kept dimensions from (item ∷ []) ((all_at from item.0, item.1) ∷ []) 1 old mid new below
+    TakesWalk-raised takes kept dimensions from (item ∷ []) ((all_at from item.0, item.1) ∷ []) old mid new can below
+    (TakesRuns-IsWalking takes kept dimensions from (item ∷ []) 1 old mid
     (IsWalking-run takes kept dimensions from (item ∷ []) 0 1 old old mid
-    (IsWalking-start takes kept dimensions from (item ∷ []) old can below) (IsRun-one from item) first)
-    (omega arith) (AreRaised-one from item) second
+    (IsWalking-start takes kept dimensions from (item ∷ []) old can below) (IsRun-one from item) first) (omega arith))
+    (AreRaised-one from item) second
 
 -- where no dimension is left
 pub TakesWalk-one_kept : {S : Type 0} (takes : S → Codes → Tally → S → Type 0) (kept : List Bool)

@@ -5,11 +5,11 @@ use Rattle.std.specs.Prelude.{All}
 use Rattle.std.specs.List.Sorted.{IsStrictlySortedBy}
 use Rattle.std.proofs.Math.Nat.{add-mul, mod-add-div', mod-le, mod-lt, mod-mod, mod-one, mul_assoc, mul_comm, pow-succ'}
 use Rattle.std.proofs.lemmas.Bool.{cases_lt}
-use Rattle.std.proofs.lemmas.List.{get_or_past, take-set, take_all, take_more_set}
+use Rattle.std.proofs.lemmas.List.{get_or-map, get_or_past, take-set, take_more_set}
 use Rattle.std.proofs.lemmas.List.Elements.{All-nil, All-weaker}
 use Rattle.std.proofs.lemmas.Nat.{mod-mul-add}
 use Rattle.cube_cells.specs.BottomUp.{AreRunsOf, CanWalk, IsItem, IsNoneKept, IsWalkOf, IsWalkable}
-use Rattle.cube_cells.specs.BottomUp.{TakesWalk, all_at, cells_of_items, codes_cmp, is_kept_by, only, spread, weigh}
+use Rattle.cube_cells.specs.BottomUp.{TakesRuns, TakesWalk, all_at, cells_of_items, codes_cmp, is_kept_by, only, spread, weigh}
 use Rattle.cube_cells.specs.Codes.{all_code}
 use Rattle.cube_cells.specs.Coded.{CodedCells}
 use Rattle.cube_cells.specs.Levels.{mask_of_codes}
@@ -18,7 +18,7 @@ use Rattle.cube_cells.specs.declared.cube.bottom_up.Item.{Item}
 use Rattle.cube_cells.specs.declared.cube.codes.Codes.{Codes}
 use Rattle.cube_cells.proofs.Filling.BottomUpCellLaws.{weigh-none}
 use Rattle.cube_cells.proofs.Filling.BottomUpCubeLaws.{pow-positive}
-use Rattle.cube_cells.proofs.Filling.BottomUpLaws.{IsWalking, weigh-both}
+use Rattle.cube_cells.proofs.Filling.BottomUpLaws.{CanWalk-left, weigh-both}
 
 -- ---- first codes
 -- lists that agree in more agree in fewer
@@ -220,21 +220,18 @@ IsWalkOf-runs is_kept left from items cells runs none = record {
   each = runs.each;
 }
 
-TakesWalk-runs : {S : Type 0} (takes : S → Codes → Tally → S → Type 0) (kept : List Bool) (dimensions from : ℕ)
-    (items : CodedCells) (start : ℕ) (old now : S) → from < dimensions
-    → IsWalking takes kept dimensions from items start old now → length items ≤ start
-    → All (λ item. IsNoneKept (is_kept_by kept) (from + 1) (all_at from item.0)) items
-    → TakesWalk takes kept dimensions from items old now
-TakesWalk-runs takes kept dimensions from items start old now below walking past none = record {
-  cells = walking.cells;
-  are =
-      let left : suc (dimensions - (from + 1)) ≡ dimensions - from = omega (arith, below) in
-      let runs = subst (λ (l : CodedCells). AreRunsOf (is_kept_by kept) (dimensions - (from + 1)) from l walking.cells)
-      (take_all start items past) walking.runs in
-      subst (λ (n : ℕ). IsWalkOf (is_kept_by kept) n from items walking.cells) left
-      (IsWalkOf-runs (is_kept_by kept) (dimensions - (from + 1)) from items walking.cells runs none);
-  taken = walking.taken;
-}
+-- the same from a dimension on of so many
+pub IsWalkOf-none_above : (kept : List Bool) (dimensions from : ℕ) (items cells : CodedCells) (first : Codes × Tally)
+    → CanWalk dimensions from items → from < dimensions
+    → AreRunsOf (is_kept_by kept) (dimensions - (from + 1)) from items cells
+    → IsNoneKept (is_kept_by kept) (from + 1) (all_at from (get_or items 0 first).0)
+    → IsWalkOf (is_kept_by kept) (dimensions - from) from items cells
+IsWalkOf-none_above kept dimensions from items cells first can below runs none =
+    let left : suc (dimensions - (from + 1)) ≡ dimensions - from = omega (arith, below) in
+    subst (λ (n : ℕ). IsWalkOf (is_kept_by kept) n from items cells) left
+    (IsWalkOf-runs (is_kept_by kept) (dimensions - (from + 1)) from items cells runs
+    (All-above (is_kept_by kept) can.0 (dimensions - (from + 1)) from items first
+    (CanWalk-left dimensions from items can below) none))
 
 -- ---- items
 pub TakesWalk-empty : {S : Type 0} (takes : S → Codes → Tally → S → Type 0) (kept : List Bool) (dimensions from : ℕ)
@@ -263,17 +260,15 @@ TakesWalk-none_first takes kept dimensions from (one ∷ items) item old can is 
     none)
 
 pub TakesWalk-runs_first : {S N : Type 0} (takes : S → Codes → Tally → S → Type 0) (kept : List Bool)
-    (dimensions from : ℕ) (items : List (Item N)) (item : Item N) (start : ℕ) (old now : S) → from < dimensions
-    → IsWalking takes kept dimensions from (cells_of_items items) start old now
-    → length (cells_of_items items) ≤ start → item ≡ get_or items 0 item
-    → IsNoneKept (is_kept_by kept) (from + 1) (all_at from item.codes)
+    (dimensions from : ℕ) (items : List (Item N)) (item : Item N) (old now : S)
+    → CanWalk dimensions from (cells_of_items items) → from < dimensions
+    → TakesRuns takes kept dimensions from (cells_of_items items) old now → item ≡ get_or items 0 item
+    → 0 < length items → IsNoneKept (is_kept_by kept) (from + 1) (all_at from item.codes)
     → TakesWalk takes kept dimensions from (cells_of_items items) old now
-TakesWalk-runs_first takes kept dimensions from [] item start old now below walking past is none =
-    TakesWalk-runs takes kept dimensions from [] start old now below walking past
-    (All-nil (λ cell. IsNoneKept (is_kept_by kept) (from + 1) (all_at from cell.0)))
-TakesWalk-runs_first takes kept dimensions from (one ∷ items) item start old now below walking past is none =
-    TakesWalk-runs takes kept dimensions from (cells_of_items (one ∷ items)) start old now below walking past
-    (All-above (is_kept_by kept) walking.measures (dimensions - (from + 1)) from (cells_of_items (one ∷ items))
-    (one.codes, one.cell) walking.walkable
-    (subst (λ (cell : Codes × Tally). IsNoneKept (is_kept_by kept) (from + 1) (all_at from cell.0))
-    (ap cell_of is) none))
+TakesWalk-runs_first takes kept dimensions from items item old now can below runs is some none = record {
+  cells = runs.cells;
+  are = IsWalkOf-none_above kept dimensions from (cells_of_items items) runs.cells (cell_of item) can below runs.are
+      (subst (λ (cell : Codes × Tally). IsNoneKept (is_kept_by kept) (from + 1) (all_at from cell.0))
+      (sym (get_or-map {Y = Codes × Tally} cell_of items 0 item (cell_of item) some ∙ sym (ap cell_of is))) none);
+  taken = runs.taken;
+}

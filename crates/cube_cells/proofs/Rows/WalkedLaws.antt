@@ -12,7 +12,9 @@ use Rattle.cube_core.specs.Layout.{Layout}
 use Rattle.cube_core.specs.declared.fact.Fact.{Fact}
 use Rattle.cube_core.specs.declared.key.Coord.{Coord}
 use Rattle.cube_core.specs.declared.key.Coord.TheVariants as coord
-use Rattle.cube_cells.specs.BottomUp.{AreToWalk, CanWalk, IsWalkOf, TakesAll, TakesCube, TakesWalk, codes_cmp, is_kept_by}
+use Rattle.cube_cells.specs.BottomUp.{AreCellsOfCube, AreToWalk, CanWalk, IsWalkOf, TakesAll, TakesCube, TakesWalk}
+use Rattle.cube_cells.specs.BottomUp.{codes_cmp, is_kept_by}
+use Rattle.cube_cells.specs.WalkParts.{WalkGivesCube}
 use Rattle.cube_cells.specs.Codes.{Dictionaries, all_code, are_codes, coords_at}
 use Rattle.cube_cells.specs.Coded.{AreNewCells, CodedCells, IsCodedCell, decoded, lattice_of, total_codes}
 use Rattle.cube_cells.specs.Cube.{Cells, IsCubeOf, cell_at}
@@ -39,20 +41,17 @@ CanWalk-AreToWalk schema number dictionaries items are = CanWalk-AreFinest schem
     (AreFinest-AreToWalk schema number dictionaries items are.facts are are.cube) are.in_order
 
 -- ---- over some facts
-pub TakesCube-TakesWalk : {S : Type 0} (takes : S → Codes → Tally → S → Type 0) (schema : Layout) (number : ℕ)
-    (dictionaries : Dictionaries) (items : CodedCells) (kept : List Bool) (old new : S)
-    → AreToWalk schema number dictionaries items → (number ≡ 0 → ⊥)
+pub AreCellsOfCube-IsWalkOf : (schema : Layout) (number : ℕ) (dictionaries : Dictionaries) (items : CodedCells)
+    (kept : List Bool) (cells : CodedCells) → AreToWalk schema number dictionaries items → (number ≡ 0 → ⊥)
     → ((mask : ℕ) → get_or kept mask false ≡ is_among mask schema.grouping_sets)
-    → TakesWalk takes kept (length schema.dimensions) 0 items old new
-    → TakesCube takes (lattice_of schema (finest_set (length schema.dimensions) ∷ []) number dictionaries items) old new
-TakesCube-TakesWalk takes schema number dictionaries items kept old new are some masks walk = record {
-  cells = walk.cells;
-  taken = walk.taken;
+    → IsWalkOf (is_kept_by kept) (length schema.dimensions) 0 items cells
+    → AreCellsOfCube (lattice_of schema (finest_set (length schema.dimensions) ∷ []) number dictionaries items) cells
+AreCellsOfCube-IsWalkOf schema number dictionaries items kept cells are some masks walk = record {
   each = each;
-  rows = λ facts of rows zipped. AreRowsOver-codes_cmp schema dictionaries facts sets walk.cells rows
+  rows = λ facts of rows zipped. AreRowsOver-codes_cmp schema dictionaries facts sets cells rows
       (omega (arith, are.coded.lattice.dictionaries, are.coded.lattice.schema.dimensions_at_most)) are.coded.texts
-      are.texts each walk.are.in_order
-      (IsCubeOf-IsWalkOf schema dictionaries facts sets items walk.cells
+      are.texts each walk.in_order
+      (IsCubeOf-IsWalkOf schema dictionaries facts sets items cells
       (AreFinest-AreToWalk schema number dictionaries items facts are of) (more facts of)
       are.coded.lattice.schema.sets_are_of_dimensions is) zipped;
 } where
@@ -70,13 +69,36 @@ TakesCube-TakesWalk takes schema number dictionaries items kept old new are some
   same : is_kept_by kept ≡ is_kept_in sets
   same = λ i codes. masks (mask_of_codes codes.codes) i
 
-  is : IsWalkOf (is_kept_in sets) n 0 items walk.cells
-  is = subst (λ (m : ℕ). IsWalkOf (is_kept_in sets) m 0 items walk.cells) (omega arith)
-      (subst (λ (is_kept : Codes → Bool). IsWalkOf is_kept (n - 0) 0 items walk.cells) same walk.are)
+  is : IsWalkOf (is_kept_in sets) n 0 items cells
+  is = subst (λ (is_kept : Codes → Bool). IsWalkOf is_kept n 0 items cells) same walk
 
-  each : All (IsCodedCell dictionaries (length schema.measures)) walk.cells
-  each = All-IsCodedCell schema dictionaries are.facts sets items walk.cells
+  each : All (IsCodedCell dictionaries (length schema.measures)) cells
+  each = All-IsCodedCell schema dictionaries are.facts sets items cells
       (AreFinest-AreToWalk schema number dictionaries items are.facts are are.cube) is
+
+pub TakesCube-TakesWalk : {S : Type 0} (takes : S → Codes → Tally → S → Type 0) (schema : Layout) (number : ℕ)
+    (dictionaries : Dictionaries) (items : CodedCells) (kept : List Bool) (old new : S)
+    → AreToWalk schema number dictionaries items → (number ≡ 0 → ⊥)
+    → ((mask : ℕ) → get_or kept mask false ≡ is_among mask schema.grouping_sets)
+    → TakesWalk takes kept (length schema.dimensions) 0 items old new
+    → TakesCube takes (lattice_of schema (finest_set (length schema.dimensions) ∷ []) number dictionaries items) old new
+TakesCube-TakesWalk takes schema number dictionaries items kept old new are some masks walk = record {
+  cells = walk.cells;
+  taken = walk.taken;
+  are = AreCellsOfCube-IsWalkOf schema number dictionaries items kept walk.cells are some masks
+      (subst (λ (n : ℕ). IsWalkOf (is_kept_by kept) n 0 items walk.cells) (omega arith) walk.are);
+}
+
+-- a walk over them in parts gives the cube too
+pub WalkGivesCube-AreToWalk : (schema : Layout) (number : ℕ) (dictionaries : Dictionaries) (items : CodedCells)
+    (kept : List Bool) → AreToWalk schema number dictionaries items → 0 < number
+    → ((mask : ℕ) → get_or kept mask false ≡ is_among mask schema.grouping_sets)
+    → WalkGivesCube (lattice_of schema (finest_set (length schema.dimensions) ∷ []) number dictionaries items) kept items
+WalkGivesCube-AreToWalk schema number dictionaries items kept are some masks = record {
+  can = CanWalk-AreToWalk schema number dictionaries items are;
+  gives = λ cells walk. AreCellsOfCube-IsWalkOf schema number dictionaries items kept cells are
+      (λ none. absurd (omega (arith, none, some))) masks walk;
+}
 
 -- ---- over no facts
 -- the grand total has one key, whatever texts there are
@@ -154,10 +176,12 @@ TakesCube-total {S} takes schema number dictionaries items kept t old new are no
     all cells takes_all each sorted same are_new = record {
       cells = cells;
       taken = takes_all;
-      each = each;
-      rows = λ facts of rows zipped. AreRowsOver-codes_cmp schema dictionaries facts sets cells rows
-          (omega (arith, long, room)) are.coded.texts are.texts each sorted
-          (IsCubeOf-none schema dictionaries cells facts room (sym none ∙ of.facts_are) same are_new) zipped;
+      are = record {
+        each = each;
+        rows = λ facts of rows zipped. AreRowsOver-codes_cmp schema dictionaries facts sets cells rows
+            (omega (arith, long, room)) are.coded.texts are.texts each sorted
+            (IsCubeOf-none schema dictionaries cells facts room (sym none ∙ of.facts_are) same are_new) zipped;
+      };
     }
 
     by_kept : (b : Bool) → is_among 0 sets ≡ b

@@ -4,7 +4,7 @@ ghost use Rattle.std.specs.Prelude.{◌≡◌, ◌<◌, ◌≤◌, ◌^◌, ◌�
 ghost use Rattle.std.specs.Cmp.Lexicographic.{slice_cmp};
 ghost use Rattle.std.specs.List.Sorted.{IsSortedBy};
 ghost use Rattle.std.specs.Ordering.{nat_cmp, is_lt};
-ghost use Rattle.cube_cells.specs.BottomUp.{AreUnited, AreRaised, CanWalk, IsItem, IsNoneKept, IsRun, JoinsLast, TakesAll, TakesWalk, cells_of_items, cells_of_lent, column_of, is_kept_by, raise};
+ghost use Rattle.cube_cells.specs.BottomUp.{AreUnited, AreRaised, CanWalk, IsItem, IsNoneKept, IsRun, JoinsLast, TakesAll, TakesRuns, TakesWalk, cells_of_items, cells_of_lent, column_of, is_kept_by, raise};
 ghost use Rattle.cube_core.specs.GroupingSet.{is_among};
 ghost use Rattle.cube_cells.specs.Tally.{PlusTally, SameTally, Tally};
 ghost use Rattle.cube_cells.specs.declared.cube.codes.Codes.{Codes};
@@ -64,6 +64,7 @@ fn masks_of(dimensions: usize) -> usize
 ///
 /// Runs of one code come first, then the items with ALL in the dimension; none is looked at where no set is kept. The only
 /// error is that memory ran out.
+#[cycle(walk)]
 pub fn walk<N: Numbers, S: TakesCells<N>>(
     alloc: Global,
     kept: &[bool],
@@ -89,17 +90,36 @@ pub fn walk<N: Numbers, S: TakesCells<N>>(
     if !is_any_kept(kept, from, &first.codes) {
         return Ok(());
     }
+    walk_runs(alloc, kept, dimensions, from, items, sink)?;
+    if !is_any_kept(kept, from + 1, &first.codes.with_all(from)) {
+        return Ok(());
+    }
+    let raised = raised(alloc, from, items)?;
+    walk(alloc, kept, dimensions, from + 1, &raised, sink)
+}
+
+/// Hands the cells of the kept sets over that aren't ALL in a dimension of so many, for items that agree in those before it:
+/// run by run of one code. The only error is that memory ran out.
+#[cycle(walk)]
+pub fn walk_runs<N: Numbers, S: TakesCells<N>>(
+    alloc: Global,
+    kept: &[bool],
+    dimensions: usize,
+    from: usize,
+    items: &[Item<N>],
+    sink: &mut S,
+) -> Result<(), AllocError>
+    requires from { from < dimensions }
+    requires items { CanWalk dimensions from (cells_of_items items.now) }
+    ensures { OnOk result (TakesRuns S.takes kept.now dimensions from (cells_of_items items.now) sink.old sink.new) }
+{
     let mut start = 0;
     while start < items.len() {
         let end = end_of_run(items, from, start);
         walk(alloc, kept, dimensions, from + 1, &items[start..end], sink)?;
         start = end;
     }
-    if !is_any_kept(kept, from + 1, &first.codes.with_all(from)) {
-        return Ok(());
-    }
-    let raised = raised(alloc, from, items)?;
-    walk(alloc, kept, dimensions, from + 1, &raised, sink)
+    Ok(())
 }
 
 // The same for one item: all keys above it have its cell.
@@ -132,8 +152,8 @@ fn walk_one<N: Numbers, S: TakesCells<N>>(
     )
 }
 
-// Whether a set is kept that has, of the first so many dimensions, those in which codes aren't ALL.
-fn is_any_kept(kept: &[bool], from: usize, codes: &Codes) -> bool
+/// Whether a set is kept that has, of the first so many dimensions, those in which codes aren't ALL.
+pub fn is_any_kept(kept: &[bool], from: usize, codes: &Codes) -> bool
     requires { from ≤ 8 }
     ensures { result ≡ false → IsNoneKept (is_kept_by kept.now) from codes.now }
 {
@@ -189,8 +209,8 @@ fn is_kept(kept: &[bool], codes: &Codes) -> bool
     }
 }
 
-// Where the run ends that begins at a place: the items with its code in a dimension.
-fn end_of_run<N: Numbers>(items: &[Item<N>], from: usize, start: usize) -> usize
+/// Where the run ends that begins at a place: the items with its code in a dimension.
+pub fn end_of_run<N: Numbers>(items: &[Item<N>], from: usize, start: usize) -> usize
     requires dimension { from < 8 }
     requires start { start < length items.now }
     ensures { IsRun (column_of from (cells_of_items items.now)) start result }
@@ -203,8 +223,8 @@ fn end_of_run<N: Numbers>(items: &[Item<N>], from: usize, start: usize) -> usize
     end
 }
 
-// The items with ALL in a dimension, in the order of their codes; those of the same codes are merged.
-fn raised<N: Numbers>(
+/// The items with ALL in a dimension, in the order of their codes; those of the same codes are merged.
+pub fn raised<N: Numbers>(
     alloc: Global,
     from: usize,
     items: &[Item<N>],

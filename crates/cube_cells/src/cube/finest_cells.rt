@@ -17,6 +17,7 @@ use super::codes::Codes;
 use super::levels::Cells;
 use super::ranks::{RankedTexts, all_ranked, ranked_codes};
 use super::sorted_texts::SortedTexts;
+use super::walk_parts::RaisedCells;
 use crate::cell::Cell;
 use cube_core::{CoordRef, Schema};
 use cube_values::Numbers;
@@ -109,6 +110,23 @@ impl<N: Numbers> FinestCells<N> {
             get_or (key_at self.now.dictionaries codes.now.codes).coords dimension coord.All }
     {
         coord_of(&self.texts, codes, dimension)
+    }
+
+    /// How many facts these are the cells of.
+    pub fn facts(&self) -> u64
+        ensures { result ≡ self.now.facts }
+    {
+        self.facts
+    }
+
+    /// These cells, with what the parts of a walk over their cube go over. The only error is that memory ran out.
+    pub fn raised(&self) -> Result<RaisedCells<'_, N>, AllocError>
+        requires { 0 < self.now.facts }
+        ensures { IfOk result (λ raised. raised ≡ self.now) }
+    {
+        let dimensions = self.schema.dimensions().len();
+        let kept = kept_masks(self.alloc, dimensions, self.schema.grouping_sets())?;
+        RaisedCells::of(self.alloc, self, &self.items, kept)
     }
 
     /// Hands the cells of the cube of the facts over all grouping sets of the schema over, in key order. The only error is
