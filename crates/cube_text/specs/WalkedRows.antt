@@ -12,7 +12,7 @@ use Rattle.cube_text.specs.declared.walked.RowsText.{RowsText}
 pub record TakesRow {N : Type 0} (old : RowsText N) (codes : Codes) (cell : Tally) (new : RowsText N) : Type 0 where
   pub same : new.cells ≡ old.cells
   pub same_shown : new.shown ≡ old.shown
-  pub adds : AreShown old.cells.now.dictionaries old.shown.items
+  pub adds : AreShown old.cells.now.dictionaries old.shown.now
       → length cell.bags ≡ length old.cells.now.schema.measures
       → AddsRow (digits_of_answers old.cells.now.schema) old.cells.now.schema.aggregates
       (key_at old.cells.now.dictionaries codes.codes, cell) old.text.items new.text.items

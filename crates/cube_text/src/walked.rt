@@ -1,5 +1,5 @@
 //! The text of a cube, made in a walk over its finest cells: no other cell is kept, and none is sorted.
-ghost use Rattle.std.specs.Prelude.{◌≡◌, ◌<◌, ◌≤◌, ◌∷◌, [], List, get_or, length, map, IfOk, OnOk};
+ghost use Rattle.std.specs.Prelude.{◌≡◌, ◌<◌, ◌≤◌, ◌∷◌, [], ℕ, List, get_or, length, map, All, IfOk, OnOk};
 ghost use Rattle.cube_core.specs.Printed.{IsPrinted};
 ghost use Rattle.cube_core.specs.Text.{coord_text, digits_of_answers, grouping_text};
 ghost use Rattle.cube_core.specs.declared.fact.Fact.{Fact};
@@ -9,21 +9,26 @@ ghost use Rattle.cube_cells.specs.Fill.{IsCubeOfAll};
 ghost use Rattle.cube_lines.specs.Parts.{AddsParts};
 ghost use Rattle.cube_text.specs.Rows.{AddsRow};
 ghost use Rattle.cube_text.specs.Shown.{AreShown};
-ghost use Rattle.cube_text.specs.Walked.{AddsAnswers};
+ghost use Rattle.cube_cells.specs.WalkParts.{PartOfWalk};
+ghost use Rattle.cube_text.specs.Walked.{AddsAnswers, IsTextOfPart};
 
 use crate::fields::{close_line, push_coord, push_grouping};
 use crate::print::text_of_header;
 use crate::shown::{Shown, all_shown, part_at};
-use cube_cells::{Cell, FinestCells, KeyCodes, Numbers, TakesCells};
-use cube_lines::push_answer;
+use cube_cells::{Cell, FinestCells, KeyCodes, Numbers, Summary, TakesCells, WalkPart};
+use cube_lines::{Pieces, push_answer};
 use itoa::Buffer;
 use std::alloc::{AllocError, Global};
+use std::thread::{Threads, map_indices};
+
+// How many parts there are for each thread of the walk over the finest cells, so that none waits long for another.
+const PARTS: usize = 4;
 
 /// A text to which a walk adds the line of the row of each cell.
 #[derive(Drop)]
 pub struct RowsText<'c, N: Numbers> {
     cells: &'c FinestCells<N>,
-    shown: Vec<Shown>,
+    shown: &'c [Shown],
     text: Vec<u8>,
 }
 
@@ -36,7 +41,7 @@ impl<'c, N: Numbers> TakesCells<N> for RowsText<'c, N> {
         if cell.measures() != self.cells.schema().measures().len() {
             return Ok(());
         }
-        put_row_of(&mut self.text, self.cells, &self.shown, codes, cell)
+        put_row_of(&mut self.text, self.cells, self.shown, codes, cell)
     }
 }
 
@@ -52,8 +57,75 @@ pub fn print_walked<N: Numbers>(
     let schema = cells.schema();
     let text = text_of_header(alloc, schema)?;
     let shown = all_shown(alloc, cells)?;
-    let mut rows = RowsText { cells, shown, text };
+    let mut rows = RowsText {
+        cells,
+        shown: &shown,
+        text,
+    };
     cells.walk(&mut rows)?;
+    Ok(rows.text)
+}
+
+/// The text that [`print_walked`] gives, in pieces: the walk is cut into parts, and several threads make the lines of one
+/// each. With one thread, or none, no thread is started. The only error is that memory ran out, or numbers to count the facts
+/// with.
+pub fn print_walked_in_pieces<T: Threads + Sync>(
+    rt: &T,
+    alloc: Global,
+    threads: usize,
+    cells: &FinestCells<Summary>,
+) -> Result<Pieces, AllocError>
+    ensures { IfOk result (λ text. (facts : List Fact) → IsCubeOfAll facts cells.now →
+        IsPrinted cells.now.schema facts text) }
+{
+    if threads <= 1 || cells.facts() == 0 {
+        let text = print_walked(alloc, cells)?;
+        return Pieces::of(alloc, text, Vec::new(alloc));
+    }
+    let header = text_of_header(alloc, cells.schema())?;
+    let shown = all_shown(alloc, cells)?;
+    let raised = cells.raised()?;
+    let parts = raised.parts(threads.saturating_mul(PARTS))?;
+    let texts = texts_of_parts(rt, alloc, cells, &shown, &parts)?;
+    Pieces::of(alloc, header, texts)
+}
+
+// The lines of the rows of the cells of each part, each made on a thread of its own.
+fn texts_of_parts<T: Threads + Sync>(
+    rt: &T,
+    alloc: Global,
+    cells: &FinestCells<Summary>,
+    shown: &[Shown],
+    parts: &[WalkPart<'_, Summary>],
+) -> Result<Vec<Result<Vec<u8>, AllocError>>, AllocError>
+    ensures long { IfOk result (λ texts. length texts.items ≡ length parts.now) }
+    ensures each { IfOk result (λ texts. (i : ℕ) (unused : _) (part : PartOfWalk) → i < length parts.now →
+        IfOk (get_or texts.items i unused) (λ text.
+        IsTextOfPart cells.now shown.now (get_or parts.now i part) text.items)) }
+{
+    map_indices(
+        rt,
+        alloc,
+        parts.len(),
+        &|which| { text_of_part(alloc, cells, shown, &parts[which]) },
+    )
+}
+
+// The lines of the rows of the cells of a part.
+fn text_of_part<N: Numbers>(
+    alloc: Global,
+    cells: &FinestCells<N>,
+    shown: &[Shown],
+    part: &WalkPart<'_, N>,
+) -> Result<Vec<u8>, AllocError>
+    ensures { IfOk result (λ text. IsTextOfPart cells.now shown.now part.now text.items) }
+{
+    let mut rows = RowsText {
+        cells,
+        shown,
+        text: Vec::new(alloc),
+    };
+    part.walk(&mut rows)?;
     Ok(rows.text)
 }
 
