@@ -4,4 +4,5 @@ pub mod RowLaws
 pub mod DrillLaws
 pub mod SliceLaws
 pub mod BottomUpRowLaws
+pub mod CountLaws
 pub mod WalkedLaws

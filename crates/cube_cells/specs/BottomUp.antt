@@ -4,6 +4,7 @@ use Rattle.std.specs.Prelude.{◌≡◌, ◌+◌, ◌*◌, ◌-◌, ◌<◌, ◌
 use Rattle.std.specs.Prelude.{sum_by, slice_set, map, false, All, Contains, ◌⊎◌, if◌then◌else◌}
 use Rattle.std.specs.Cmp.Lexicographic.{slice_cmp}
 use Rattle.std.specs.List.Sorted.{IsStrictlySortedBy}
+use Rattle.std.specs.Map.{keys_of}
 use Rattle.std.specs.Ordering.{nat_cmp}
 use Rattle.std.specs.declared.cmp.Ordering.{Ordering}
 use Rattle.std.specs.List.{AllZip}
@@ -13,6 +14,7 @@ use Rattle.cube_core.specs.declared.fact.Fact.{Fact}
 use Rattle.cube_core.specs.declared.key.Row.{Row}
 use Rattle.cube_cells.specs.Codes.{Dictionaries, IsDictionary, all_code}
 use Rattle.cube_cells.specs.Coded.{CodedCells, IsCoded, IsCodedCell, decoded, lattice_of}
+use Rattle.cube_cells.specs.Count.{AreKeysOver}
 use Rattle.cube_cells.specs.Cube.{Lattice}
 use Rattle.cube_cells.specs.Fill.{IsCubeOfAll, finest_set}
 use Rattle.cube_cells.specs.Rows.{IsRowOf}
@@ -215,6 +217,9 @@ pub record AreCellsOfCube (finest : Lattice) (cells : CodedCells) : Type 0 where
   pub rows : (facts : List Fact) → IsCubeOfAll facts finest → (rows : List Row)
       → AllZip (IsRowOf finest.schema.aggregates) (decoded finest.dictionaries cells) rows
       → AreRows finest.schema facts rows
+  pub keys : (facts : List Fact) → IsCubeOfAll facts finest
+      → AreKeysOver finest.schema.grouping_sets (length finest.schema.dimensions) facts
+      (keys_of (decoded finest.dictionaries cells))
 
 -- they are taken
 pub record TakesCube {S : Type 0} (takes : S → Codes → Tally → S → Type 0) (finest : Lattice) (old new : S)

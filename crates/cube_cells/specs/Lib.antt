@@ -10,6 +10,7 @@ pub mod Rows
 pub mod CellKey
 pub mod Levels
 pub mod Fill
+pub mod Count
 pub mod Places
 pub mod Shares
 pub mod BottomUp

@@ -9,9 +9,11 @@ ghost use Rattle.cube_core.specs.Takes.{fits};
 ghost use Rattle.cube_core.specs.declared.fact.Fact.{Fact};
 ghost use Rattle.cube_core.specs.declared.key.Key.{Key};
 ghost use Rattle.cube_cells.specs.Codes.{IsDictionary, AreCodesOf, are_codes, coord_of_value};
+ghost use Rattle.cube_cells.specs.Count.{HasCellsOver};
 ghost use Rattle.cube_cells.specs.Cube.{Lattice, IsLattice, IsCubeOf, HoldsFact, AddsFact, TakesFact, AddsTexts, MayAddTexts, SameCells, cell_at, count_in, IsNewLattice};
 
 mod bottom_up;
+mod cell_count;
 mod cell_key;
 mod codes;
 mod dictionary;
@@ -39,7 +41,7 @@ use cube_values::{Counted, Numbers};
 use dictionary::Dictionary;
 pub use finest_cells::FinestCells;
 pub use keyed::KeyedCell;
-use levels::{Level, new_levels};
+use levels::{Level, count_in, new_levels};
 pub use ordered::{OrderedCells, row_of};
 pub use sorted_texts::SortedTexts;
 use std::alloc::{AllocError, Global};
@@ -220,6 +222,15 @@ impl<N: Numbers> Cube<N> {
         ensures lattice { IsLattice self.now }
     {
         self.facts
+    }
+
+    /// How many cells there are. The only error is that numbers to count them with ran out.
+    pub fn count_cells(&self) -> Result<u64, AllocError>
+        ensures { IfOk result (λ number. (facts : List Fact) → IsCubeOf self.now facts →
+            HasCellsOver self.now.sets (length self.now.schema.dimensions) facts number) }
+    {
+        let number = count_in(&self.levels)?;
+        Ok(number as u64)
     }
 
     /// Whether a refused growth has spoilt the cube: never.

@@ -50,12 +50,12 @@ pub same_key_as-IsEquivalence : IsEquivalence same_key_as
 same_key_as-IsEquivalence = eq_by_cmp_equiv key_cmp-IsTotalOrder
 
 -- a cell is found by its key
-cell_at-from_Contains : (cells : Cells) (key : Key) (t : Tally) → IsDistinct same_key_as (keys_of cells)
+pub cell_at-from_Contains : (cells : Cells) (key : Key) (t : Tally) → IsDistinct same_key_as (keys_of cells)
     → Contains cells (key, t) → cell_at cells key ≡ Some t
 cell_at-from_Contains cells key t distinct there =
     lookup-from_Contains same_key_as-IsEquivalence key t cells distinct there
 
-Contains-from_cell_at : (cells : Cells) (key : Key) (t : Tally) → cell_at cells key ≡ Some t → Contains cells (key, t)
+pub Contains-from_cell_at : (cells : Cells) (key : Key) (t : Tally) → cell_at cells key ≡ Some t → Contains cells (key, t)
 Contains-from_cell_at cells key t found =
     Contains-from_lookup (λ a b same. tells_apart key_cmp-exact a b same) key t cells found
 
@@ -81,7 +81,7 @@ AreAnswersOf-IsRowOf aggregates cells (c ∷ placed) (row ∷ rows) found all =
 All-from_Contains : {X : Type 0} (P : X → Type 0) (xs : List X) → ((x : X) → Contains xs x → P x) → All P xs
 All-from_Contains P xs h = λ k d inside. h (get_or xs k d) (Contains-get_or xs k d inside)
 
-IsSome-Some : (o : Option Tally) → IsSome o → (t : Tally) × (o ≡ Some t)
+pub IsSome-Some : (o : Option Tally) → IsSome o → (t : Tally) × (o ≡ Some t)
 IsSome-Some None some = cc some
 IsSome-Some (Some t) some = (t, refl)
 
@@ -204,7 +204,7 @@ IsDistinct-decoded dictionaries measures (c ∷ cells) texts room all distinct =
         head es (All-tail (IsCodedCell dictionaries measures) e es all) others.1,
       )
 
-IsDistinct-IsCoded : {schema : Layout} {sets : List ℕ} {facts : ℕ} {dictionaries : Dictionaries} {cells : CodedCells}
+pub IsDistinct-IsCoded : {schema : Layout} {sets : List ℕ} {facts : ℕ} {dictionaries : Dictionaries} {cells : CodedCells}
     → IsCoded schema sets facts dictionaries cells → IsDistinct same_key_as (keys_of (decoded dictionaries cells))
 IsDistinct-IsCoded {schema = schema} {dictionaries = dictionaries} {cells = cells} is =
     IsDistinct-decoded dictionaries (length schema.measures) cells is.texts

@@ -24,9 +24,12 @@ use Rattle.cube_cells.specs.Tally.{Tally, IsTallyOf}
 use Rattle.cube_cells.specs.declared.cube.codes.Codes.{Codes}
 use Rattle.cube_cells.proofs.Cells.NewLaws.{IsCubeOf-AreNewCells}
 use Rattle.cube_cells.proofs.Codes.KeyLaws.{all_code-replicate}
+use Rattle.cube_cells.proofs.Filling.BottomUpCellLaws.{AreApart-sorted}
 use Rattle.cube_cells.proofs.Filling.BottomUpCubeLaws.{AreFinest, AreFinest-IsPermutation, All-IsCodedCell}
 use Rattle.cube_cells.proofs.Filling.BottomUpCubeLaws.{CanWalk-AreFinest, IsCubeOf-IsWalkOf, is_kept_in}
 use Rattle.cube_cells.proofs.Rows.BottomUpRowLaws.{AreRowsOver-codes_cmp}
+use Rattle.cube_cells.proofs.Rows.CountLaws.{AreKeysOver-IsCubeOf}
+use Rattle.cube_cells.proofs.Rows.RowLaws.{IsDistinct-decoded}
 
 AreFinest-AreToWalk : (schema : Layout) (number : ℕ) (dictionaries : Dictionaries) (items : CodedCells)
     (facts : List Fact) → AreToWalk schema number dictionaries items
@@ -40,41 +43,59 @@ pub CanWalk-AreToWalk : (schema : Layout) (number : ℕ) (dictionaries : Diction
 CanWalk-AreToWalk schema number dictionaries items are = CanWalk-AreFinest schema dictionaries are.facts items
     (AreFinest-AreToWalk schema number dictionaries items are.facts are are.cube) are.in_order
 
+-- cells in order that are the cube of the facts over all grouping sets
+AreCellsOfCube-IsCubeOf : (schema : Layout) (number : ℕ) (dictionaries : Dictionaries) (items cells : CodedCells)
+    → AreToWalk schema number dictionaries items → All (IsCodedCell dictionaries (length schema.measures)) cells
+    → IsStrictlySortedBy codes_cmp cells
+    → ((facts : List Fact)
+    → IsCubeOfAll facts (lattice_of schema (finest_set (length schema.dimensions) ∷ []) number dictionaries items)
+    → IsCubeOf (lattice_of schema schema.grouping_sets (length facts) dictionaries cells) facts)
+    → AreCellsOfCube (lattice_of schema (finest_set (length schema.dimensions) ∷ []) number dictionaries items) cells
+AreCellsOfCube-IsCubeOf schema number dictionaries items cells are each sorted cube =
+    let room : length dictionaries ≤ 8 =
+    omega (arith, are.coded.lattice.dictionaries, are.coded.lattice.schema.dimensions_at_most) in
+    record {
+      each = each;
+      rows = λ facts of rows zipped. AreRowsOver-codes_cmp schema dictionaries facts schema.grouping_sets cells rows
+          room are.coded.texts are.texts each sorted (cube facts of) zipped;
+      keys = λ facts of.
+          AreKeysOver-IsCubeOf (lattice_of schema schema.grouping_sets (length facts) dictionaries cells) facts
+          (IsDistinct-decoded dictionaries (length schema.measures) cells are.coded.texts room each
+          (AreApart-sorted cells sorted)) (cube facts of);
+    }
+
 -- ---- over some facts
 pub AreCellsOfCube-IsWalkOf : (schema : Layout) (number : ℕ) (dictionaries : Dictionaries) (items : CodedCells)
     (kept : List Bool) (cells : CodedCells) → AreToWalk schema number dictionaries items → (number ≡ 0 → ⊥)
     → ((mask : ℕ) → get_or kept mask false ≡ is_among mask schema.grouping_sets)
     → IsWalkOf (is_kept_by kept) (length schema.dimensions) 0 items cells
     → AreCellsOfCube (lattice_of schema (finest_set (length schema.dimensions) ∷ []) number dictionaries items) cells
-AreCellsOfCube-IsWalkOf schema number dictionaries items kept cells are some masks walk = record {
-  each = each;
-  rows = λ facts of rows zipped. AreRowsOver-codes_cmp schema dictionaries facts sets cells rows
-      (omega (arith, are.coded.lattice.dictionaries, are.coded.lattice.schema.dimensions_at_most)) are.coded.texts
-      are.texts each walk.in_order
-      (IsCubeOf-IsWalkOf schema dictionaries facts sets items cells
-      (AreFinest-AreToWalk schema number dictionaries items facts are of) (more facts of)
-      are.coded.lattice.schema.sets_are_of_dimensions is) zipped;
-} where
-  n : ℕ
-  n = length schema.dimensions
+AreCellsOfCube-IsWalkOf schema number dictionaries items kept cells are some masks walk =
+    AreCellsOfCube-IsCubeOf schema number dictionaries items cells are each walk.in_order
+    (λ facts of. IsCubeOf-IsWalkOf schema dictionaries facts sets items cells
+    (AreFinest-AreToWalk schema number dictionaries items facts are of) (more facts of)
+    are.coded.lattice.schema.sets_are_of_dimensions is)
+  where
+    n : ℕ
+    n = length schema.dimensions
 
-  sets : List ℕ
-  sets = schema.grouping_sets
+    sets : List ℕ
+    sets = schema.grouping_sets
 
-  more : (facts : List Fact) → IsCubeOfAll facts (lattice_of schema (finest_set n ∷ []) number dictionaries items)
-      → 0 < length facts
-  more [] of = absurd (some of.facts_are)
-  more (fact ∷ facts) of = omega arith
+    more : (facts : List Fact) → IsCubeOfAll facts (lattice_of schema (finest_set n ∷ []) number dictionaries items)
+        → 0 < length facts
+    more [] of = absurd (some of.facts_are)
+    more (fact ∷ facts) of = omega arith
 
-  same : is_kept_by kept ≡ is_kept_in sets
-  same = λ i codes. masks (mask_of_codes codes.codes) i
+    same : is_kept_by kept ≡ is_kept_in sets
+    same = λ i codes. masks (mask_of_codes codes.codes) i
 
-  is : IsWalkOf (is_kept_in sets) n 0 items cells
-  is = subst (λ (is_kept : Codes → Bool). IsWalkOf is_kept n 0 items cells) same walk
+    is : IsWalkOf (is_kept_in sets) n 0 items cells
+    is = subst (λ (is_kept : Codes → Bool). IsWalkOf is_kept n 0 items cells) same walk
 
-  each : All (IsCodedCell dictionaries (length schema.measures)) cells
-  each = All-IsCodedCell schema dictionaries are.facts sets items cells
-      (AreFinest-AreToWalk schema number dictionaries items are.facts are are.cube) is
+    each : All (IsCodedCell dictionaries (length schema.measures)) cells
+    each = All-IsCodedCell schema dictionaries are.facts sets items cells
+        (AreFinest-AreToWalk schema number dictionaries items are.facts are are.cube) is
 
 pub TakesCube-TakesWalk : {S : Type 0} (takes : S → Codes → Tally → S → Type 0) (schema : Layout) (number : ℕ)
     (dictionaries : Dictionaries) (items : CodedCells) (kept : List Bool) (old new : S)
@@ -176,12 +197,8 @@ TakesCube-total {S} takes schema number dictionaries items kept t old new are no
     all cells takes_all each sorted same are_new = record {
       cells = cells;
       taken = takes_all;
-      are = record {
-        each = each;
-        rows = λ facts of rows zipped. AreRowsOver-codes_cmp schema dictionaries facts sets cells rows
-            (omega (arith, long, room)) are.coded.texts are.texts each sorted
-            (IsCubeOf-none schema dictionaries cells facts room (sym none ∙ of.facts_are) same are_new) zipped;
-      };
+      are = AreCellsOfCube-IsCubeOf schema number dictionaries items cells are each sorted
+          (λ facts of. IsCubeOf-none schema dictionaries cells facts room (sym none ∙ of.facts_are) same are_new);
     }
 
     by_kept : (b : Bool) → is_among 0 sets ≡ b

@@ -8,11 +8,13 @@ ghost use Rattle.cube_core.specs.declared.fact.Fact.{Fact};
 ghost use Rattle.cube_core.specs.declared.key.Coord.TheVariants as coord;
 ghost use Rattle.cube_cells.specs.BottomUp.{TakesCube, cells_of_items};
 ghost use Rattle.cube_cells.specs.Codes.{coord_at, key_at};
+ghost use Rattle.cube_cells.specs.Count.{HasCells};
 ghost use Rattle.cube_cells.specs.Fill.{IsCubeOfAll, finest_set};
 ghost use Rattle.cube_cells.specs.Ranking.{ranked_cells, ranked_dictionaries};
 
 use super::Cube;
 use super::bottom_up::{Item, TakesCells, kept_masks, take_if_kept, walk};
+use super::cell_count::CellCount;
 use super::codes::Codes;
 use super::levels::Cells;
 use super::ranks::{RankedTexts, all_ranked, ranked_codes};
@@ -141,6 +143,17 @@ impl<N: Numbers> FinestCells<N> {
             return take_if_kept(&kept, &Codes::total(), &cell, sink);
         }
         walk(self.alloc, &kept, dimensions, 0, &self.items, sink)
+    }
+
+    /// How many cells the cube of the facts has over all grouping sets of the schema; none of them is kept. The only error is
+    /// that memory ran out, or numbers to count the facts or the cells with.
+    pub fn count_cells(&self) -> Result<u64, AllocError>
+        ensures { IfOk result (λ number.
+            (facts : List Fact) → IsCubeOfAll facts self.now → HasCells self.now.schema facts number) }
+    {
+        let mut count = CellCount { cells: 0 };
+        self.walk(&mut count)?;
+        Ok(count.cells)
     }
 }
 

@@ -1,8 +1,8 @@
 //! The tables of a cube: one for each kept grouping set.
-ghost use Rattle.std.specs.Prelude.{◌≡◌, [], ◌∷◌, true, All, IfOk};
+ghost use Rattle.std.specs.Prelude.{◌≡◌, [], ◌∷◌, true, length, All, IfOk};
 ghost use Rattle.std.specs.List.{AllZip};
 ghost use Rattle.cube_cells.specs.Coded.{AreNewCells};
-ghost use Rattle.cube_cells.specs.Levels.{IsNewLevel, IsUnderKey};
+ghost use Rattle.cube_cells.specs.Levels.{IsNewLevel, IsUnderKey, cells_of};
 ghost use Rattle.std.specs.HashMap.{hasher_of};
 
 use super::cell_key::CellKey;
@@ -38,6 +38,20 @@ pub fn new_levels<N: Numbers>(
         levels.push(Level { set: *set, cells })?;
     }
     Ok(levels)
+}
+
+/// How many cells levels have. The only error is that numbers to count them with ran out.
+pub fn count_in<N: Numbers>(levels: &[Level<N>]) -> Result<usize, AllocError>
+    ensures { IfOk result (λ number. number ≡ length (cells_of levels.now)) }
+{
+    let mut number: usize = 0;
+    for level in levels {
+        let Some(more) = number.checked_add(level.cells.len()) else {
+            return Err(AllocError);
+        };
+        number = more;
+    }
+    Ok(number)
 }
 
 /// The level of one set alone.

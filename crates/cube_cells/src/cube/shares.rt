@@ -10,7 +10,7 @@ use super::cell_key::CellKey;
 use super::codes::{ALL, Codes};
 use super::dictionary::Dictionary;
 use super::fill::finest_of;
-use super::levels::{Cells, Level, one_level};
+use super::levels::{Cells, Level, count_in, one_level};
 use super::walk::gather_at;
 use crate::cell::Cell;
 use cube_core::{Fact, Schema};
@@ -243,20 +243,11 @@ fn joined<N: Numbers>(
     ensures { IfOk result (λ cells. AreJoined shares.items cells.entries) }
 {
     let mut cells = HashMap::with_hasher(alloc, key);
-    cells.reserve(number_of_cells(&shares))?;
+    cells.reserve(count_in(&shares)?)?;
     for share in shares {
         move_cells(&mut cells, share.cells)?;
     }
     Ok(cells)
-}
-
-// How many cells the levels have, or as many as the type can say.
-fn number_of_cells<N: Numbers>(levels: &[Level<N>]) -> usize {
-    let mut number: usize = 0;
-    for level in levels {
-        number = number.saturating_add(level.cells.len());
-    }
-    number
 }
 
 // Moves cells to others of other codes.
