@@ -6,3 +6,4 @@ pub mod SliceLaws
 pub mod BottomUpRowLaws
 pub mod CountLaws
 pub mod WalkedLaws
+pub mod FinestRowLaws

@@ -1,7 +1,7 @@
 -- The bottom-up cube (Beyer and Ramakrishnan 1999): the cells of all kept grouping sets, in key order, by a walk over lists
 -- of the finest cells, dimension by dimension. Codes are ranks here: they compare as their coordinates do.
 use Rattle.std.specs.Prelude.{◌≡◌, ◌+◌, ◌*◌, ◌-◌, ◌<◌, ◌≤◌, ◌++◌, ℕ, zero, suc, Bool, List, [], ◌∷◌, length, get_or, take, drop}
-use Rattle.std.specs.Prelude.{sum_by, slice_set, map, false, All, Contains, ◌⊎◌, if◌then◌else◌}
+use Rattle.std.specs.Prelude.{sum_by, slice_set, map, filter, false, All, Contains, ◌⊎◌, if◌then◌else◌}
 use Rattle.std.specs.Cmp.Lexicographic.{slice_cmp}
 use Rattle.std.specs.List.Sorted.{IsStrictlySortedBy}
 use Rattle.std.specs.Map.{keys_of}
@@ -10,7 +10,9 @@ use Rattle.std.specs.declared.cmp.Ordering.{Ordering}
 use Rattle.std.specs.List.{AllZip}
 use Rattle.cube_core.specs.Cube.{AreRows}
 use Rattle.cube_core.specs.Layout.{Layout}
+use Rattle.cube_core.specs.Query.{AreRowsWhere}
 use Rattle.cube_core.specs.declared.fact.Fact.{Fact}
+use Rattle.cube_core.specs.declared.key.Key.{Key}
 use Rattle.cube_core.specs.declared.key.Row.{Row}
 use Rattle.cube_cells.specs.Codes.{Dictionaries, IsDictionary, all_code}
 use Rattle.cube_cells.specs.Coded.{CodedCells, IsCoded, IsCodedCell, decoded, lattice_of}
@@ -210,6 +212,23 @@ pub record AreToWalk (schema : Layout) (number : ℕ) (dictionaries : Dictionari
   pub coded : IsCoded schema (finest_set (length schema.dimensions) ∷ []) number dictionaries items
   pub in_order : IsStrictlySortedBy codes_cmp items
   pub texts : All AreInTextOrder dictionaries
+
+-- these are the cells of the cube of the facts of a lattice over some grouping sets, in key order
+pub record AreCellsOver (finest : Lattice) (sets : List ℕ) (cells : CodedCells) : Type 0 where
+  pub each : All (IsCodedCell finest.dictionaries (length finest.schema.measures)) cells
+  pub rows : (test : Key → Bool) → (facts : List Fact) → IsCubeOfAll facts finest → (rows : List Row)
+      → AllZip (IsRowOf finest.schema.aggregates)
+      (filter (λ cell. test cell.0) (decoded finest.dictionaries cells)) rows
+      → AreRowsWhere test sets (length finest.schema.dimensions) finest.schema.aggregates facts rows
+  pub keys : (facts : List Fact) → IsCubeOfAll facts finest
+      → AreKeysOver sets (length finest.schema.dimensions) facts (keys_of (decoded finest.dictionaries cells))
+
+-- they are taken
+pub record TakesSets {S : Type 0} (takes : S → Codes → Tally → S → Type 0) (finest : Lattice) (sets : List ℕ)
+    (old new : S) : Type 0 where
+  pub cells : CodedCells
+  pub taken : TakesAll takes old cells new
+  pub are : AreCellsOver finest sets cells
 
 -- these are the cells of the cube of the facts of a lattice over all grouping sets of its schema, in key order
 pub record AreCellsOfCube (finest : Lattice) (cells : CodedCells) : Type 0 where

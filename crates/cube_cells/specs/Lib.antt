@@ -16,3 +16,4 @@ pub mod Shares
 pub mod BottomUp
 pub mod Ranking
 pub mod WalkParts
+pub mod FinestRows

@@ -19,6 +19,7 @@ mod codes;
 mod dictionary;
 mod fill;
 mod finest_cells;
+mod finest_rows;
 mod keyed;
 mod levels;
 mod ordered;

@@ -6,7 +6,8 @@
 //! [`Cube`] is the cells of all kept grouping sets, kept right under adds and removes.
 //! [`OrderedCells`] are its cells in key order, each a [`KeyedCell`].
 //! [`FinestCells`] are those of the finest grouping set alone; a walk over them hands the cells of a whole cube to what
-//! [`TakesCells`]. [`RaisedCells`] cut such a walk into [`WalkPart`]s, which several threads may take.
+//! [`TakesCells`], and a question to them walks to the grouping sets alone that can answer it. [`RaisedCells`] cut such a
+//! walk into [`WalkPart`]s, which several threads may take.
 #![tactic(auto)]
 
 mod cell;

@@ -74,7 +74,7 @@ AreInTextOrder-AreInOrder texts places is in_order = record {
       (record { below = in_order.below (k + 1) inside; is_text = refl })))
 
 -- they are texts with codes
-AreSortedTexts-AreInOrder : (texts : List (List ℕ)) (places : List ℕ) → IsDictionary texts → AreInOrder texts places
+pub AreSortedTexts-AreInOrder : (texts : List (List ℕ)) (places : List ℕ) → IsDictionary texts → AreInOrder texts places
     → AreSortedTexts (texts_at texts places)
 AreSortedTexts-AreInOrder texts places is in_order =
     let sorted = AreInTextOrder-AreInOrder texts places is in_order in

@@ -537,7 +537,7 @@ covered_codes schema dictionaries facts items key fact item are there stands amo
       (group_of (cell_key dictionaries item) facts) fact (g.group.alike k mask_key)
       (filter-Contains (covers (cell_key dictionaries item)) facts fact there stands_item) ∙ first
 
-HasKeyCodes-list_any : (schema : Layout) (dictionaries : Dictionaries) (facts : List Fact) (items : CodedCells)
+pub HasKeyCodes-list_any : (schema : Layout) (dictionaries : Dictionaries) (facts : List Fact) (items : CodedCells)
     (key : Key) → AreFinest schema dictionaries facts items → list_any (covers key) facts ≡ true
     → HasKeyCodes dictionaries key
 HasKeyCodes-list_any schema dictionaries facts items key are any =

@@ -1,6 +1,6 @@
 -- Laws of the rows of cells whose codes are ranks: where the codes are in order, the keys are, and the rows are those of the
 -- cube.
-use Rattle.std.proofs.Common.{◌≡◌, ℕ, ◌+◌, ◌<◌, ◌≤◌, List, [], ◌∷◌, true, refl, sym, ap, ◌∙◌}
+use Rattle.std.proofs.Common.{◌≡◌, ℕ, ◌+◌, ◌<◌, ◌≤◌, List, [], ◌∷◌, Bool, true, refl, sym, ap, ◌∙◌, subst}
 use Rattle.std.proofs.Common.{arith, inl, inr, ◌⊎◌, length, get_or, map, filter, zero-add}
 use Rattle.std.specs.Prelude.{All}
 use Rattle.std.specs.Cmp.Lexicographic.{slice_cmp}
@@ -14,15 +14,18 @@ use Rattle.std.proofs.lemmas.Cmp.{nat_cmp_total, nat_list_cmp_total, tied_itself
 use Rattle.std.proofs.lemmas.List.{get_or-map, length-map}
 use Rattle.std.proofs.lemmas.List.Elements.{All-head, All-tail}
 use Rattle.std.proofs.lemmas.List.FromFn.{length-range_with_len, get_or-range_with_len}
+use Rattle.std.proofs.lemmas.List.Kept.{IsStrictlySortedBy-filter}
 use Rattle.std.proofs.lemmas.List.Sorted.{IsPermutation-refl}
 use Rattle.std.proofs.lemmas.Map.Keys.{Less-from_sorted}
 use Rattle.cube_core.specs.Cube.{AreRowsOver}
+use Rattle.cube_core.specs.Query.{AreRowsWhere}
 use Rattle.cube_core.specs.Layout.{Layout}
 use Rattle.cube_core.specs.Order.{key_cmp}
 use Rattle.cube_core.specs.declared.fact.Fact.{Fact}
 use Rattle.cube_core.specs.declared.key.Key.{Key}
 use Rattle.cube_core.specs.declared.key.Row.{Row}
 use Rattle.cube_core.proofs.KeyOrderLaws.{key_cmp-IsTotalOrder}
+use Rattle.cube_core.proofs.ListLaws.{map-filter}
 use Rattle.cube_cells.specs.BottomUp.{AreInTextOrder, codes_cmp}
 use Rattle.cube_cells.specs.Codes.{Dictionaries, IsDictionary, key_at}
 use Rattle.cube_cells.specs.Coded.{CodedCells, IsCodedCell, decoded, lattice_of}
@@ -33,7 +36,8 @@ use Rattle.cube_cells.specs.Tally.{Tally}
 use Rattle.cube_cells.specs.declared.cube.codes.Codes.{Codes}
 use Rattle.cube_cells.proofs.Codes.RankLaws.{Greater-from_Less, nat_cmp-Less, ranks_of-coord_cmp}
 use Rattle.cube_cells.proofs.Filling.BottomUpCellLaws.{AreApart-sorted}
-use Rattle.cube_cells.proofs.Rows.RowLaws.{AreRowsOf-IsRowOf, AreRowsOver-IsCubeOf, IsDistinct-decoded}
+use Rattle.cube_cells.proofs.Rows.RowLaws.{AreRowsOf-IsRowOf, AreRowsOver-AreRowsWhere, AreRowsWhere-IsCubeOf}
+use Rattle.cube_cells.proofs.Rows.RowLaws.{IsDistinct-decoded}
 
 -- ---- codes that are ranks
 -- the codes of texts in order are their ranks
@@ -130,7 +134,7 @@ keys_in_order dictionaries measures (cell ∷ cells) texts in_order each sorted 
   )
 
 -- ---- rows
-filter-true : {X : Type 0} (xs : List X) → filter (λ _. true) xs ≡ xs
+pub filter-true : {X : Type 0} (xs : List X) → filter (λ _. true) xs ≡ xs
 filter-true [] = refl
 filter-true {X} (x ∷ xs) = ap (λ (l : List X). x ∷ l) (filter-true xs)
 
@@ -148,7 +152,28 @@ sorted-keys cells rises k d low inside =
     let shown : key_cmp (get_or cells k d).0 (get_or cells (k + 1) d).0 ≡ Less = rw (here, next) at up in
     ap is_lt (Greater-from_Less key_cmp-IsTotalOrder (get_or cells (k + 1) d).0 (get_or cells k d).0 shown)
 
--- the rows of cells that are the cube of facts, in the order of their codes, are the rows of the cube
+-- the rows of those cells of the cube of facts whose keys pass a test, in the order of their codes, are these rows of the cube
+pub AreRowsWhere-codes_cmp : (test : Key → Bool) (schema : Layout) (dictionaries : Dictionaries) (facts : List Fact)
+    (sets : List ℕ) (cells : CodedCells) (rows : List Row) → length dictionaries ≤ 8 → All IsDictionary dictionaries
+    → All AreInTextOrder dictionaries → All (IsCodedCell dictionaries (length schema.measures)) cells
+    → IsStrictlySortedBy codes_cmp cells
+    → IsCubeOf (lattice_of schema sets (length facts) dictionaries cells) facts
+    → AllZip (IsRowOf schema.aggregates) (filter (λ cell. test cell.0) (decoded dictionaries cells)) rows
+    → AreRowsWhere test sets (length schema.dimensions) schema.aggregates facts rows
+AreRowsWhere-codes_cmp test schema dictionaries facts sets cells rows room texts in_order each sorted cube zipped =
+    let all : Cells = decoded dictionaries cells in
+    let some : Cells = filter (λ (cell : Key × Tally). test cell.0) all in
+    let rises = keys_in_order dictionaries (length schema.measures) cells texts in_order each sorted in
+    let distinct = IsDistinct-decoded dictionaries (length schema.measures) cells texts room each
+    (AreApart-sorted cells sorted) in
+    let some_rise : IsStrictlySortedBy key_cmp (keys_of some) =
+    subst (IsStrictlySortedBy key_cmp) (sym (map-filter (λ (cell : Key × Tally). cell.0) test all))
+    (IsStrictlySortedBy-filter key_cmp test (keys_of all) rises) in
+    AreRowsWhere-IsCubeOf test (lattice_of schema sets (length facts) dictionaries cells) facts rows cube
+    (AreRowsOf-IsRowOf test schema.aggregates all some rows distinct (IsPermutation-refl some)
+    (sorted-keys some some_rise) zipped)
+
+-- and those of all cells are all of them
 pub AreRowsOver-codes_cmp : (schema : Layout) (dictionaries : Dictionaries) (facts : List Fact) (sets : List ℕ)
     (cells : CodedCells) (rows : List Row) → length dictionaries ≤ 8 → All IsDictionary dictionaries
     → All AreInTextOrder dictionaries → All (IsCodedCell dictionaries (length schema.measures)) cells
@@ -157,10 +182,6 @@ pub AreRowsOver-codes_cmp : (schema : Layout) (dictionaries : Dictionaries) (fac
     → AllZip (IsRowOf schema.aggregates) (decoded dictionaries cells) rows
     → AreRowsOver sets (length schema.dimensions) schema.aggregates facts rows
 AreRowsOver-codes_cmp schema dictionaries facts sets cells rows room texts in_order each sorted cube zipped =
-    let all : Cells = decoded dictionaries cells in
-    let rises = keys_in_order dictionaries (length schema.measures) cells texts in_order each sorted in
-    let distinct = IsDistinct-decoded dictionaries (length schema.measures) cells texts room each
-    (AreApart-sorted cells sorted) in
-    AreRowsOver-IsCubeOf (lattice_of schema sets (length facts) dictionaries cells) facts rows cube
-    (AreRowsOf-IsRowOf (λ key. true) schema.aggregates all all rows distinct
-    (rw (filter-true all) (IsPermutation-refl all)) (sorted-keys all rises) zipped)
+    AreRowsOver-AreRowsWhere sets (length schema.dimensions) schema.aggregates facts rows
+    (AreRowsWhere-codes_cmp (λ key. true) schema dictionaries facts sets cells rows room texts in_order each sorted cube
+    (rw (filter-true (decoded dictionaries cells)) zipped))

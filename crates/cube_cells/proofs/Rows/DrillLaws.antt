@@ -5,14 +5,14 @@ use Rattle.std.specs.Prelude.{All, slice_get, slice_set}
 use Rattle.std.specs.Cmp.{tied_then}
 use Rattle.std.specs.Cmp.Lexicographic.{slice_cmp}
 use Rattle.std.specs.Option.{option_map_or}
-use Rattle.std.specs.Ordering.{is_eq, ordering_then}
+use Rattle.std.specs.Ordering.{eq_by_cmp, is_eq, ordering_then}
 use Rattle.std.specs.declared.cmp.Ordering.TheVariants.{Less, Equal, Greater}
 use Rattle.std.proofs.lemmas.Bool.{and_parts, cases_eq, eqb-true, eq-eqb, ne_eqb}
 use Rattle.std.proofs.lemmas.Bool.Decides.{same_from_decides}
 use Rattle.std.proofs.lemmas.List.Elements.{All-head, All-tail}
 use Rattle.std.proofs.lemmas.Map.Lookups.{exact_bytes}
 use Rattle.cube_core.specs.GroupingSet.{is_all_coord, is_all_at}
-use Rattle.cube_core.specs.Order.{coord_cmp}
+use Rattle.cube_core.specs.Order.{coord_cmp, key_cmp}
 use Rattle.cube_core.specs.Query.{drills_down}
 use Rattle.cube_core.specs.declared.key.Coord.{Coord}
 use Rattle.cube_core.specs.declared.key.Coord.TheVariants as coord
@@ -173,3 +173,13 @@ pub AreWantsOf-drills_down : (dictionaries : Dictionaries) (above : Key) (wants 
 AreWantsOf-drills_down dictionaries above wants dimension texts wide long inside rolled below =
     λ codes valid eight. are_wanted_codes-drills_down dictionaries above.coords wants codes dimension texts wide long
     inside rolled below.each valid
+
+-- what is wanted below a key along no dimension of it is wanted of this key alone
+pub AreWantsOf-itself : (dictionaries : Dictionaries) (key : Key) (wants : List Want)
+    → length key.coords ≡ length dictionaries → length wants ≡ length dictionaries
+    → AreWantsBelow dictionaries (length key.coords) key.coords wants
+    → AreWantsOf dictionaries (λ other. eq_by_cmp key_cmp other key) wants
+AreWantsOf-itself dictionaries key wants wide long below =
+    λ codes valid eight. are_wanted_codes-slice_cmp dictionaries key.coords wants codes wide long
+    (λ i small. rw (ne_eqb i (length key.coords) (λ same. omega (arith, same, small, wide, long))) at (below.each i small))
+    valid

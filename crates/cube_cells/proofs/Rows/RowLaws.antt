@@ -404,14 +404,20 @@ AreRowsWhere-IsCubeOf test l facts rows cube are = record {
       (λ (row : Row). IfSome (cell_at l.cells row.key) (λ t. AreAnswersOf l.schema.aggregates t row.answers))
       rows row are.answers inside) (cube.tallies row.key)
 
+-- those whose keys pass what all pass are all the rows
+pub AreRowsOver-AreRowsWhere : (sets : List ℕ) (dimensions : ℕ) (aggregates : List Agg) (facts : List Fact)
+    (rows : List Row) → AreRowsWhere (λ key. true) sets dimensions aggregates facts rows
+    → AreRowsOver sets dimensions aggregates facts rows
+AreRowsOver-AreRowsWhere sets dimensions aggregates facts rows some = record {
+  cells = λ key. (λ inside. ((some.cells key).0 inside).0, λ is. (some.cells key).1 (is, refl));
+  ordered = some.ordered;
+  answers = some.answers;
+}
+
 -- and of all cells all the rows
 pub AreRowsOver-IsCubeOf : (l : Lattice) (facts : List Fact) (rows : List Row) → IsCubeOf l facts
     → AreRowsOf (λ key. true) l.schema.aggregates l.cells rows
     → AreRowsOver l.sets (length l.schema.dimensions) l.schema.aggregates facts rows
 AreRowsOver-IsCubeOf l facts rows cube are =
-    let some = AreRowsWhere-IsCubeOf (λ key. true) l facts rows cube are in
-    record {
-      cells = λ key. (λ inside. ((some.cells key).0 inside).0, λ is. (some.cells key).1 (is, refl));
-      ordered = some.ordered;
-      answers = some.answers;
-    }
+    AreRowsOver-AreRowsWhere l.sets (length l.schema.dimensions) l.schema.aggregates facts rows
+    (AreRowsWhere-IsCubeOf (λ key. true) l facts rows cube are)

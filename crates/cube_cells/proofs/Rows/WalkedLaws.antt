@@ -1,5 +1,5 @@
 -- Laws of walks over the finest cells of some facts: the rows of the cells that are handed over are those of their cube.
-use Rattle.std.proofs.Common.{◌≡◌, ℕ, zero, suc, ◌-◌, ◌<◌, ◌≤◌, List, [], ◌∷◌, Bool, true, false, refl, sym, ap, ◌∙◌, subst}
+use Rattle.std.proofs.Common.{◌≡◌, ℕ, zero, suc, ◌-◌, ◌^◌, ◌<◌, ◌≤◌, List, [], ◌∷◌, Bool, true, false, refl, sym, ap, ◌∙◌, subst}
 use Rattle.std.proofs.Common.{arith, get_or, length, replicate, if◌then◌else◌}
 use Rattle.std.specs.Prelude.{All, IfSome, is_some}
 use Rattle.std.specs.List.Sorted.{IsStrictlySortedBy}
@@ -12,12 +12,12 @@ use Rattle.cube_core.specs.Layout.{Layout}
 use Rattle.cube_core.specs.declared.fact.Fact.{Fact}
 use Rattle.cube_core.specs.declared.key.Coord.{Coord}
 use Rattle.cube_core.specs.declared.key.Coord.TheVariants as coord
-use Rattle.cube_cells.specs.BottomUp.{AreCellsOfCube, AreToWalk, CanWalk, IsWalkOf, TakesAll, TakesCube, TakesWalk}
-use Rattle.cube_cells.specs.BottomUp.{codes_cmp, is_kept_by}
+use Rattle.cube_cells.specs.BottomUp.{AreCellsOfCube, AreCellsOver, AreToWalk, CanWalk, IsWalkOf, TakesAll, TakesCube}
+use Rattle.cube_cells.specs.BottomUp.{TakesSets, TakesWalk, codes_cmp, is_kept_by}
 use Rattle.cube_cells.specs.WalkParts.{WalkGivesCube}
 use Rattle.cube_cells.specs.Codes.{Dictionaries, all_code, are_codes, coords_at}
 use Rattle.cube_cells.specs.Coded.{AreNewCells, CodedCells, IsCodedCell, decoded, lattice_of, total_codes}
-use Rattle.cube_cells.specs.Cube.{Cells, IsCubeOf, cell_at}
+use Rattle.cube_cells.specs.Cube.{Cells, IsCubeOf, Lattice, cell_at}
 use Rattle.cube_cells.specs.Fill.{IsCubeOfAll, finest_set}
 use Rattle.cube_cells.specs.Levels.{mask_of_codes}
 use Rattle.cube_cells.specs.Tally.{Tally, IsTallyOf}
@@ -27,11 +27,11 @@ use Rattle.cube_cells.proofs.Codes.KeyLaws.{all_code-replicate}
 use Rattle.cube_cells.proofs.Filling.BottomUpCellLaws.{AreApart-sorted}
 use Rattle.cube_cells.proofs.Filling.BottomUpCubeLaws.{AreFinest, AreFinest-IsPermutation, All-IsCodedCell}
 use Rattle.cube_cells.proofs.Filling.BottomUpCubeLaws.{CanWalk-AreFinest, IsCubeOf-IsWalkOf, is_kept_in}
-use Rattle.cube_cells.proofs.Rows.BottomUpRowLaws.{AreRowsOver-codes_cmp}
+use Rattle.cube_cells.proofs.Rows.BottomUpRowLaws.{AreRowsWhere-codes_cmp, filter-true}
 use Rattle.cube_cells.proofs.Rows.CountLaws.{AreKeysOver-IsCubeOf}
-use Rattle.cube_cells.proofs.Rows.RowLaws.{IsDistinct-decoded}
+use Rattle.cube_cells.proofs.Rows.RowLaws.{AreRowsOver-AreRowsWhere, IsDistinct-decoded}
 
-AreFinest-AreToWalk : (schema : Layout) (number : ℕ) (dictionaries : Dictionaries) (items : CodedCells)
+pub AreFinest-AreToWalk : (schema : Layout) (number : ℕ) (dictionaries : Dictionaries) (items : CodedCells)
     (facts : List Fact) → AreToWalk schema number dictionaries items
     → IsCubeOfAll facts (lattice_of schema (finest_set (length schema.dimensions) ∷ []) number dictionaries items)
     → AreFinest schema dictionaries facts items
@@ -43,44 +43,59 @@ pub CanWalk-AreToWalk : (schema : Layout) (number : ℕ) (dictionaries : Diction
 CanWalk-AreToWalk schema number dictionaries items are = CanWalk-AreFinest schema dictionaries are.facts items
     (AreFinest-AreToWalk schema number dictionaries items are.facts are are.cube) are.in_order
 
--- cells in order that are the cube of the facts over all grouping sets
-AreCellsOfCube-IsCubeOf : (schema : Layout) (number : ℕ) (dictionaries : Dictionaries) (items cells : CodedCells)
-    → AreToWalk schema number dictionaries items → All (IsCodedCell dictionaries (length schema.measures)) cells
-    → IsStrictlySortedBy codes_cmp cells
+-- cells in order that are the cube of the facts over some grouping sets
+AreCellsOver-IsCubeOf : (schema : Layout) (number : ℕ) (dictionaries : Dictionaries) (items : CodedCells) (sets : List ℕ)
+    (cells : CodedCells) → AreToWalk schema number dictionaries items
+    → All (IsCodedCell dictionaries (length schema.measures)) cells → IsStrictlySortedBy codes_cmp cells
     → ((facts : List Fact)
     → IsCubeOfAll facts (lattice_of schema (finest_set (length schema.dimensions) ∷ []) number dictionaries items)
-    → IsCubeOf (lattice_of schema schema.grouping_sets (length facts) dictionaries cells) facts)
-    → AreCellsOfCube (lattice_of schema (finest_set (length schema.dimensions) ∷ []) number dictionaries items) cells
-AreCellsOfCube-IsCubeOf schema number dictionaries items cells are each sorted cube =
+    → IsCubeOf (lattice_of schema sets (length facts) dictionaries cells) facts)
+    → AreCellsOver (lattice_of schema (finest_set (length schema.dimensions) ∷ []) number dictionaries items) sets cells
+AreCellsOver-IsCubeOf schema number dictionaries items sets cells are each sorted cube =
     let room : length dictionaries ≤ 8 =
     omega (arith, are.coded.lattice.dictionaries, are.coded.lattice.schema.dimensions_at_most) in
     record {
       each = each;
-      rows = λ facts of rows zipped. AreRowsOver-codes_cmp schema dictionaries facts schema.grouping_sets cells rows
-          room are.coded.texts are.texts each sorted (cube facts of) zipped;
-      keys = λ facts of.
-          AreKeysOver-IsCubeOf (lattice_of schema schema.grouping_sets (length facts) dictionaries cells) facts
+      rows = λ test facts of rows zipped. AreRowsWhere-codes_cmp test schema dictionaries facts sets cells rows room
+          are.coded.texts are.texts each sorted (cube facts of) zipped;
+      keys = λ facts of. AreKeysOver-IsCubeOf (lattice_of schema sets (length facts) dictionaries cells) facts
           (IsDistinct-decoded dictionaries (length schema.measures) cells are.coded.texts room each
           (AreApart-sorted cells sorted)) (cube facts of);
     }
 
+-- ---- over all grouping sets
+pub AreCellsOfCube-AreCellsOver : (finest : Lattice) (cells : CodedCells)
+    → AreCellsOver finest finest.schema.grouping_sets cells → AreCellsOfCube finest cells
+AreCellsOfCube-AreCellsOver finest cells are = record {
+  each = are.each;
+  rows = λ facts of rows zipped. AreRowsOver-AreRowsWhere finest.schema.grouping_sets
+      (length finest.schema.dimensions) finest.schema.aggregates facts rows
+      (are.rows (λ key. true) facts of rows (rw (filter-true (decoded finest.dictionaries cells)) zipped));
+  keys = are.keys;
+}
+
+pub TakesCube-TakesSets : {S : Type 0} (takes : S → Codes → Tally → S → Type 0) (finest : Lattice) (old new : S)
+    → TakesSets takes finest finest.schema.grouping_sets old new → TakesCube takes finest old new
+TakesCube-TakesSets takes finest old new walk = record {
+  cells = walk.cells;
+  taken = walk.taken;
+  are = AreCellsOfCube-AreCellsOver finest walk.cells walk.are;
+}
+
 -- ---- over some facts
-pub AreCellsOfCube-IsWalkOf : (schema : Layout) (number : ℕ) (dictionaries : Dictionaries) (items : CodedCells)
+AreCellsOver-IsWalkOf : (schema : Layout) (number : ℕ) (dictionaries : Dictionaries) (items : CodedCells) (sets : List ℕ)
     (kept : List Bool) (cells : CodedCells) → AreToWalk schema number dictionaries items → (number ≡ 0 → ⊥)
-    → ((mask : ℕ) → get_or kept mask false ≡ is_among mask schema.grouping_sets)
+    → All (λ set. set < 2 ^ length schema.dimensions) sets
+    → ((mask : ℕ) → get_or kept mask false ≡ is_among mask sets)
     → IsWalkOf (is_kept_by kept) (length schema.dimensions) 0 items cells
-    → AreCellsOfCube (lattice_of schema (finest_set (length schema.dimensions) ∷ []) number dictionaries items) cells
-AreCellsOfCube-IsWalkOf schema number dictionaries items kept cells are some masks walk =
-    AreCellsOfCube-IsCubeOf schema number dictionaries items cells are each walk.in_order
+    → AreCellsOver (lattice_of schema (finest_set (length schema.dimensions) ∷ []) number dictionaries items) sets cells
+AreCellsOver-IsWalkOf schema number dictionaries items sets kept cells are some within masks walk =
+    AreCellsOver-IsCubeOf schema number dictionaries items sets cells are each walk.in_order
     (λ facts of. IsCubeOf-IsWalkOf schema dictionaries facts sets items cells
-    (AreFinest-AreToWalk schema number dictionaries items facts are of) (more facts of)
-    are.coded.lattice.schema.sets_are_of_dimensions is)
+    (AreFinest-AreToWalk schema number dictionaries items facts are of) (more facts of) within is)
   where
     n : ℕ
     n = length schema.dimensions
-
-    sets : List ℕ
-    sets = schema.grouping_sets
 
     more : (facts : List Fact) → IsCubeOfAll facts (lattice_of schema (finest_set n ∷ []) number dictionaries items)
         → 0 < length facts
@@ -97,16 +112,18 @@ AreCellsOfCube-IsWalkOf schema number dictionaries items kept cells are some mas
     each = All-IsCodedCell schema dictionaries are.facts sets items cells
         (AreFinest-AreToWalk schema number dictionaries items are.facts are are.cube) is
 
-pub TakesCube-TakesWalk : {S : Type 0} (takes : S → Codes → Tally → S → Type 0) (schema : Layout) (number : ℕ)
-    (dictionaries : Dictionaries) (items : CodedCells) (kept : List Bool) (old new : S)
+pub TakesSets-TakesWalk : {S : Type 0} (takes : S → Codes → Tally → S → Type 0) (schema : Layout) (number : ℕ)
+    (dictionaries : Dictionaries) (items : CodedCells) (sets : List ℕ) (kept : List Bool) (old new : S)
     → AreToWalk schema number dictionaries items → (number ≡ 0 → ⊥)
-    → ((mask : ℕ) → get_or kept mask false ≡ is_among mask schema.grouping_sets)
+    → All (λ set. set < 2 ^ length schema.dimensions) sets
+    → ((mask : ℕ) → get_or kept mask false ≡ is_among mask sets)
     → TakesWalk takes kept (length schema.dimensions) 0 items old new
-    → TakesCube takes (lattice_of schema (finest_set (length schema.dimensions) ∷ []) number dictionaries items) old new
-TakesCube-TakesWalk takes schema number dictionaries items kept old new are some masks walk = record {
+    → TakesSets takes (lattice_of schema (finest_set (length schema.dimensions) ∷ []) number dictionaries items) sets
+    old new
+TakesSets-TakesWalk takes schema number dictionaries items sets kept old new are some within masks walk = record {
   cells = walk.cells;
   taken = walk.taken;
-  are = AreCellsOfCube-IsWalkOf schema number dictionaries items kept walk.cells are some masks
+  are = AreCellsOver-IsWalkOf schema number dictionaries items sets kept walk.cells are some within masks
       (subst (λ (n : ℕ). IsWalkOf (is_kept_by kept) n 0 items walk.cells) (omega arith) walk.are);
 }
 
@@ -117,8 +134,10 @@ pub WalkGivesCube-AreToWalk : (schema : Layout) (number : ℕ) (dictionaries : D
     → WalkGivesCube (lattice_of schema (finest_set (length schema.dimensions) ∷ []) number dictionaries items) kept items
 WalkGivesCube-AreToWalk schema number dictionaries items kept are some masks = record {
   can = CanWalk-AreToWalk schema number dictionaries items are;
-  gives = λ cells walk. AreCellsOfCube-IsWalkOf schema number dictionaries items kept cells are
-      (λ none. absurd (omega (arith, none, some))) masks walk;
+  gives = λ cells walk. AreCellsOfCube-AreCellsOver
+      (lattice_of schema (finest_set (length schema.dimensions) ∷ []) number dictionaries items) cells
+      (AreCellsOver-IsWalkOf schema number dictionaries items schema.grouping_sets kept cells are
+      (λ none. absurd (omega (arith, none, some))) are.coded.lattice.schema.sets_are_of_dimensions masks walk);
 }
 
 -- ---- over no facts
@@ -131,7 +150,7 @@ coords_at-total (texts ∷ dictionaries) zero =
 coords_at-total (texts ∷ dictionaries) (suc k) =
     ap (λ (coords : List Coord). coord.All ∷ coords) (coords_at-total dictionaries k)
 
-are_codes-total : (dictionaries : Dictionaries) (k : ℕ) → length dictionaries ≤ k
+pub are_codes-total : (dictionaries : Dictionaries) (k : ℕ) → length dictionaries ≤ k
     → are_codes dictionaries (replicate k all_code) ≡ true
 are_codes-total [] k room = all_code-replicate k
 are_codes-total (texts ∷ dictionaries) zero room = absurd (omega (arith, room))
@@ -152,14 +171,14 @@ unfolding IsStrictlySortedBy
 none-sorted = tt
 
 -- cells of no facts are the cube of no facts, whatever texts there are
-IsCubeOf-none : (schema : Layout) (dictionaries : Dictionaries) (cells : CodedCells) (facts : List Fact)
+IsCubeOf-none : (schema : Layout) (dictionaries : Dictionaries) (sets : List ℕ) (cells : CodedCells) (facts : List Fact)
     → length schema.dimensions ≤ 8 → 0 ≡ length facts
     → decoded dictionaries cells ≡ decoded (replicate (length schema.dimensions) []) cells
-    → AreNewCells (is_among 0 schema.grouping_sets) (length schema.measures) cells
-    → IsCubeOf (lattice_of schema schema.grouping_sets (length facts) dictionaries cells) facts
-IsCubeOf-none schema dictionaries cells (fact ∷ facts) room none same new = absurd (omega (arith, none))
-IsCubeOf-none schema dictionaries cells [] room none same new =
-    let cube = IsCubeOf-AreNewCells schema schema.grouping_sets cells room new in
+    → AreNewCells (is_among 0 sets) (length schema.measures) cells
+    → IsCubeOf (lattice_of schema sets (length facts) dictionaries cells) facts
+IsCubeOf-none schema dictionaries sets cells (fact ∷ facts) room none same new = absurd (omega (arith, none))
+IsCubeOf-none schema dictionaries sets cells [] room none same new =
+    let cube = IsCubeOf-AreNewCells schema sets cells room new in
     record {
       keys = λ key. ap (λ (keyed : Cells). is_some (cell_at keyed key)) same ∙ cube.keys key;
       tallies = λ key. subst (λ (keyed : Cells). IfSome (cell_at keyed key) (IsTallyOf (group_of key []))) (sym same)
@@ -168,20 +187,18 @@ IsCubeOf-none schema dictionaries cells [] room none same new =
           (λ t. length t.bags ≡ length schema.measures)) (sym same) (cube.widths key);
     }
 
-pub TakesCube-total : {S : Type 0} (takes : S → Codes → Tally → S → Type 0) (schema : Layout) (number : ℕ)
-    (dictionaries : Dictionaries) (items : CodedCells) (kept : List Bool) (t : Tally) (old new : S)
+pub TakesSets-total : {S : Type 0} (takes : S → Codes → Tally → S → Type 0) (schema : Layout) (number : ℕ)
+    (dictionaries : Dictionaries) (items : CodedCells) (sets : List ℕ) (kept : List Bool) (t : Tally) (old new : S)
     → AreToWalk schema number dictionaries items → number ≡ 0
-    → ((mask : ℕ) → get_or kept mask false ≡ is_among mask schema.grouping_sets) → IsTallyOf [] t
+    → ((mask : ℕ) → get_or kept mask false ≡ is_among mask sets) → IsTallyOf [] t
     → length t.bags ≡ length schema.measures
     → TakesAll takes old (if is_kept_by kept total_codes then (total_codes, t) ∷ [] else []) new
-    → TakesCube takes (lattice_of schema (finest_set (length schema.dimensions) ∷ []) number dictionaries items) old new
-TakesCube-total {S} takes schema number dictionaries items kept t old new are none masks tally width taken =
+    → TakesSets takes (lattice_of schema (finest_set (length schema.dimensions) ∷ []) number dictionaries items) sets
+    old new
+TakesSets-total {S} takes schema number dictionaries items sets kept t old new are none masks tally width taken =
     by_kept (is_among 0 sets) refl
     (subst (λ (b : Bool). TakesAll takes old (if b then (total_codes, t) ∷ [] else []) new) (masks 0) taken)
   where
-    sets : List ℕ
-    sets = schema.grouping_sets
-
     long : length dictionaries ≡ length schema.dimensions
     long = are.coded.lattice.dictionaries
 
@@ -192,19 +209,19 @@ TakesCube-total {S} takes schema number dictionaries items kept t old new are no
         → All (IsCodedCell dictionaries (length schema.measures)) cells → IsStrictlySortedBy codes_cmp cells
         → decoded dictionaries cells ≡ decoded (replicate (length schema.dimensions) []) cells
         → AreNewCells (is_among 0 sets) (length schema.measures) cells
-        → TakesCube takes (lattice_of schema (finest_set (length schema.dimensions) ∷ []) number dictionaries items) old
-        new
+        → TakesSets takes (lattice_of schema (finest_set (length schema.dimensions) ∷ []) number dictionaries items)
+        sets old new
     all cells takes_all each sorted same are_new = record {
       cells = cells;
       taken = takes_all;
-      are = AreCellsOfCube-IsCubeOf schema number dictionaries items cells are each sorted
-          (λ facts of. IsCubeOf-none schema dictionaries cells facts room (sym none ∙ of.facts_are) same are_new);
+      are = AreCellsOver-IsCubeOf schema number dictionaries items sets cells are each sorted
+          (λ facts of. IsCubeOf-none schema dictionaries sets cells facts room (sym none ∙ of.facts_are) same are_new);
     }
 
     by_kept : (b : Bool) → is_among 0 sets ≡ b
         → TakesAll takes old (if b then (total_codes, t) ∷ [] else []) new
-        → TakesCube takes (lattice_of schema (finest_set (length schema.dimensions) ∷ []) number dictionaries items) old
-        new
+        → TakesSets takes (lattice_of schema (finest_set (length schema.dimensions) ∷ []) number dictionaries items)
+        sets old new
     by_kept true is takes_one = all ((total_codes, t) ∷ []) takes_one
         (All-cons (IsCodedCell dictionaries (length schema.measures)) (total_codes, t) [] (record {
           codes = are_codes-total dictionaries 8 (omega (arith, long, room));

@@ -1,12 +1,12 @@
 //! The finest cells of some facts in key order: all that a walk over their whole cube wants.
-ghost use Rattle.std.specs.Prelude.{◌≡◌, ◌<◌, ◌≤◌, ◌∷◌, [], List, get_or, length, IfOk, OnOk};
+ghost use Rattle.std.specs.Prelude.{◌≡◌, ◌<◌, ◌≤◌, ◌^◌, ◌∷◌, [], All, List, get_or, length, IfOk, OnOk};
 ghost use Rattle.std.specs.Cmp.Lexicographic.{slice_cmp};
 ghost use Rattle.std.specs.List.Sorted.{IsPermutation, IsSortedBy};
 ghost use Rattle.std.specs.Ordering.{is_lt, nat_cmp};
 ghost use Rattle.cube_core.specs.Referred.{referred_coord};
 ghost use Rattle.cube_core.specs.declared.fact.Fact.{Fact};
 ghost use Rattle.cube_core.specs.declared.key.Coord.TheVariants as coord;
-ghost use Rattle.cube_cells.specs.BottomUp.{TakesCube, cells_of_items};
+ghost use Rattle.cube_cells.specs.BottomUp.{TakesCube, TakesSets, cells_of_items};
 ghost use Rattle.cube_cells.specs.Codes.{coord_at, key_at};
 ghost use Rattle.cube_cells.specs.Count.{HasCells};
 ghost use Rattle.cube_cells.specs.Fill.{IsCubeOfAll, finest_set};
@@ -30,10 +30,10 @@ use std::marker::Model;
 /// sets of their schema, and no other cell is kept.
 #[derive(Drop)]
 pub struct FinestCells<N: Numbers> {
-    alloc: Global,
-    schema: Schema,
+    pub(super) alloc: Global,
+    pub(super) schema: Schema,
     facts: u64,
-    texts: Vec<SortedTexts>,
+    pub(super) texts: Vec<SortedTexts>,
     items: Vec<Item<N>>,
 }
 
@@ -136,8 +136,16 @@ impl<N: Numbers> FinestCells<N> {
     pub fn walk<S: TakesCells<N>>(&self, sink: &mut S) -> Result<(), AllocError>
         ensures { OnOk result (TakesCube S.takes self.now sink.old sink.new) }
     {
+        self.walk_sets(self.schema.grouping_sets(), sink)
+    }
+
+    /// The same over some grouping sets of so many dimensions; what none of them needs is neither looked at nor made.
+    pub fn walk_sets<S: TakesCells<N>>(&self, sets: &[u8], sink: &mut S) -> Result<(), AllocError>
+        requires { All (λ set. set < 2 ^ length self.now.schema.dimensions) sets.now }
+        ensures { OnOk result (TakesSets S.takes self.now sets.now sink.old sink.new) }
+    {
         let dimensions = self.schema.dimensions().len();
-        let kept = kept_masks(self.alloc, dimensions, self.schema.grouping_sets())?;
+        let kept = kept_masks(self.alloc, dimensions, sets)?;
         if self.facts == 0 {
             let cell = Cell::empty(self.alloc, self.schema.measures().len())?;
             return take_if_kept(&kept, &Codes::total(), &cell, sink);

@@ -1,19 +1,38 @@
 //! Queries of a cube: slices, rolling a key up along a dimension, and drilling down from it (Gray et al. 1997).
-ghost use Rattle.std.specs.Prelude.{◌≡◌, ◌<◌, true, List, IfOk, length};
+ghost use Rattle.std.specs.Prelude.{◌≡◌, ◌<◌, [], true, List, IfOk, get_or, length};
 ghost use Rattle.cube_core.specs.GroupingSet.{is_all_at};
 ghost use Rattle.cube_core.specs.Query.{AreRowsWhere, matches, rolled_up, drills_down, drill_fault};
 ghost use Rattle.cube_core.specs.declared.fact.Fact.{Fact};
+ghost use Rattle.cube_cells.specs.Codes.{Dictionaries, IsCodeOf};
 ghost use Rattle.cube_cells.specs.Cube.{IsCubeOf};
 ghost use Rattle.cube_cells.specs.Rows.{IsRowAt, IsRowOver, AreRowsOf, GivesUnless, IsWantBelow, AreWantsBelow, IsWantMatched, AreWantsMatched};
 
 use super::Cube;
 use super::codes::ALL;
-use super::dictionary::Dictionary;
 use super::ordered::row_of;
 use super::rows::Want;
 use cube_core::{Coord, Key, Pattern, QueryFault, Row, Sequence};
 use cube_values::Numbers;
 use std::alloc::{AllocError, Global};
+
+/// What has texts with codes in some dimensions.
+pub trait FindsCodes {
+    // The texts of each dimension.
+    ghost dictionaries: { Self → Dictionaries };
+
+    /// The code of a coordinate in a dimension, counted from 0.
+    fn code_in(&self, dimension: usize, coord: &Coord) -> u32
+        requires { dimension < length (dictionaries self.now) }
+        ensures { IsCodeOf (get_or (dictionaries self.now) dimension []) coord.now result };
+}
+
+impl<N: Numbers> FindsCodes for Cube<N> {
+    ghost dictionaries = { λ cube. cube.dictionaries };
+
+    fn code_in(&self, dimension: usize, coord: &Coord) -> u32 {
+        self.dictionaries[dimension].code_of_coord(coord)
+    }
+}
 
 impl<N: Numbers> Cube<N> {
     /// The rows of the cells whose keys a pattern matches, in key order. The only error is that memory ran out.
@@ -28,7 +47,7 @@ impl<N: Numbers> Cube<N> {
         if wanted.len() != self.dictionaries.len() {
             return Ok(Vec::new(self.alloc));
         }
-        let wants = wants_of(self.alloc, &self.dictionaries, wanted)?;
+        let wants = wants_of(self.alloc, self, wanted)?;
         self.rows_where(&wants)
     }
 
@@ -82,13 +101,13 @@ impl<N: Numbers> Cube<N> {
         ensures { IfOk result (λ rows. AreRowsOf (drills_down dim key.now)
             self.now.schema.aggregates self.now.cells rows.items) }
     {
-        let wants = wants_below(self.alloc, &self.dictionaries, key.coords.as_slice(), dim)?;
+        let wants = wants_below(self.alloc, self, key.coords.as_slice(), dim)?;
         self.few_rows_where(&wants)
     }
 }
 
-// A copy of a key with ALL in a dimension.
-fn rolled_up(alloc: Global, key: &Key, dim: usize) -> Result<Key, AllocError>
+/// A copy of a key with ALL in a dimension.
+pub(super) fn rolled_up(alloc: Global, key: &Key, dim: usize) -> Result<Key, AllocError>
     requires { dim < length key.now.coords }
     ensures { IfOk result (λ above. above ≡ rolled_up dim key.now) }
 {
@@ -99,59 +118,63 @@ fn rolled_up(alloc: Global, key: &Key, dim: usize) -> Result<Key, AllocError>
     })
 }
 
-// What is wanted of the keys that drill down from coordinates along a dimension.
-fn wants_below(
+/// What is wanted of the keys that drill down from coordinates along a dimension; of their key itself where there is no such
+/// dimension.
+pub(super) fn wants_below<T: FindsCodes>(
     alloc: Global,
-    dictionaries: &[Dictionary],
+    cube: &T,
     coords: &[Coord],
     dim: usize,
 ) -> Result<Vec<Want>, AllocError>
-    requires { length coords.now ≡ length dictionaries.now }
-    ensures long { IfOk result (λ wants. length wants.items ≡ length dictionaries.now) }
+    requires { length coords.now ≡ length (T.dictionaries cube.now) }
+    ensures long { IfOk result (λ wants. length wants.items ≡ length (T.dictionaries cube.now)) }
     ensures wants { IfOk result
-        (λ wants. AreWantsBelow dictionaries.now dim coords.now wants.items) }
+        (λ wants. AreWantsBelow (T.dictionaries cube.now) dim coords.now wants.items) }
 {
     let mut wants = Vec::with_capacity(alloc, coords.len())?;
     for (place, coord) in coords.iter().enumerate() {
-        wants.push(want_below(&dictionaries[place], coord, place == dim))?;
+        wants.push(want_below(cube, place, coord, place == dim))?;
     }
     Ok(wants)
 }
 
 // Any but ALL in the open dimension, else the code of a coordinate alone.
-fn want_below(dictionary: &Dictionary, coord: &Coord, is_open: bool) -> Want
-    ensures { IsWantBelow dictionary.now coord.now is_open result }
+fn want_below<T: FindsCodes>(cube: &T, dimension: usize, coord: &Coord, is_open: bool) -> Want
+    requires { dimension < length (T.dictionaries cube.now) }
+    ensures { IsWantBelow (get_or (T.dictionaries cube.now) dimension []) coord.now is_open result }
 {
     if is_open {
         Want::Not(ALL)
     } else {
-        Want::Code(dictionary.code_of_coord(coord))
+        Want::Code(cube.code_in(dimension, coord))
     }
 }
 
-// What is wanted of the keys that a pattern matches.
-fn wants_of(
+/// What is wanted of the keys that a pattern matches.
+pub(super) fn wants_of<T: FindsCodes>(
     alloc: Global,
-    dictionaries: &[Dictionary],
+    cube: &T,
     wanted: &[Option<Coord>],
 ) -> Result<Vec<Want>, AllocError>
-    requires { length wanted.now ≡ length dictionaries.now }
-    ensures long { IfOk result (λ wants. length wants.items ≡ length dictionaries.now) }
-    ensures wants { IfOk result (λ wants. AreWantsMatched dictionaries.now wanted.now wants.items) }
+    requires { length wanted.now ≡ length (T.dictionaries cube.now) }
+    ensures long { IfOk result (λ wants. length wants.items ≡ length (T.dictionaries cube.now)) }
+    ensures wants { IfOk result
+        (λ wants. AreWantsMatched (T.dictionaries cube.now) wanted.now wants.items) }
 {
     let mut wants = Vec::with_capacity(alloc, wanted.len())?;
     for (place, coord) in wanted.iter().enumerate() {
-        wants.push(want_of(&dictionaries[place], coord))?;
+        wants.push(want_of(cube, place, coord))?;
     }
     Ok(wants)
 }
 
 // Any code where no coordinate is wanted, else the code of the coordinate alone.
-fn want_of(dictionary: &Dictionary, wanted: &Option<Coord>) -> Want
-    ensures { IsWantMatched dictionary.now wanted.now result }
+fn want_of<T: FindsCodes>(cube: &T, dimension: usize, wanted: &Option<Coord>) -> Want
+    requires { dimension < length (T.dictionaries cube.now) }
+    ensures { IsWantMatched (get_or (T.dictionaries cube.now) dimension []) wanted.now result }
 {
     match wanted {
         None => Want::Any,
-        Some(coord) => Want::Code(dictionary.code_of_coord(coord)),
+        Some(coord) => Want::Code(cube.code_in(dimension, coord)),
     }
 }

@@ -235,8 +235,8 @@ fn push_places<'c, N: Numbers>(
     Ok(())
 }
 
-// Whether each code is wanted, as far as both lists go.
-fn are_wanted(wants: &[Want], codes: &[u32]) -> bool
+/// Whether each code is wanted, as far as both lists go.
+pub fn are_wanted(wants: &[Want], codes: &[u32]) -> bool
     ensures { result ≡ are_wanted_codes wants.now codes.now }
 {
     let Some((want, other_wants)) = wants.split_first() else {

@@ -10,7 +10,7 @@ pub wants_below-requires : goal.wants_below-requires
 wants_below-requires g c =
     let wide : length c.args.key.now.coords ≡ length c.self.inside.schema.dimensions =
     c.requires.width ∙ sym (ap (λ (l : Lattice). length l.schema.dimensions) c.self.view_is) in
-    rw (c.deref.ensures.value, c.as_slice.ensures) (wide ∙ sym c.self.invariant.coded.lattice.dictionaries)
+    rw (← c.self.view_is, c.as_slice.ensures) (wide ∙ sym c.self.invariant.coded.lattice.dictionaries)
 
 pub returns : goal.returns
 returns g c =
@@ -22,13 +22,13 @@ returns g c =
     let below : dim < length c.self.inside.schema.dimensions =
     omega (arith, c.requires.dim, ap (λ (l : Lattice). length l.schema.dimensions) c.self.view_is) in
     let long : length c.in_ok-wants.wants.items ≡ length dictionaries =
-    rw c.deref.ensures.value at c.in_ok-wants.ensures.long in
+    rw (← c.self.view_is) at c.in_ok-wants.ensures.long in
     let wants : AreWantsBelow dictionaries dim key.coords c.in_ok-wants.wants.items =
-    rw (c.deref.ensures.value, c.as_slice.ensures) at c.in_ok-wants.ensures.wants in
+    rw (← c.self.view_is, c.as_slice.ensures) at c.in_ok-wants.ensures.wants in
     let are : AreWantsOf c.args.self.now.dictionaries (drills_down dim key) c.in_ok-wants.wants.items =
     rw (← c.self.view_is)
     (AreWantsOf-drills_down dictionaries key c.in_ok-wants.wants.items dim c.self.invariant.coded.texts
     (wide ∙ sym c.self.invariant.coded.lattice.dictionaries) long
     (omega (arith, below, c.self.invariant.coded.lattice.dictionaries)) c.requires.rolled wants) in
     IfOk-weaker c.few_rows_where.result _ _
-    (λ rows given. given (drills_down dim key) (rw c.deref-2.ensures.value are)) c.few_rows_where.ensures
+    (λ rows given. given (drills_down dim key) (rw c.deref.ensures.value are)) c.few_rows_where.ensures

@@ -1,4 +1,4 @@
-use Rattle.std.proofs.Common.{◌≡◌, length, arith, ap, List, ℕ}
+use Rattle.std.proofs.Common.{◌≡◌, length, arith, ap}
 use Rattle.std.proofs.lemmas.Result.{IfOk-weaker}
 use Rattle.cube_core.specs.Query.{matches}
 use Rattle.cube_cells.specs.Rows.{AreWantsOf, AreWantsMatched}
@@ -20,27 +20,20 @@ returns-then-wanted-len-clause-cube g c =
     (returns-then-wanted-len-clause-rows g c)
 
 pub wants_of-requires : goal.wants_of-requires
-wants_of-requires g c = omega (
-  arith,
-  c.if-wanted-len.false,
-  c.len.ensures,
-  ap (λ (ts : List (List (List ℕ))). length ts) c.deref.ensures.value,
-)
+wants_of-requires g c = rw (← c.self.view_is) (omega (arith, c.if-wanted-len.false, c.len.ensures))
 
 pub returns-clause-rows : goal.returns-clause-rows
 returns-clause-rows g c =
-    let dictionaries = c.self.inside.dictionaries.items in
+    let dictionaries = c.args.self.now.dictionaries in
     let pattern = c.args.pattern.now in
     let wants = c.in_ok-wants.wants.items in
-    let wide : length pattern ≡ length dictionaries =
-    omega (arith, ap (λ ws. length ws) c.wanted-wanted.ensures, c.if-wanted-len.false, c.len.ensures) in
-    let long : length wants ≡ length dictionaries = rw c.deref.ensures.value at c.in_ok-wants.ensures.long in
-    let matched : AreWantsMatched dictionaries pattern wants =
-    rw (c.deref.ensures.value, c.wanted-wanted.ensures) at c.in_ok-wants.ensures.wants in
-    let are : AreWantsOf c.args.self.now.dictionaries (matches pattern) wants =
-    rw (← c.self.view_is) (AreWantsOf-AreWantsMatched dictionaries pattern wants wide long matched) in
+    let wide : length pattern ≡ length dictionaries = rw (← c.self.view_is)
+    (omega (arith, ap (λ ws. length ws) c.wanted-wanted.ensures, c.if-wanted-len.false, c.len.ensures)) in
+    let matched : AreWantsMatched dictionaries pattern wants = rw c.wanted-wanted.ensures at c.in_ok-wants.ensures.wants in
+    let are : AreWantsOf dictionaries (matches pattern) wants =
+    AreWantsOf-AreWantsMatched dictionaries pattern wants wide c.in_ok-wants.ensures.long matched in
     IfOk-weaker c.rows_where.result _ _
-    (λ rows given. given (matches pattern) (rw c.deref-2.ensures.value are)) c.rows_where.ensures
+    (λ rows given. given (matches pattern) (rw c.deref.ensures.value are)) c.rows_where.ensures
 
 pub returns-clause-cube : goal.returns-clause-cube
 returns-clause-cube g c =

@@ -1,30 +1,17 @@
-use Rattle.std.proofs.Common.{◌≡◌, arith}
+use Rattle.std.proofs.Common.{List, ap, subst, ℕ}
 use Rattle.std.proofs.lemmas.Result.{on_ok_weaker}
-use Rattle.cube_cells.specs.BottomUp.{cells_of_items}
-use Rattle.cube_cells.proofs.Rows.WalkedLaws.{CanWalk-AreToWalk, TakesCube-TakesWalk, TakesCube-total}
+use Rattle.cube_cells.specs.BottomUp.{TakesSets}
+use Rattle.cube_cells.specs.Cube.{Lattice}
+use Rattle.cube_cells.proofs.Rows.WalkedLaws.{TakesCube-TakesSets}
 use Rattle.cube_cells.proofs.cube.finest_cells.FinestCells.walk.Goals as goal
 
-pub returns-then-self-eq0 : goal.returns-then-self-eq0
-returns-then-self-eq0 g c =
-    let masks = rw c.grouping_sets.ensures.value at c.in_ok-kept.ensures in
-    let width = rw c.measures.ensures.value at c.in_ok-cell.ensures.measures in
-    on_ok_weaker c.take_if_kept.result (λ taken. rw (← c.self.view_is)
-    (TakesCube-total g.S.TakesCells.takes c.self.inside.schema c.self.inside.facts c.self.inside.texts.items
-    (cells_of_items c.self.inside.items.items) c.in_ok-kept.kept.items c.in_ok-cell.cell c.args.sink.now
-    c.take_if_kept.new.sink c.self.invariant c.if-self-eq0.true masks c.in_ok-cell.ensures.tally width taken))
-    (rw (c.deref.ensures.value, c.total.ensures) at c.take_if_kept.ensures)
-
-pub walk-requires-clause-items : goal.walk-requires-clause-items
-walk-requires-clause-items g c = rw (c.dimensions-dimensions.ensures.value, c.deref-3.ensures.value)
-    (CanWalk-AreToWalk c.self.inside.schema c.self.inside.facts c.self.inside.texts.items
-    (cells_of_items c.self.inside.items.items) c.self.invariant)
+pub walk_sets-requires : goal.walk_sets-requires
+walk_sets-requires g c = rw (← c.self.view_is, c.grouping_sets.ensures.value)
+    c.self.invariant.coded.lattice.schema.sets_are_of_dimensions
 
 pub returns : goal.returns
-returns g c =
-    let masks = rw c.grouping_sets.ensures.value at c.in_ok-kept.ensures in
-    let some : c.self.inside.facts ≡ 0 → ⊥ = λ none. absurd (omega (arith, none, c.if-self-eq0.false)) in
-    on_ok_weaker c.walk.result (λ walked. rw (← c.self.view_is)
-    (TakesCube-TakesWalk g.S.TakesCells.takes c.self.inside.schema c.self.inside.facts c.self.inside.texts.items
-    (cells_of_items c.self.inside.items.items) c.in_ok-kept.kept.items c.args.sink.now c.walk.new.sink c.self.invariant
-    some masks walked))
-    (rw (c.dimensions-dimensions.ensures.value, c.deref-2.ensures.value, c.deref-3.ensures.value) at c.walk.ensures)
+returns g c = on_ok_weaker c.walk_sets.result (λ walked. TakesCube-TakesSets g.S.TakesCells.takes c.args.self.now
+    c.args.sink.now c.walk_sets.new.sink
+    (subst (λ (sets : List ℕ). TakesSets g.S.TakesCells.takes c.args.self.now sets c.args.sink.now
+    c.walk_sets.new.sink) (ap (λ (l : Lattice). l.schema.grouping_sets) c.self.view_is) walked))
+    (rw c.grouping_sets.ensures.value at c.walk_sets.ensures)
