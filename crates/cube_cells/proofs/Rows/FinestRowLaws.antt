@@ -283,10 +283,13 @@ pub AreRowsWhere-nil : (schema : Layout) (number : ℕ) (dictionaries : Dictiona
     → AreRowsWhere test schema.grouping_sets (length schema.dimensions) schema.aggregates facts []
 unfolding IsStrictlySortedBy
 AreRowsWhere-nil schema number dictionaries items test facts to_walk none of = record {
-  cells = λ key. (λ inside. absurd (Contains-nil key inside), λ is.
-      let at = HasKeyCodes-is_cell schema dictionaries facts items schema.grouping_sets key
-      (AreFinest-AreToWalk schema number dictionaries items facts to_walk of) is.0 in
-      absurd (both_ways (test key) (ap test at.is ∙ none at.codes.codes) is.1));
+  cells = λ key. (
+    λ inside. absurd (Contains-nil key inside),
+    λ is.
+        let at = HasKeyCodes-is_cell schema dictionaries facts items schema.grouping_sets key
+        (AreFinest-AreToWalk schema number dictionaries items facts to_walk of) is.0 in
+        absurd (both_ways (test key) (ap test at.is ∙ none at.codes.codes) is.1),
+  );
   ordered = tt;
   answers = tt;
 }

@@ -38,7 +38,7 @@ returns g c = λ facts of.
     let wide : length above.coords ≡ length dictionaries =
     rw (← c.self.view_is) (long ∙ width ∙ sym c.self.invariant.coded.lattice.dictionaries) in
     let below : AreWantsBelow dictionaries (length above.coords) above.coords wants =
-    rw (c.len.ensures, c.as_slice-coords.ensures) at c.in_ok-wants.ensures.wants in
+    rw c.as_slice-coords.ensures at c.in_ok-wants.ensures.wants in
     rw (← c.in_ok-above.ensures) (IsRowOver-last c.args.self.now.schema.grouping_sets
     (length c.args.self.now.schema.dimensions) c.args.self.now.schema.aggregates facts above c.in_ok-rows.rows.items
     c.pop.new.self.items c.pop.result
