@@ -1,5 +1,5 @@
 -- Laws of the rows of a walk to those grouping sets that can have a cell whose codes are wanted.
-use Rattle.std.proofs.Common.{◌≡◌, ℕ, zero, suc, ◌+◌, ◌*◌, ◌^◌, ◌%◌, ◌/◌, ◌<◌, ◌≤◌, ◌==◌, ◌&&◌, ◌||◌, List, [], ◌∷◌, ◌++◌}
+use Rattle.std.proofs.Common.{◌≡◌, ℕ, zero, suc, ◌+◌, ◌*◌, ◌%◌, ◌/◌, ◌≤◌, ◌==◌, ◌||◌, List, [], ◌∷◌, ◌++◌}
 use Rattle.std.proofs.Common.{Bool, true, false, Bor, not, inl, inr, ◌⊎◌, refl, sym, ap, ◌∙◌, subst, arith, append_assoc}
 use Rattle.std.proofs.Common.{length, map, filter, replicate, if◌then◌else◌, Option, Some, None}
 use Rattle.std.specs.Prelude.{All, Contains, IsTrue, MatchOption}
@@ -297,20 +297,20 @@ AreRowsWhere-nil schema number dictionaries items test facts to_walk none of = r
 -- ---- one row
 -- the last of the rows of one key is the row of this key
 pub IsRowOver-last : (sets : List ℕ) (dimensions : ℕ) (aggregates : List Agg) (facts : List Fact) (key : Key)
-    (rows front : List Row) (last : Option Row)
+    (rows front : List Row) (last : Option Row) (many fewer : ℕ)
     → AreRowsWhere (λ other. eq_by_cmp key_cmp other key) sets dimensions aggregates facts rows
     → rows ≡ front ++ option_to_list last
-    → MatchOption last ((length rows ≡ 0) × (length front ≡ 0)) (λ _. length front + 1 ≡ length rows)
+    → length rows ≡ many → MatchOption last ((many ≡ 0) × (fewer ≡ 0)) (λ _. fewer + 1 ≡ many)
     → IsRowOver sets dimensions aggregates facts key last
-IsRowOver-last sets dimensions aggregates facts key rows front None are is cases =
+IsRowOver-last sets dimensions aggregates facts key rows front None many fewer are is long cases =
     false_from_ne_true (is_cell sets dimensions facts key) (λ cell. absurd (Contains-nil key
-    (subst (λ (rs : List Row). Contains (map key_of rs) key) (empty rows cases.0)
+    (subst (λ (rs : List Row). Contains (map key_of rs) key) (empty rows (long ∙ cases.0))
     ((are.cells key).1 (cell, same_key_as-IsEquivalence.refl key)))))
   where
     empty : (rs : List Row) → length rs ≡ 0 → rs ≡ []
     empty [] long = refl
     empty (row ∷ rs) long = absurd (omega (arith, long))
-IsRowOver-last sets dimensions aggregates facts key rows front (Some row) are is cases =
+IsRowOver-last sets dimensions aggregates facts key rows front (Some row) many fewer are is long cases =
     let inside : Contains rows row = subst (λ (rs : List Row). Contains rs row) (sym is) (Contains-push front row) in
     let there = (are.cells row.key).0 (map-Contains key_of rows row inside) in
     let same : row.key ≡ key = tells_apart key_cmp-exact row.key key there.1 in (

@@ -1,5 +1,5 @@
-use Rattle.std.proofs.Common.{◌≡◌, ◌++◌, ◌∷◌, ◌∙◌, [], All, ap, arith, get_or, length, length-append, subst, sym}
-use Rattle.cube_cells.specs.BottomUp.{AreRaised, CanWalk, IsItem, cells_of_items}
+use Rattle.std.proofs.Common.{◌≡◌, ◌∷◌, ◌∙◌, [], All, ap, arith, get_or, length, length-append, subst, sym}
+use Rattle.cube_cells.specs.BottomUp.{AreRaised, IsItem, cells_of_items}
 use Rattle.cube_cells.specs.Coded.{CodedCells}
 use Rattle.cube_cells.specs.WalkParts.{AreRaisedOver, cells_of_lists}
 use Rattle.cube_cells.proofs.Filling.PartLaws.{AreRaisedOver-more, CanWalk-at, cells_of_lists-push}

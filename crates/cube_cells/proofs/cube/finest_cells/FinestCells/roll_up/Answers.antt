@@ -1,6 +1,5 @@
 use Rattle.std.proofs.Common.{◌≡◌, ◌∙◌, ap, arith, length, sym}
 use Rattle.std.proofs.lemmas.List.{length-set}
-use Rattle.cube_core.specs.Query.{rolled_up}
 use Rattle.cube_core.specs.declared.key.Coord.TheVariants as coord
 use Rattle.cube_core.specs.declared.key.Key.{Key}
 use Rattle.cube_cells.specs.Cube.{Lattice}
@@ -41,7 +40,7 @@ returns g c = λ facts of.
     rw c.as_slice-coords.ensures at c.in_ok-wants.ensures.wants in
     rw (← c.in_ok-above.ensures) (IsRowOver-last c.args.self.now.schema.grouping_sets
     (length c.args.self.now.schema.dimensions) c.args.self.now.schema.aggregates facts above c.in_ok-rows.rows.items
-    c.pop.new.self.items c.pop.result
+    c.pop.new.self.items c.pop.result c.in_ok-rows.rows.len c.pop.new.self.len
     (c.in_ok-rows.ensures _ (rw c.deref.ensures.value
     (AreWantsOf-itself dictionaries above wants wide c.in_ok-wants.ensures.long below)) facts of)
-    c.pop.ensures.items c.pop.ensures.cases)
+    c.pop.ensures.items (omega arith) c.pop.ensures.cases)
