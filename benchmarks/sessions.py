@@ -64,8 +64,7 @@ class Changes:
         return f"2,I,{self.present[-1]},{self.values()}\n"
 
     def values(self):
-        texts = [f"value-{int(card * self.pick.random() ** 1.5)}" for card in CARDS]
-        return ",".join(texts + [str(self.pick.randint(*ends)) for ends in MEASURES.values()])
+        return workloads.values(self.pick, CARDS, MEASURES)
 
     def batch(self, count):
         return "".join(self.one() for _ in range(count))

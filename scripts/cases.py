@@ -39,7 +39,6 @@ is ../examples. A case is a block of lines:
 
 No line `out` or `err` means that nothing is written there, and no `status` means 0.
 """
-import argparse
 import contextlib
 import functools
 import multiprocessing
@@ -57,7 +56,7 @@ from concurrent.futures import ProcessPoolExecutor
 sys.dont_write_bytecode = True
 import programs
 
-ROOT = os.path.dirname(os.path.dirname(os.path.realpath(__file__)))
+ROOT = programs.ROOT
 SECONDS = 60
 NOBODY = ["setpriv", "--reuid=65534", "--regid=65534", "--clear-groups"]
 NUMBER = re.compile(r"(?<!#)#(?!#)(?:%(\d+))?")
@@ -358,27 +357,22 @@ def tried(cases, program, first):
                 return pool.shutdown(cancel_futures=True)
 
 
-def main(cases_of, program):
-    """Runs those of a folder's cases that the words name on the program that they give, or on this one."""
-    parser = argparse.ArgumentParser()
-    parser.add_argument("--folder", default="cases")
-    parser.add_argument("-v", action="store_true", dest="loud")
-    parser.add_argument("--program")
-    parser.add_argument("--first", action="store_true")
-    parser.add_argument("name", nargs="*")
-    given = parser.parse_args()
-    path = given.program or program()
-    if not os.access(path, os.X_OK):
-        sys.exit(f"no program is there to run: {path}")
-    named = [it for it in cases_of(given.folder) if not given.name or any(word in it.name for word in given.name)]
-    passed = failed = 0
-    for case, fault in tried(named, path, given.first):
-        passed, failed = passed + (fault is None), failed + (fault is not None)
-        if fault or given.loud:
+def try_named(some, given):
+    """Runs those of some cases that the words of a script name, on its program; gives the status."""
+    if not os.access(given.program, os.X_OK):
+        sys.exit(f"no program is there to run: {given.program}")
+    named, tally = [it for it in some if not given.name or any(word in it.name for word in given.name)], programs.Tally()
+    for case, fault in tried(named, given.program, given.first):
+        tally.count(fault is None)
+        if fault or given.v:
             print(f"{'FAILED' if fault else 'passed'}: {case.name}" + (f": {fault}" if fault else ""))
-    print(f"{passed} passed, {failed} failed")
-    return 1 if failed or not passed else 0
+    return tally.end()
+
+
+def main():
+    given = programs.words_of(__doc__, folder="cases", v=False, program=None, first=False, name={"nargs": "*"})
+    return try_named(all_cases(given.folder), given)
 
 
 if __name__ == "__main__":
-    sys.exit(main(all_cases, programs.datacube))
+    sys.exit(main())

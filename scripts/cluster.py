@@ -7,7 +7,6 @@ number over all feeds; a worker without room, a program that is killed; 16 shard
 one run; a cluster under TLS, and keys that it doesn't know. The program is the one at PATH, else the one that `./datacube` would run. It installs nothing: where a package
 or the command `merge` is missing it says so, and ends with status 77. The last line is `N passed, M failed`.
 """
-import argparse
 import glob
 import os
 import random
@@ -23,6 +22,7 @@ import time
 sys.dont_write_bytecode = True
 import oracle
 import programs
+from programs import read, text_at, write
 
 DRIVER = f"{programs.ROOT}/cluster/datacube_dask.py"
 LEFT_OUT = 77
@@ -71,8 +71,7 @@ class Cluster:
     def __init__(self, folder, program, keys=None):
         self.folder, self.workers, self.shares, self.count, self.keys = folder, {}, f"{folder}/shares", 0, keys
         self.program = f"{folder}/datacube"
-        with open(self.program, "w") as out:
-            out.write(PROGRAM)
+        write(self.program, PROGRAM)
         os.chmod(self.program, 0o755)
         self.room = {**os.environ, "DATACUBE": program, "SHARES": self.shares, "DASK_LOGGING__DISTRIBUTED": "error", "TMPDIR": folder}
         with socket.create_server(("127.0.0.1", 0)) as free:
@@ -113,14 +112,11 @@ class Cluster:
 
     def begun(self):
         """The workers that began a share, once for each share."""
-        if not os.path.exists(self.shares):
-            return []
-        with open(self.shares) as file:
-            return [int(it) for it in file]
+        return list(map(int, text_at(self.shares).split())) if os.path.exists(self.shares) else []
 
     def drive(self, *words):
         """Begins the driver; what it prints goes to files."""
-        open(self.shares, "w").close()
+        write(self.shares, b"")
         with open(f"{self.folder}/out", "wb") as out, open(f"{self.folder}/told", "wb") as told:
             given = [sys.executable, DRIVER, "--scheduler", self.address, "--program", self.program, "--quiet", *words]
             return subprocess.Popen(given, cwd=self.folder, stdin=subprocess.DEVNULL, stdout=out, stderr=told)
@@ -128,23 +124,17 @@ class Cluster:
     def ended(self, driver):
         """The status of the driver, what it printed, and what it told."""
         status = driver.wait(timeout=900)
-        with open(f"{self.folder}/out", "rb") as out, open(f"{self.folder}/told") as told:
-            return status, out.read(), told.read()
+        return status, read(f"{self.folder}/out"), text_at(f"{self.folder}/told")
 
     def run(self, *words):
         return self.ended(self.drive(*words))
 
 
-class Tally:
-    """What passed, and what failed."""
-
-    def __init__(self):
-        self.passed = self.failed = 0
+class Tally(programs.Tally):
+    """What passed, and what failed, by what came."""
 
     def note(self, is_right, what, got=None):
-        self.passed, self.failed = self.passed + bool(is_right), self.failed + (not is_right)
-        told = "" if is_right or got is None else f": status {got[0]}, {len(got[1])} bytes, {got[2]!r}"
-        print(f"{'ok     ' if is_right else 'FAILED '} {what}{told}", flush=True)
+        super().note(is_right, what + ("" if is_right or got is None else f": status {got[0]}, {len(got[1])} bytes, {got[2]!r}"))
 
 
 SCHEMA = oracle.Schema(
@@ -161,11 +151,6 @@ def records(rng):
         number = lambda: some(b"\\N", b"-3", b"one", *(b"%d" % rng.randrange(10**6) for _ in range(20)))
         rest = [some(b"York", b"Leeds", b"\\N", b'"a", b'), b"product %d" % rng.randrange(9), some(b"card", b"cash\n"), number(), number()]
         yield [op, name] if op == b"D" else [op, name, *rest]
-
-
-def write(path, data):
-    with open(path, "wb") as out:
-        out.write(data)
 
 
 def two_hundred(cluster, tally):
@@ -194,11 +179,9 @@ def two_hundred(cluster, tally):
     again = cluster.run("--share-bytes", share, "--fan-in", "4", "--list", "names", "--out", "cube.csv", "schema.toml")
     shares = len(cluster.begun())
     tally.note(count > shares > 20, f"{shares} shares, of which {count - shares} began again", again)
-    with open(f"{folder}/cube.csv", "rb") as file:
-        tally.note(again == (run.status, b"", "") and file.read() == run.print(), "the same from a list into a file, in bytes", again)
-    with open(f"{folder}/victim", "rb") as file:
-        is_kept = file.read() == b"theirs" and os.path.islink(f"{folder}/cube.csv.part")
-        tally.note(is_kept and not glob.glob(f"{folder}/.datacube-*"), "a link that was planted beside the file isn't written through")
+    tally.note(again == (run.status, b"", "") and read(f"{folder}/cube.csv") == run.print(), "the same from a list into a file, in bytes", again)
+    is_kept = read(f"{folder}/victim") == b"theirs" and os.path.islink(f"{folder}/cube.csv.part")
+    tally.note(is_kept and not glob.glob(f"{folder}/.datacube-*"), "a link that was planted beside the file isn't written through")
     got = cluster.run("--refusals", "--share-bytes", share, "--fan-in", "5", "schema.toml", *names)
     tally.note(got == (run.status, run.refusals(), "") and run.refused, "its refusals, by the numbers of all feeds", got)
     faults(cluster, tally, names)
@@ -308,12 +291,8 @@ def lacking(program):
 
 
 def main():
-    asks = argparse.ArgumentParser(description=__doc__, formatter_class=argparse.RawDescriptionHelpFormatter)
-    asks.add_argument("--program")
-    asks.add_argument("--lines", type=int, default=1_000_000)
-    words = asks.parse_args()
-    program = os.path.abspath(words.program or programs.datacube())
-    why = lacking(program)
+    words = programs.words_of(__doc__, program=None, lines=1_000_000)
+    program, why = words.program, lacking(words.program)
     if why:
         print(why)
         return LEFT_OUT
@@ -328,8 +307,7 @@ def main():
         without_room(cluster, tally)
         without_workers(cluster, tally)
         under_tls(folder, tally, program)
-    print(f"{tally.passed} passed, {tally.failed} failed")
-    return 1 if tally.failed else 0
+    return tally.end()
 
 
 if __name__ == "__main__":

@@ -6,12 +6,12 @@
 Each crate stands above all that it stands on, close below what stands on it; a line joins it to those below that it doesn't
 reach over another one. Crates that the program waits for are filled.
 """
-import os
-import re
+import functools
 import sys
 
-ROOT = os.path.dirname(os.path.dirname(os.path.realpath(__file__)))
-LINE = re.compile(r"^(\w+)[^:#\n]*:(.*)$", re.MULTILINE)
+sys.dont_write_bytecode = True
+import programs
+
 WIDE, HIGH, ACROSS, DOWN, EDGE = 140, 26, 12, 34, 14
 STYLE = """<style>
 rect { fill: #f4f4f4; stroke: #888 } rect.program { fill: #d9e8fb; stroke: #2f6fb5 }
@@ -23,38 +23,15 @@ text { fill: #111; font: 12px sans-serif; text-anchor: middle } path { fill: non
 </style>"""
 
 
-def stands_on(text):
-    """What of this repository each crate of a crates.txt stands on."""
-    named = {name: below.split() for name, below in LINE.findall(text)}
-    return {name: [it for it in below if it in named] for name, below in named.items()}
-
-
 def reached(below, name):
     """All that a crate stands on, through others too."""
-    found, left = set(), list(below[name])
-    while left:
-        crate = left.pop()
-        if crate not in found:
-            found.add(crate)
-            left += below[crate]
-    return found
-
-
-def heights_of(below):
-    """How many crates stand below each in the longest chain."""
-    heights = {}
-
-    def height(name):
-        if name not in heights:
-            heights[name] = 1 + max(map(height, below[name]), default=-1)
-        return heights[name]
-
-    return {name: height(name) for name in below}
+    return set(below[name]).union(*(reached(below, it) for it in below[name]))
 
 
 def rows_of(below):
-    """The crates in rows, the lowest first: each right below the lowest that stands on it, or as its chain is long."""
-    rows = heights_of(below)
+    """The crates in rows, the lowest first: each right below the lowest that stands on it, or as high as the longest chain below it."""
+    height = functools.cache(lambda name: 1 + max(map(height, below[name]), default=-1))
+    rows = {name: height(name) for name in below}
     for name in sorted(below, key=rows.get, reverse=True):
         rows[name] = min((rows[it] - 1 for it in below if name in below[it]), default=rows[name])
     return [sorted(name for name in below if rows[name] == row) for row in range(max(rows.values()) + 1)]
@@ -73,9 +50,9 @@ def places_of(below, rows):
     return places
 
 
-def picture(text):
-    """The picture of a crates.txt, as SVG."""
-    below = stands_on(text)
+def picture(crates):
+    """The picture of crates, of each of which it is known what it stands on, as SVG."""
+    below = {name: [it for it in names if it in crates] for name, names in crates.items()}
     rows = rows_of(below)
     places = places_of(below, rows)
     program = reached(below, "datacube") | {"datacube"}
@@ -97,5 +74,4 @@ def picture(text):
 
 
 if __name__ == "__main__":
-    with open(f"{ROOT}/crates.txt", encoding="utf-8") as file:
-        sys.stdout.write(picture(file.read()))
+    sys.stdout.write(picture(programs.crates()))

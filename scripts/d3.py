@@ -10,7 +10,6 @@
 
 A change of the page is one of explorer/datacube.html, which scripts/page.py makes.
 """
-import argparse
 import glob
 import hashlib
 import io
@@ -22,6 +21,7 @@ import tarfile
 
 sys.dont_write_bytecode = True
 import programs
+from programs import text_at, write
 
 PAGE, FOLDER = (f"{programs.ROOT}/explorer/{it}" for it in ("index.html", "d3"))
 NOTED, LICENCES = f"{FOLDER}/MODULES.txt", f"{FOLDER}/LICENCES"
@@ -33,17 +33,6 @@ BEGIN, END = "<!-- D3, by scripts/d3.py: what follows is of explorer/d3/. -->\n"
 # what would let a script ask something of somebody, or make code of a text, and what would end it
 FORBIDDEN = re.compile(r"\b(eval|Function|fetch|XMLHttpRequest|WebSocket|EventSource|sendBeacon|importScripts|import)\s*\(|</script|<!--|<script")
 HEAD = "# A file, the source package of Debian that it is of, the version of that, and the SHA-256 of the file (scripts/d3.py take).\n"
-
-
-def text_at(path):
-    """A file's text, with its line ends."""
-    with open(path, encoding="utf-8", newline="") as file:
-        return file.read()
-
-
-def write(path, text):
-    with open(path, "w", encoding="utf-8", newline="") as file:
-        file.write(text)
 
 
 def modules():
@@ -85,13 +74,12 @@ def checks():
 
 def check():
     """Says what isn't so; gives the status."""
-    seen = [(bool(is_right), what) for is_right, what in checks()]
-    for is_right, what in seen:
+    tally = programs.Tally()
+    for is_right, what in checks():
+        tally.count(is_right)
         if not is_right:
             print(f"FAILED: {what}")
-    failed = sum(not is_right for is_right, _ in seen)
-    print(f"{len(seen) - failed} passed, {failed} failed")
-    return 1 if failed else 0
+    return tally.end()
 
 
 def take(folder):
@@ -123,12 +111,9 @@ def module_in(package, name):
 
 
 def main():
-    asks = argparse.ArgumentParser(description=__doc__, formatter_class=argparse.RawDescriptionHelpFormatter)
-    asks.add_argument("step", nargs="?", choices=["check", "take"])
-    asks.add_argument("folder", nargs="?")
-    given = asks.parse_args()
+    given = programs.words_of(__doc__, step={"nargs": "?", "choices": ["check", "take"]}, folder={"nargs": "?"})
     if (given.step == "take") != (given.folder is not None):
-        asks.error("take has a folder, and no other step has one")
+        given.error("take has a folder, and no other step has one")
     if given.step == "check":
         return check()
     if given.step == "take":

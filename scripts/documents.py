@@ -17,7 +17,6 @@ The program is the one at PATH, else the one that `./datacube` would run. In doc
 `<!-- codes: ABOUT -->` and `<!-- end of codes -->`; ABOUT is what the program's notes say that a code is about. The table
 of what is said where a command failed is made of the code of cube_why.
 """
-import argparse
 import glob
 import json
 import os
@@ -30,8 +29,9 @@ import completions
 import crate_map
 import programs
 import promises
+from programs import text_at
 
-ROOT = os.path.dirname(os.path.dirname(os.path.realpath(__file__)))
+ROOT = programs.ROOT
 ARCHITECTURE = f"{ROOT}/docs/ARCHITECTURE.md"
 FORMATS = f"{ROOT}/docs/FORMATS.md"
 PROMISES = f"{ROOT}/docs/PROMISES.md"
@@ -39,9 +39,7 @@ DEFINITIONS = f"{ROOT}/docs/DEFINITIONS.md"
 README = f"{ROOT}/README.md"
 MANUAL = f"{ROOT}/docs/datacube.1"
 MAP = f"{ROOT}/docs/crates.svg"
-CRATES = f"{ROOT}/crates.txt"
-# a line of crates.txt: a crate, and those that it stands on; a crate's row in docs/ARCHITECTURE.md, and a function of one
-CRATE = re.compile(r"^(\w+)[^:#\n]*:(.*)$", re.MULTILINE)
+# a crate's row in docs/ARCHITECTURE.md, and a function of one
 ROW = re.compile(r"^(\| `(\w+)` \| [^|]* \| )[^|]* \|$", re.MULTILINE)
 FUNCTION = re.compile(r"`(\w+)::(?:\w+::)*(\w+)`")
 # a clause, a law or another word of the code, as documents name it, and the sections that say what is proved
@@ -79,7 +77,7 @@ class Program:
     """The program that is asked."""
 
     def __init__(self, path):
-        self.path = os.path.abspath(path)
+        self.path = path
 
     def said(self, *words, folder=ROOT, given=os.devnull):
         """What it prints in a folder, with a file on standard input."""
@@ -143,7 +141,7 @@ def advised(text):
 
 def architecture_with(text):
     """docs/ARCHITECTURE.md with what crates.txt says that each crate stands on."""
-    below = {name: names.split() for name, names in CRATE.findall(text_at(CRATES))}
+    below = programs.crates()
     lacking = below.keys() - {row[1] for row in ROW.findall(text)}
     if lacking:
         sys.exit(f"docs/ARCHITECTURE.md has no row for {', '.join(sorted(lacking))}")
@@ -153,7 +151,7 @@ def architecture_with(text):
 
 def lost_functions(text):
     """The functions that a text names as `crate::function` or `crate::Type::function`, and that the crate hasn't."""
-    crates = dict(CRATE.findall(text_at(CRATES)))
+    crates = programs.crates()
     named = sorted({it for it in FUNCTION.findall(text) if it[0] in crates})
     return [f"{crate}::{name}" for crate, name in named if not re.search(rf"\b(fn|mod) {name}\b", code_of(crate))]
 
@@ -167,7 +165,7 @@ def lost_words(paths):
     """The words of contracts and of definitions that documents name where they say what is proved, and that aren't there."""
     named = {(path, word) for path in paths for word in NAMED.findall(PROVED.search(text_at(path))[1])}
     files = (it for kind in ("src/**/*.rt", "specs/**/*.antt") for it in glob.glob(f"{ROOT}/crates/*/{kind}", recursive=True))
-    words = {word for path in files for word in re.findall(r"\w+", text_at(path))} | {it for it, _ in CRATE.findall(text_at(CRATES))}
+    words = {word for path in files for word in re.findall(r"\w+", text_at(path))} | set(programs.crates())
     return [f"{os.path.relpath(path, ROOT)} names {word}" for path, word in sorted(named) if word not in words]
 
 
@@ -326,27 +324,16 @@ def wanted(program):
         DEFINITIONS: bounded(DEFINITIONS),
         README: readme(),
         MANUAL: manual_of(program, notes, formats),
-        MAP: crate_map.picture(text_at(CRATES)),
+        MAP: crate_map.picture(programs.crates()),
     }
     return {**made, **{f"{ROOT}/completions/{name}": text for name, text in completions.made_of(line).items()}}
 
 
-def text_at(path):
-    """A file's text, or None."""
-    if not os.path.exists(path):
-        return None
-    with open(path, encoding="utf-8") as file:
-        return file.read()
-
-
 def main():
-    parser = argparse.ArgumentParser()
-    parser.add_argument("--check", action="store_true")
-    parser.add_argument("--program")
-    given = parser.parse_args()
-    documents = wanted(Program(given.program or programs.datacube()))
+    given = programs.words_of(__doc__, check=False, program=None)
+    documents = wanted(Program(given.program))
     if given.check:
-        stale = [path for path, text in documents.items() if text_at(path) != text]
+        stale = [path for path, text in documents.items() if not os.path.exists(path) or text_at(path) != text]
         for path in stale:
             print(f"FAILED: {os.path.relpath(path, ROOT)} isn't what the program or the code says: scripts/documents.py writes it anew")
         lost = [[f"docs/ARCHITECTURE.md names {it}" for it in lost_functions(text_at(ARCHITECTURE))], lost_words([README, PROMISES])]
@@ -357,8 +344,7 @@ def main():
         return 1 if failed else 0
     for path, text in documents.items():
         os.makedirs(os.path.dirname(path), exist_ok=True)
-        with open(path, "w", encoding="utf-8") as file:
-            file.write(text)
+        programs.write(path, text)
     return 0
 
 

@@ -24,7 +24,9 @@ import subprocess
 import tempfile
 import threading
 
-ROOT = os.path.dirname(os.path.dirname(os.path.realpath(__file__)))
+import programs
+
+ROOT = programs.ROOT
 PARTS = ("src", "specs", "proofs")
 # (what the folders of tries are named)
 ROOM = "/must-fail-"
@@ -115,8 +117,7 @@ def tried(edits, copy, is_anew):
             if told[edit].is_refused:
                 with contextlib.suppress(OSError):
                     os.makedirs(KEPT, exist_ok=True)
-                    with open(kept[edit], "w", encoding="utf-8") as file:
-                        file.write(told[edit].text)
+                    programs.write(kept[edit], told[edit].text)
         found |= told
         left = [it for it in left if it not in found]
     return found
@@ -131,8 +132,7 @@ def sum_of(edit, copy):
         files += sorted(it for it in glob.glob(f"{copy}/crates/{crate}/{part}/**", recursive=True) if os.path.isfile(it))
     found = hashlib.sha256(repr([kit_line(), named]).encode())
     for path in files:
-        with open(path, "rb") as file:
-            found.update(repr([os.path.relpath(path, copy) if path != edit else "", file.read()]).encode())
+        found.update(repr([os.path.relpath(path, copy) if path != edit else "", programs.read(path)]).encode())
     return found.hexdigest()
 
 
@@ -189,9 +189,7 @@ def apply(edit, crate):
 def changes_of(edit):
     """The changes of an edit: of each the file, the text that stands there once, and the one that takes its place."""
     path, old = None, None
-    with open(edit, encoding="utf-8") as file:
-        lines = file.read().split("\n")
-    for line in lines:
+    for line in programs.text_at(edit).split("\n"):
         word, _, text = line.partition(":")
         text = text.removeprefix(" ")
         if word == "file":
@@ -208,19 +206,16 @@ def function_of(edit, copy):
     if len(changes) != 1:
         return None
     path, old, _ = changes[0]
-    with open(f"{copy}/crates/{crate_of(edit)}/{path}", encoding="utf-8") as file:
-        text = file.read()
+    text = programs.text_at(f"{copy}/crates/{crate_of(edit)}/{path}")
     return function_at(text, text.find(old) + len(old), module_of(path))
 
 
 def replace(path, old, new, module):
     """Puts a text in the place of another; gives the name of the function there, if any, or why it can't."""
-    with open(path, encoding="utf-8") as file:
-        text = file.read()
+    text = programs.text_at(path)
     if text.count(old) != 1:
         return None, f"has {old!r} {text.count(old)} times, and not once"
-    with open(path, "w", encoding="utf-8") as file:
-        file.write(text.replace(old, new))
+    programs.write(path, text.replace(old, new))
     return function_at(text, text.index(old) + len(old), module), None
 
 
@@ -280,9 +275,7 @@ def place_of(copy, library):
 
 def libraries_of(copy, crate):
     """The libraries that a crate names, and those of the repository that it stands on."""
-    with open(f"{copy}/crates.txt", encoding="utf-8") as file:
-        lines = [line.partition(":") for line in file if line[0] != "#"]
-    needs = {left.split()[0]: right.split() for left, _, right in lines}
+    needs = programs.crates(copy)
     own, ahead = [], [crate]
     while ahead:
         below = [it for it in needs[ahead.pop()] if it in needs and it not in own]

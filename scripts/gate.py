@@ -6,7 +6,6 @@ proofs give, and what runs programs that they left. Parts that need no proof run
 The program that the first parts run is one that was built here from these very sources, else the released one. The last
 line is `N passed, M failed` over all parts; before it stands a table of the seconds that each part took, and all of them.
 """
-import argparse
 import collections
 import concurrent.futures
 import contextlib
@@ -24,7 +23,7 @@ sys.dont_write_bytecode = True
 import edits
 import programs
 
-ROOT = os.path.dirname(os.path.dirname(os.path.realpath(__file__)))
+ROOT = programs.ROOT
 BUILT = f"{ROOT}/crates/datacube/out"
 RELEASE = f"{ROOT}/release/x86_64-linux"
 COUNTS = re.compile(r"(\d+) passed, (\d+) failed")
@@ -52,17 +51,12 @@ BY_PYTEST = {
 Part = collections.namedtuple("Part", "status lines clock spent left")
 
 
-class Tally:
+class Tally(programs.Tally):
     """What passed and what failed, and the seconds that each part took: of the clock, and of processors."""
 
     def __init__(self):
-        self.passed = self.failed = 0
+        super().__init__()
         self.rows = []
-
-    def note(self, is_right, what):
-        """Counts one thing that was looked at."""
-        self.passed, self.failed = self.passed + is_right, self.failed + (not is_right)
-        print(f"{'ok     ' if is_right else 'FAILED '} {what}", flush=True)
 
     def note_left(self, names):
         """Counts whether nothing was left in the folder for temporary files."""
@@ -162,16 +156,14 @@ class Sampler(threading.Thread):
                     pass
 
     def look(self, process):
-        with open(f"/proc/{process}/cmdline", "rb") as file:
-            words = file.read().split(b"\0")
+        words = programs.read(f"/proc/{process}/cmdline").split(b"\0")
         if not words[0].endswith(b"/rattle") or b"--crate-name" not in words:
             return
         crate = words[words.index(b"--crate-name") + 1].decode()
         folder = os.readlink(f"/proc/{process}/cwd")
         if not folder.startswith(self.copy + "/") and edits.ROOM not in folder:
             return
-        with open(f"/proc/{process}/stat", encoding="utf-8") as file:
-            fields = file.read().rpartition(")")[2].split()
+        fields = programs.text_at(f"/proc/{process}/stat").rpartition(")")[2].split()
         key = crate, self.kind(words, folder)
         spent = (int(fields[11]) + int(fields[12])) / os.sysconf("SC_CLK_TCK")
         self.seen[process, fields[19]] = key, spent
@@ -325,10 +317,7 @@ def key_values(place):
 
 
 def contents(path):
-    if not os.path.exists(path):
-        return b""
-    with open(path, "rb") as file:
-        return file.read()
+    return programs.read(path) if os.path.exists(path) else b""
 
 
 def shell(call):
@@ -337,10 +326,7 @@ def shell(call):
 
 
 def main():
-    parser = argparse.ArgumentParser()
-    parser.add_argument("--quick", action="store_true")
-    parser.add_argument("--anew", action="store_true")
-    given = parser.parse_args()
+    given = programs.words_of(__doc__, quick=False, anew=False)
     start, tally = time.monotonic(), Tally()
     program = programs.found()
     if program:
@@ -356,8 +342,7 @@ def main():
     for name, clock, spent in tally.rows:
         print(f"{clock:8.0f} {spent:8.0f}  {name}")
     print(f"{time.monotonic() - start:8.0f} {sum(os.times()[:4]):8.0f}  everything")
-    print(f"{tally.passed} passed, {tally.failed} failed")
-    return 1 if tally.failed or not tally.passed else 0
+    return tally.end()
 
 
 if __name__ == "__main__":

@@ -6,7 +6,6 @@
 The program is crates/cube_calls, as it is built here or as it stands at PATH; the lines on its standard input are the calls, and its word
 the file of the schema. Both are tests of tests/test_library.py. Where there is no pytest, the cases are run without the generated calls.
 """
-import argparse
 import os
 import subprocess
 import sys
@@ -17,19 +16,15 @@ import programs
 
 
 def main():
-    asks = argparse.ArgumentParser(description=__doc__, formatter_class=argparse.RawDescriptionHelpFormatter)
-    asks.add_argument("-v", action="store_true", dest="is_loud")
-    asks.add_argument("--program", default=f"{programs.ROOT}/crates/cube_calls/out/cube_calls")
-    asks.add_argument("--first", action="store_true")
-    asks.add_argument("name", nargs="*")
-    given = asks.parse_args()
+    driver = f"{programs.ROOT}/crates/cube_calls/out/cube_calls"
+    given = programs.words_of(__doc__, v=False, program=driver, first=False, name={"nargs": "*"})
     if not os.access(given.program, os.X_OK):
         sys.exit("no program is there to run: rt run in crates/cube_calls builds it")
-    words = ["--library", given.program, *(["-vv"] if given.is_loud else []), *(["-x"] if given.first else [])]
+    words = ["--library", given.program, *(["-vv"] if given.v else []), *(["-x"] if given.first else [])]
     words += ["-k", " or ".join(f"({' and '.join(it.split())})" for it in given.name)] if given.name else []
     command = programs.pytest(given.program, "tests/test_library.py", *words, shares=len(os.sched_getaffinity(0)))
     if not command:
-        return cases.main(lambda _: cases.all_cases("cases/library"), lambda: given.program)
+        return cases.try_named(cases.all_cases("cases/library"), given)
     return subprocess.run(command, cwd=programs.ROOT).returncode
 
 

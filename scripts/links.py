@@ -47,8 +47,7 @@ def texts_below(root):
     """The documents below the repository, or below what is laid out as it is, without their blocks."""
     texts = {}
     for path in sorted(it for pattern in DOCUMENTS for it in glob.glob(f"{root}/{pattern}")):
-        with open(path, encoding="utf-8") as file:
-            texts[os.path.relpath(path, root)] = FENCED.sub("", file.read())
+        texts[os.path.relpath(path, root)] = FENCED.sub("", programs.text_at(path))
     return texts
 
 

@@ -15,7 +15,6 @@
 `ir` and `module` need the kit (`rt`); `module` needs `wasm-opt` of Debian's package binaryen, too. Each step gives the same bytes
 again from the same files.
 """
-import argparse
 import base64
 import glob
 import gzip
@@ -29,7 +28,7 @@ import tempfile
 
 sys.dont_write_bytecode = True
 import programs
-from programs import read, write
+from programs import read, text_at, write
 
 ROOT = programs.ROOT
 EXPLORER, OWN, PAGE = (f"{ROOT}/explorer/{it}" for it in ("index.html", "own", "datacube.html"))
@@ -64,7 +63,7 @@ def keep_ir(rlibs, crate, out):
         words = [f"{home}/bin/rattle", "build", "--crate-name", name, "src/lib.rt"]
         for library in ("std", "core"):
             words += ["--extern", f"{library}={home}/rlibs/{library}.rlib"]
-        for library in needs_of(name):
+        for library in programs.crates()[name]:
             folder = rlibs if os.path.exists(f"{rlibs}/{library}.rlib") else f"{home}/rlibs"
             words += ["--extern", f"{library}={folder}/{library}.rlib"]
         words += ["-L", f"dependency={home}/rlibs", "-L", f"dependency={rlibs}",
@@ -92,20 +91,9 @@ def keeping_toolchain(home, folder, kept):
     os.symlink(f"{home}/toolchain/lib", f"{folder}/lib")
     for tool in ("llvm-ar", "ld.lld", "rattle-x64"):
         os.symlink(f"{home}/toolchain/bin/{tool}", f"{folder}/bin/{tool}")
-    with open(f"{folder}/bin/clang", "w") as file:
-        file.write('#!/bin/sh\nfor word in "$@"; do\n    case $word in *.bc) cp "$word" "%s" ;; esac\ndone\nexec "%s" "$@"\n'
-                   % (kept, f"{home}/toolchain/bin/clang"))
+    write(f"{folder}/bin/clang", '#!/bin/sh\nfor word in "$@"; do\n    case $word in *.bc) cp "$word" "%s" ;; esac\ndone\nexec "%s" "$@"\n'
+          % (kept, f"{home}/toolchain/bin/clang"))
     os.chmod(f"{folder}/bin/clang", 0o755)
-
-
-def needs_of(name):
-    """The crates that a crate needs, as crates.txt says."""
-    with open(f"{ROOT}/crates.txt") as file:
-        for line in file:
-            crate, colon, needs = line.partition(":")
-            if colon and crate.split()[0] == name:
-                return needs.split()
-    sys.exit(f"crates.txt has no line for {name}")
 
 
 def make_module(kept, out64, out32):
@@ -132,8 +120,7 @@ def make_module(kept, out64, out32):
 def retarget(path):
     """Turns IR for another processor into that for WebAssembly, with the page's calls as its exports. The IR has integers,
     pointers of 64 bits and no instruction of a processor, so nothing else in it depends on the target."""
-    with open(path) as file:
-        text = file.read()
+    text = text_at(path)
     text = re.sub(r"^target triple = .*$", f'target triple = "{TARGET}"', text, flags=re.M)
     text = re.sub(r"^target datalayout = .*$", f'target datalayout = "{LAYOUT}"', text, flags=re.M)
     text = re.sub(r'"(target-cpu|target-features|tune-cpu)"="[^"]*"', "", text)
@@ -142,8 +129,7 @@ def retarget(path):
                               rf'\1 "wasm-export-name"="{name}"\2', text, flags=re.M)
         if count != 1:
             sys.exit(f"the IR has {count} functions {name}, and not one")
-    with open(path, "w") as file:
-        file.write(text)
+    write(path, text)
 
 
 def plain(module):
@@ -173,8 +159,8 @@ def number_at(module, at):
 
 def page_of(packed64, packed32):
     """The page's text, with two modules that are packed."""
-    part = lambda name: read(f"{OWN}/{name}").decode()
-    text = read(EXPLORER).decode()
+    part = lambda name: text_at(f"{OWN}/{name}")
+    text = text_at(EXPLORER)
     if any("</script" in part(it) for it in ("own.js", "worker.js")):
         sys.exit("a script of explorer/own/ has the end of a script in it")
     head, body = part("style.css"), part("parts.html")
@@ -234,7 +220,7 @@ def unpacked(text):
 
 def faults(modules):
     """What is wrong with the page, a line each."""
-    text = read(PAGE).decode()
+    text = text_at(PAGE)
     kept = packed_in(text)
     found = [] if text == page_of(*kept) else ["explorer/datacube.html isn't what its parts give: run scripts/page.py page"]
     for module, own, name in zip(modules, kept, ("64", "32")):
@@ -244,23 +230,20 @@ def faults(modules):
 
 
 def main():
-    asks = argparse.ArgumentParser(description=__doc__, formatter_class=argparse.RawDescriptionHelpFormatter)
-    asks.add_argument("step", choices=["ir", "module", "page", "modules", "check"])
-    asks.add_argument("paths", nargs="*")
-    given = asks.parse_args()
     counts = {"ir": [3], "module": [3], "page": [0, 1, 2, 3], "modules": [2], "check": [0, 2]}
+    given = programs.words_of(__doc__, step={"choices": list(counts)}, paths={"nargs": "*"})
     if len(given.paths) not in counts[given.step]:
-        asks.error(f"{given.step} takes other paths")
+        given.error(f"{given.step} takes other paths")
     if given.step == "ir":
         keep_ir(*given.paths)
     elif given.step == "module":
         make_module(*given.paths)
     elif given.step == "page":
         modules, out = given.paths[: len(given.paths) // 2 * 2], given.paths[len(given.paths) // 2 * 2 :] or [PAGE]
-        kept = [packed(read(it)) for it in modules] if modules else packed_in(read(PAGE).decode())
-        write(out[0], page_of(*kept).encode())
+        kept = [packed(read(it)) for it in modules] if modules else packed_in(text_at(PAGE))
+        write(out[0], page_of(*kept))
     elif given.step == "modules":
-        for path, module in zip(given.paths, packed_in(read(PAGE).decode())):
+        for path, module in zip(given.paths, packed_in(text_at(PAGE))):
             write(path, unpacked(module))
     else:
         found = faults(given.paths)

@@ -21,7 +21,6 @@ repository (COPIED), in which `datacube` is the program at PATH, else the one th
 Any other block is a fault, and nothing is left out but what LEFT_OUT, LEFT_OUT_KINDS and NEEDS say. Then in each page each text
 that is shown is spoiled by one byte, which has to be noticed. The last line is `N passed, M failed`.
 """
-import argparse
 import collections
 import concurrent.futures
 import contextlib
@@ -37,7 +36,6 @@ import textwrap
 
 sys.dont_write_bytecode = True
 import cases
-import gate
 import links
 import programs
 import sql
@@ -322,8 +320,7 @@ def lay_out(room, program):
     for name in COPIED:
         shutil.copytree(f"{ROOT}/{name}", f"{room}/{name}", ignore=shutil.ignore_patterns("__pycache__", "out"))
     os.symlink(program, f"{room}/datacube")
-    with open(f"{room}/scripts/program.sh", "w", encoding="utf-8") as file:
-        file.write(f"#!/bin/sh\necho {shlex.quote(program)}\n")
+    programs.write(f"{room}/scripts/program.sh", f"#!/bin/sh\necho {shlex.quote(program)}\n")
 
 
 @contextlib.contextmanager
@@ -337,16 +334,14 @@ def environment(folder, program, names):
     if SQL not in names or not has("psql"):
         yield env
         return
-    with open(f"{folder}/psqlrc", "w", encoding="utf-8") as file:
-        file.write("\\set ON_ERROR_STOP on\n")
+    programs.write(f"{folder}/psqlrc", "\\set ON_ERROR_STOP on\n")
     with tempfile.TemporaryDirectory(prefix="datacube-sql-") as room, sql.Server(sql.newest_server(), room):
         yield {**env, "PGHOST": room, "PGUSER": "datacube", "PGDATABASE": "postgres", "PSQLRC": f"{folder}/psqlrc"}
 
 
 def run(page, room, env, folder):
     """Runs the commands of a page in a folder of a room; gives what each said, and which failed."""
-    with open(f"{room}.sh", "w", encoding="utf-8") as file:
-        file.write(page.script())
+    programs.write(f"{room}.sh", page.script())
     with open(f"{room}.said", "w+b") as said, open(f"{room}.failed", "w+b") as failed:
         how = {"cwd": f"{room}/{folder}", "env": {**env, "HOME": room}, "stdin": subprocess.DEVNULL, "timeout": SECONDS}
         words = ["bash", "-c", '. "$0" 3>&"$1"', f"{room}.sh", str(failed.fileno())]
@@ -358,8 +353,7 @@ def run(page, room, env, folder):
 
 def look(name, program, env, folder):
     """Runs a page; gives it, how often it was spoiled, and what is wrong with it."""
-    with open(f"{ROOT}/{name}", encoding="utf-8") as file:
-        page = Page(file.read())
+    page = Page(programs.text_at(f"{ROOT}/{name}"))
     room = f"{folder}/{name.replace('/', '-')}"
     lay_out(room, program)
     try:
@@ -399,17 +393,12 @@ def note_links(tally):
 
 
 def main():
-    asks = argparse.ArgumentParser(description=__doc__, formatter_class=argparse.RawDescriptionHelpFormatter)
-    asks.add_argument("--program")
-    asks.add_argument("page", nargs="*")
-    given = asks.parse_args()
-    tally = gate.Tally()
+    given, tally = programs.words_of(__doc__, program=None, page={"nargs": "*"}), programs.Tally()
     names = [it for it in PAGES if not given.page or any(word in it for word in given.page)]
-    note_pages(tally, names, os.path.abspath(given.program or programs.datacube()))
+    note_pages(tally, names, given.program)
     if not given.page:
         note_links(tally)
-    print(f"{tally.passed} passed, {tally.failed} failed")
-    return 1 if tally.failed or not tally.passed else 0
+    return tally.end()
 
 
 if __name__ == "__main__":

@@ -13,8 +13,8 @@ postgresql and python3-psycopg2, which is of Debian's Python; where one isn't th
 `--mode store` measures a start over a store of N rows instead, beside that of the copy; `--mode readers` the time from commit to
 answer without readers, and with six that ask for a whole cube of 5 MB again and again.
 """
-import argparse
 import contextlib
+import importlib.util
 import os
 import re
 import resource
@@ -55,7 +55,7 @@ SCHEMA = 'dimensions = ["city", "product"]\nmeasures = ["cents"]\naggregates = [
 class Bench:
     """A private server with the table, and pgbench on it."""
 
-    def __init__(self, server, room, rows, table=TABLE):
+    def __init__(self, server, room, rows, table):
         self.server, self.room = server, room
         self.dsn = f"host={server.room} user=datacube dbname=postgres"
         self.schema = self.write("schema.toml", SCHEMA)
@@ -63,10 +63,8 @@ class Bench:
         server.ask(table.replace('ROWS', str(rows)).encode())
 
     def write(self, name, text):
-        path = f"{self.room}/{name}"
-        with open(path, "w", encoding="utf-8") as out:
-            out.write(text)
-        return path
+        programs.write(f"{self.room}/{name}", text)
+        return f"{self.room}/{name}"
 
     def writing(self, seconds, *more, waits=True):
         """pgbench, which writes for so many seconds; each commit waits for the disk, or none does."""
@@ -81,6 +79,17 @@ class Bench:
         said = self.writing(seconds, waits=waits).communicate()[0]
         found = re.search(r"tps = ([0-9.]+) \(without", said)
         return float(found[1]) if found else sys.exit(said)
+
+    @contextlib.contextmanager
+    def busy(self, rate):
+        """Has pgbench make so many transactions a second while a block runs, two seconds before it begins."""
+        writing = self.writing(3600, "-R", str(rate))
+        try:
+            time.sleep(2)
+            yield
+        finally:
+            writing.terminate()
+            writing.wait()
 
     @contextlib.contextmanager
     def followed(self):
@@ -121,17 +130,12 @@ def freshness(bench, rate, probes, questions):
     with Follower(bench.dsn, "sales", bench.schema) as follower:
         state = follower.wait()
         print(f"{'until the first answer':56} {time.perf_counter() - start:.2f} s, over {state.rows_copied} rows")
-        writing = bench.writing(3600, "-R", str(rate))
-        try:
-            time.sleep(2)
+        with bench.busy(rate):
             before, start = follower.state.transactions, time.perf_counter()
-            said("from commit to answer", list(probed(bench, follower, probes)))
+            said("from commit to answer", list(probed(bench, probes, answers_of(follower))))
             rate = (follower.state.transactions - before) / (time.perf_counter() - start)
             print(f"{'transactions a second meanwhile':56} {rate:.0f}")
             said("a question of one cell", [asked(follower, at) for at in range(questions)])
-        finally:
-            writing.terminate()
-            writing.wait()
         long_transaction(bench, follower)
 
 
@@ -169,20 +173,17 @@ def beside_readers(bench, rate, probes):
         follower.wait()
         text = follower.ask("print")
         print(f"{'the whole cube':56} {len(text) / 10**6:.1f} MB")
-        writing = bench.writing(3600, "-R", str(rate))
         over = threading.Event()
         readers = [threading.Thread(target=read_again_and_again, args=[follower, over]) for _ in range(READERS)]
-        try:
-            time.sleep(2)
-            said("from commit to answer, without readers", list(probed(bench, follower, probes)))
+        with bench.busy(rate):
+            said("from commit to answer, without readers", list(probed(bench, probes, answers_of(follower))))
             for it in readers:
                 it.start()
-            said("from commit to answer, beside six readers", list(probed(bench, follower, probes)))
-            said("from commit to where the follower is, beside them", list(arrived(bench, follower, probes)))
-        finally:
-            over.set()
-            writing.terminate()
-            writing.wait()
+            try:
+                said("from commit to answer, beside six readers", list(probed(bench, probes, answers_of(follower))))
+                said("from commit to where the follower is, beside them", list(probed(bench, probes, lambda _, lsn: [follower.wait_for(lsn)])))
+            finally:
+                over.set()
         for it in readers:
             it.join()
 
@@ -190,21 +191,6 @@ def beside_readers(bench, rate, probes):
 def read_again_and_again(follower, over):
     while not over.is_set():
         follower.ask("print")
-
-
-def arrived(bench, follower, count):
-    """The seconds from the end of each commit until the follower has taken it."""
-    import psycopg2
-
-    with contextlib.closing(psycopg2.connect(bench.dsn)) as connection, connection.cursor() as cursor:
-        for at in range(count):
-            cursor.execute("INSERT INTO sales (city, product, cents) VALUES ('city 1', 'product 1', 1) RETURNING pg_current_wal_insert_lsn() - '0/0'")
-            lsn = int(cursor.fetchone()[0])
-            connection.commit()
-            start = time.perf_counter()
-            follower.wait_for(lsn)
-            yield time.perf_counter() - start
-            time.sleep(0.01)
 
 
 def long_transaction(bench, follower):
@@ -218,19 +204,27 @@ def long_transaction(bench, follower):
     said("a question of one cell until then", asks)
 
 
-def probed(bench, follower, count):
-    """The seconds from the end of each commit to the end of the answer that has it."""
+def probed(bench, count, is_there):
+    """The seconds from the end of each commit, of a sale to a city of its own, until a call says that it is there: that is told the city
+    and where the log was."""
     import psycopg2
 
     with contextlib.closing(psycopg2.connect(bench.dsn)) as connection, connection.cursor() as cursor:
-        for at in range(count):
-            cursor.execute("INSERT INTO sales (city, product, cents) VALUES (%s, 'probe', 1)", [f"probe {at}"])
+        for _ in range(count):
+            city = f"probe {time.monotonic_ns()}"
+            cursor.execute("INSERT INTO sales (city, product, cents) VALUES (%s, 'probe', 1) RETURNING pg_current_wal_insert_lsn() - '0/0'", [city])
+            lsn = int(cursor.fetchone()[0])
             connection.commit()
             start = time.perf_counter()
-            while not len(follower.slice({"city": f"probe {at}"})):
+            while not is_there(city, lsn):
                 time.sleep(0.0005)
             yield time.perf_counter() - start
             time.sleep(0.01)
+
+
+def answers_of(follower):
+    """What says whether a follower's answer has a sale."""
+    return lambda city, _: len(follower.slice({"city": city}))
 
 
 def asked(follower, at):
@@ -249,23 +243,22 @@ def said(name, seconds):
     print(f"{name:56} median {middle:.2f} ms   99% {late:.2f} ms   most {ordered[-1]:.2f} ms   of {len(ordered)}", flush=True)
 
 
-def main():
-    parser = argparse.ArgumentParser(description=__doc__, formatter_class=argparse.RawDescriptionHelpFormatter)
-    for name, number in (("seconds", 3), ("rounds", 6), ("rows", 200_000), ("rate", 1000), ("probes", 500)):
-        parser.add_argument(f"--{name}", type=int, default=number)
-    parser.add_argument("--mode", choices=("writers", "store", "readers"), default="writers")
-    given = parser.parse_args()
-    binaries = sql.newest_server()
-    try:
-        import psycopg2
-    except ImportError:
-        psycopg2 = None
-    if not binaries or not psycopg2:
-        print("Debian's packages postgresql and python3-psycopg2 aren't both there for this Python")
-        return 77
+@contextlib.contextmanager
+def private_bench(rows, table, *modules):
+    """A private server with a table, where it and these modules of Python are there; else the script ends with status 77."""
+    lacks = [it for it in modules if not importlib.util.find_spec(it)] + ([] if sql.newest_server() else ["postgresql"])
+    if lacks:
+        print(f"{', '.join(lacks)}: not there for this Python")
+        sys.exit(77)
     folder = lambda: tempfile.TemporaryDirectory(prefix="datacube-speed-")
-    with folder() as room, folder() as ours, sql.Server(binaries, room, SETTINGS) as server:
-        bench = Bench(server, ours, given.rows)
+    with folder() as room, folder() as ours, sql.Server(sql.newest_server(), room, SETTINGS) as server:
+        yield Bench(server, ours, rows, table)
+
+
+def main():
+    given = programs.words_of(__doc__, seconds=3, rounds=6, rows=200_000, rate=1000, probes=500,
+                              **{"--mode": {"choices": ("writers", "store", "readers"), "default": "writers"}})
+    with private_bench(given.rows, TABLE, "psycopg2") as bench:
         if given.mode == "store":
             starts(bench, given.rows)
         elif given.mode == "readers":

@@ -1,4 +1,6 @@
-"""Where the program stands that the scripts run, by what Python its tests are, a folder in which it is run, and files as bytes."""
+"""What scripts share: the program that they run, by what Python its tests are, a folder in which it is run, files, the words of a
+script, and what it counts."""
+import argparse
 import functools
 import os
 import shutil
@@ -43,16 +45,68 @@ def python_package(program, *words, each=3):
     return pytest(program, "--assert=plain", "python/tests", *words, shares=each * len(os.sched_getaffinity(0)))
 
 
+def crates(folder=ROOT):
+    """What each crate of a folder stands on, by its name, as crates.txt says."""
+    lines = [line.partition(":") for line in text_at(f"{folder}/crates.txt").splitlines() if line and line[0] != "#"]
+    return {left.split()[0]: right.split() for left, _, right in lines}
+
+
 def read(path):
     """The bytes of a file."""
     with open(path, "rb") as file:
         return file.read()
 
 
+def text_at(path):
+    """The text of a file, with its line ends."""
+    return read(path).decode()
+
+
 def write(path, data):
-    """Writes a file of bytes."""
+    """Writes a file of bytes, or of a text."""
     with open(path, "wb") as file:
-        file.write(data)
+        file.write(data.encode() if isinstance(data, str) else data)
+
+
+def words_of(about, words=None, has_others=False, **options):
+    """The words of a script, of which its documentation tells. An option has what it is where it is left out: a number, a text or None,
+    and False where it takes no value; a word of its own has what argparse is told of it. `program` is the one that `./datacube` would
+    run where none is named. Where it has others, `others` are those that no option takes; `error` ends the script."""
+    parser = argparse.ArgumentParser(description=about, formatter_class=argparse.RawDescriptionHelpFormatter)
+    for name, it in options.items():
+        if isinstance(it, dict):
+            parser.add_argument(name, **it)
+        else:
+            how = {"action": "store_true"} if it is False else {"default": it, "type": str if it is None else type(it)}
+            parser.add_argument(f"-{name}" if len(name) == 1 else f"--{name}", **how)
+    given, others = parser.parse_known_args(words)
+    if others and not has_others:
+        parser.error(f"unrecognized arguments: {' '.join(others)}")
+    given.others, given.error = others, parser.error
+    if "program" in options:
+        given.program = os.path.abspath(given.program or datacube())
+    return given
+
+
+class Tally:
+    """What passed and what failed."""
+
+    def __init__(self):
+        self.passed = self.failed = 0
+
+    def count(self, is_right):
+        """Counts one thing that was looked at."""
+        self.passed, self.failed = self.passed + bool(is_right), self.failed + (not is_right)
+
+    def note(self, is_right, what):
+        """Counts it, and says what it is."""
+        self.count(is_right)
+        print(f"{'ok     ' if is_right else 'FAILED '} {what}", flush=True)
+
+    def end(self):
+        """Says how many passed and failed, in the last line; gives the status."""
+        print(f"{self.passed} passed, {self.failed} failed")
+        return 1 if self.failed or not self.passed else 0
 
 
 class Room:
@@ -63,12 +117,13 @@ class Room:
 
     def write(self, name, data):
         """Writes a file, and gives its name."""
-        with open(f"{self.folder}/{name}", "wb") as file:
-            file.write(data)
+        write(self.path(name), data)
         return name
 
-    def run(self, words, given=b""):
+    def path(self, name):
+        return f"{self.folder}/{name}"
+
+    def run(self, words, given=b"", seconds=SECONDS):
         """The status of the program, its output and its standard error."""
-        how = {"cwd": self.folder, "stdout": subprocess.PIPE, "stderr": subprocess.PIPE, "timeout": SECONDS}
-        ran = subprocess.run([self.program, *words], input=given, **how)
+        ran = subprocess.run([self.program, *words], cwd=self.folder, input=given, capture_output=True, timeout=seconds)
         return ran.returncode, ran.stdout, ran.stderr

@@ -12,7 +12,9 @@ import os
 import re
 import sys
 
-ROOT = os.path.dirname(os.path.dirname(os.path.realpath(__file__)))
+sys.dont_write_bytecode = True
+import programs
+
 # the crates of the library, from the values up
 CRATES = ["cube_core", "cube_files", "cube_feed", "cube_values", "cube_cells", "cube_ledger", "cube_rings", "cube_build", "cube_console", "cube_lines",
           "cube_text", "cube_tool", "cube_page", "cube_live", "cube_merge", "cube_library", "cube_store", "cube_store_commands"]
@@ -50,8 +52,7 @@ class Module:
     """What a file has: its calls, its types with their variants, what it re-exports, and its public modules."""
 
     def __init__(self, path):
-        with open(path, encoding="utf-8") as file:
-            self.text = file.read()
+        self.text = programs.text_at(path)
         about = "\n".join(it[3:].strip() for it in self.text.splitlines() if it.startswith("//!"))
         self.about = text_of(about.split("\n\n")[0].splitlines())
         self.calls, self.types = [], {}
@@ -136,7 +137,7 @@ class Crate:
     """A crate: its modules by their paths, and what of them is public."""
 
     def __init__(self, name):
-        self.name, self.source = name, f"{ROOT}/crates/{name}/src"
+        self.name, self.source = name, f"{programs.ROOT}/crates/{name}/src"
         self.modules = {}
         for folder, _, files in os.walk(self.source):
             for file in files:

@@ -7,7 +7,6 @@ pytest runs them, under Debian's Python or the one that runs this, whichever has
 `python3-pytest-xdist` is installed; it takes its own options too. Where there is no pytest, unittest does. `--long` is the long
 form of the tests that take minutes. The last line is `N passed, M failed`.
 """
-import argparse
 import ast
 import os
 import re
@@ -37,15 +36,11 @@ def unittests():
 
 
 def main():
-    parser = argparse.ArgumentParser(description=__doc__, formatter_class=argparse.RawDescriptionHelpFormatter)
-    parser.add_argument("--program")
-    parser.add_argument("--long", action="store_true")
-    given, words = parser.parse_known_args()
-    program = os.path.abspath(given.program or programs.datacube())
-    command = programs.python_package(program, *(["--long"] if given.long else []), *words)
+    given = programs.words_of(__doc__, has_others=True, program=None, long=False)
+    command = programs.python_package(given.program, *(["--long"] if given.long else []), *given.others)
     if command:
         return subprocess.run(command, cwd=programs.ROOT).returncode
-    os.environ.update({"DATACUBE": program, **({"DATACUBE_LONG": "1"} if given.long else {})})
+    os.environ.update({"DATACUBE": given.program, **({"DATACUBE_LONG": "1"} if given.long else {})})
     passed, failed = unittests()
     print(f"{passed} passed, {failed} failed")
     return 1 if failed else 0

@@ -10,10 +10,8 @@ readers and with six in turn (3 rounds of each), each of which asks for the whol
 has it. RANDOM in PATH is a number below 250, another one each time. Needs Debian's packages postgresql, python3-psycopg2,
 python3-aiohttp and python3-prometheus-client; where one isn't there, the status is 77.
 """
-import argparse
 import contextlib
 import http.client
-import importlib.util
 import multiprocessing
 import os
 import random
@@ -21,14 +19,12 @@ import signal
 import statistics
 import subprocess
 import sys
-import tempfile
 import threading
 import time
 
 sys.dont_write_bytecode = True
 import postgres_speed
 import programs
-import sql
 
 ROOT = programs.ROOT
 CITIES, PRODUCTS = 250, 500
@@ -77,20 +73,9 @@ def read(port, path, readers, ended, counts):
 
 def probed(bench, port, count):
     """The seconds from the end of each commit to the end of the answer that has it."""
-    import psycopg2
-
     connection = http.client.HTTPConnection("127.0.0.1", port)
-    with contextlib.closing(psycopg2.connect(bench.dsn)) as database, database.cursor() as cursor:
-        for at in range(count):
-            cursor.execute("INSERT INTO sales (city, product, cents) VALUES (%s, 'probe', 1)", [f"probe {time.monotonic_ns()}"])
-            cursor.execute("SELECT city FROM sales WHERE id = lastval()")
-            city = cursor.fetchone()[0].replace(" ", "%20")
-            database.commit()
-            start = time.perf_counter()
-            while ask(connection, f"/slice.csv?city={city}")[1].count(b"\n") < 2:
-                time.sleep(0.0005)
-            yield time.perf_counter() - start
-            time.sleep(0.01)
+    path_of = lambda city: f"/slice.csv?city={city.replace(' ', '%20')}"
+    return postgres_speed.probed(bench, count, lambda city, _: ask(connection, path_of(city))[1].count(b"\n") > 1)
 
 
 def with_readers(bench, port, path, probes, readers):
@@ -110,27 +95,12 @@ def with_readers(bench, port, path, probes, readers):
 
 
 def main():
-    parser = argparse.ArgumentParser(description=__doc__, formatter_class=argparse.RawDescriptionHelpFormatter)
-    for name, number in (("rows", 300_000), ("rate", 500), ("probes", 200), ("readers", 6), ("rounds", 3)):
-        parser.add_argument(f"--{name}", type=int, default=number)
-    parser.add_argument("--path", default="/cube.csv")
-    given = parser.parse_args()
-    lacks = [it for it in MODULES if not importlib.util.find_spec(it)] + ([] if sql.newest_server() else ["postgresql"])
-    if lacks:
-        print(f"{', '.join(lacks)}: not there for this Python")
-        return 77
-    folder = lambda: tempfile.TemporaryDirectory(prefix="datacube-speed-")
-    with folder() as room, folder() as ours, sql.Server(sql.newest_server(), room, postgres_speed.SETTINGS) as server:
-        bench = postgres_speed.Bench(server, ours, given.rows, TABLE)
-        without, among = [], []
-        with served(bench) as port:
-            writing = bench.writing(3600, "-R", str(given.rate))
-            time.sleep(2)
-            for _ in range(given.rounds):
-                without += probed(bench, port, given.probes)
-                among += with_readers(bench, port, given.path, given.probes, given.readers)
-            writing.terminate()
-            writing.wait()
+    given = programs.words_of(__doc__, rows=300_000, rate=500, probes=200, readers=6, rounds=3, path="/cube.csv")
+    without, among = [], []
+    with postgres_speed.private_bench(given.rows, TABLE, *MODULES) as bench, served(bench) as port, bench.busy(given.rate):
+        for _ in range(given.rounds):
+            without += probed(bench, port, given.probes)
+            among += with_readers(bench, port, given.path, given.probes, given.readers)
     postgres_speed.said("from commit to answer, without readers", without)
     postgres_speed.said(f"from commit to answer, with {given.readers} readers", among)
     print(f"the median is {(statistics.median(among) - statistics.median(without)) * 1000:.1f} ms later with readers")

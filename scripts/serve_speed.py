@@ -10,7 +10,6 @@ a second, `--together` how many one request has. `--whole` is how many more read
 it (`scripts/readers_speed.py` does so with a follower). The server runs on the processors of `--server`, the clients on those of
 `--clients`, as taskset takes them. It needs python3-aiohttp and python3-prometheus-client, of the Python that runs it.
 """
-import argparse
 import asyncio
 import multiprocessing
 import os
@@ -26,7 +25,6 @@ import workloads
 
 ROOT = programs.ROOT
 RECORDS, CARDS, MEASURES = workloads.WORKLOADS["tall"][:3]
-DIMENSIONS = [f"d{at + 1}" for at in range(len(CARDS))]
 
 
 class Client:
@@ -54,7 +52,7 @@ class Client:
 
 def path_of(pick):
     at = pick.randrange(len(CARDS))
-    return f"/slice?{DIMENSIONS[at]}=value-{int(CARDS[at] * pick.random() ** 1.5)}"
+    return f"/slice?d{at + 1}=value-{int(CARDS[at] * pick.random() ** 1.5)}"
 
 
 async def read(port, token, readers, rate, seconds):
@@ -89,7 +87,7 @@ async def change(port, token, rate, together, seconds):
 
     async def one():
         client = free.pop() if free else await Client.of(port, token)
-        rows = "".join(f"2,I,n{next(ids)},{values(pick)}\n" for _ in range(together))
+        rows = "".join(f"2,I,n{next(ids)},{workloads.values(pick, CARDS, MEASURES)}\n" for _ in range(together))
         found = await client.ask("POST", "/changes", rows.encode())
         free.append(client)
         return found
@@ -100,11 +98,6 @@ async def change(port, token, rate, together, seconds):
     return await asyncio.gather(*tasks)
 
 
-def values(pick):
-    texts = [f"value-{int(card * pick.random() ** 1.5)}" for card in CARDS]
-    return ",".join(texts + [str(pick.randint(*ends)) for ends in MEASURES.values()])
-
-
 def work(name, cpus, out, *given):
     os.sched_setaffinity(0, cpus)
     out.put((name, asyncio.run({"reads": read, "posts": change, "whole cubes": read_whole}[name](*given))))
@@ -112,8 +105,7 @@ def work(name, cpus, out, *given):
 
 def seconds_of(process):
     """The seconds of a processor that a process has taken."""
-    with open(f"/proc/{process}/stat", encoding="ascii") as file:
-        fields = file.read().rpartition(")")[2].split()
+    fields = programs.text_at(f"/proc/{process}/stat").rpartition(")")[2].split()
     return (int(fields[11]) + int(fields[12])) / os.sysconf("SC_CLK_TCK")
 
 
@@ -122,22 +114,11 @@ def share(times, part):
 
 
 def main():
-    parser = argparse.ArgumentParser(description=__doc__, formatter_class=argparse.RawDescriptionHelpFormatter)
-    for name, value in (("facts", 20000), ("readers", 32), ("reads", 1000), ("changes", 1000), ("together", 10), ("whole", 0), ("seconds", 10)):
-        parser.add_argument(f"--{name}", type=int, default=value)
-    parser.add_argument("--server", default="0,1")
-    parser.add_argument("--clients", default="2,3")
-    given = parser.parse_args()
+    given = programs.words_of(__doc__, facts=20000, readers=32, reads=1000, changes=1000, together=10, whole=0, seconds=10, server="0,1", clients="2,3")
     cpus = [int(it) for it in given.clients.split(",")]
     with tempfile.TemporaryDirectory(prefix="serve-") as folder:
-        pick = random.Random(1)
-        with open(f"{folder}/feed.csv", "w", encoding="utf-8") as out:
-            out.write(",".join(["op", "id", *DIMENSIONS, *MEASURES]) + "\n")
-            out.writelines(f"I,{at},{values(pick)}\n" for at in range(given.facts))
-        with open(f"{folder}/schema.toml", "w", encoding="utf-8") as out:
-            sums = [f"{kind}({name})" for name in MEASURES for kind in ("sum", "min", "max", "avg")]
-            out.write(f"dimensions = {DIMENSIONS!r}\nmeasures = {list(MEASURES)!r}\naggregates = {['count(*)', *sums][:16]!r}\n")
-        words = [sys.executable, "-m", "jackraisin.serve", "schema.toml", "feed.csv", "--store", "sales.db", "--listen", "127.0.0.1:0"]
+        files = workloads.make(folder, "tall", 1, given.facts / RECORDS)
+        words = [sys.executable, "-m", "jackraisin.serve", *files, "--store", "sales.db", "--listen", "127.0.0.1:0"]
         env = {**os.environ, "PYTHONPATH": f"{ROOT}/python/src", "DATACUBE": programs.datacube()}
         server = subprocess.Popen(["taskset", "-c", given.server, *words], cwd=folder, env=env, stdout=subprocess.PIPE, stderr=subprocess.PIPE, text=True)
         address = server.stdout.readline().strip()

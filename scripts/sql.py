@@ -14,7 +14,7 @@ The server is begun for this run alone, in a folder of its own, with a socket th
 is run as root. Records that PostgreSQL can't hold, for a NUL or for bytes that aren't UTF-8, are left out of the
 feeds, and it is said how many. Needs Debian's package postgresql, of version 13 or later, and Python 3.11 or later.
 """
-import argparse
+import contextlib
 import csv
 import glob
 import os
@@ -316,17 +316,13 @@ class Server:
         for _ in range(3000):
             if self.process.poll() is not None:
                 break
-            try:
-                with open(f"{self.room}/data/postmaster.pid", encoding="utf-8") as file:
-                    lines = file.read().split()
-            except FileNotFoundError:
-                lines = []
-            if lines and (lines[0], lines[-1]) == (str(self.process.pid), "ready"):
-                return
+            with contextlib.suppress(FileNotFoundError):
+                lines = programs.text_at(f"{self.room}/data/postmaster.pid").split()
+                if lines and (lines[0], lines[-1]) == (str(self.process.pid), "ready"):
+                    return
             time.sleep(0.01)
         self.process.kill()
-        with open(f"{self.room}/log", encoding="utf-8", errors="replace") as log:
-            sys.exit(f"the server doesn't answer: {log.read().strip()}")
+        sys.exit(f"the server doesn't answer: {programs.read(f'{self.room}/log').decode(errors='replace').strip()}")
 
     def ask(self, script):
         """What psql says of a script."""
@@ -345,8 +341,7 @@ class Server:
 
 def read_schema(path):
     """The schema of a file that the program takes."""
-    with open(path, "rb") as file:
-        table = tomllib.load(file)
+    table = tomllib.loads(programs.text_at(path))
     if "feed" in table:
         sys.exit(f"{path}: with [feed] columns are known by name, and this script reads them in the order of the schema alone")
     aggregates = [(kind, table["measures"].index(rest[:-1]) if rest != "*)" else None)
@@ -368,17 +363,17 @@ def is_held(fields):
     return b"\0" not in whole and oracle.is_text(whole)
 
 
-class Trials:
+class Trials(programs.Room):
     """What passed and what failed, and what was seen on the way."""
 
-    def __init__(self, server, program, room):
-        self.server, self.program, self.room = server, program, room
-        self.passed = self.failed = self.records = self.lines = self.refused = self.left_out = self.conditions = 0
+    def __init__(self, server, program, folder):
+        super().__init__(program, folder)
+        self.server, self.tally = server, programs.Tally()
+        self.records = self.lines = self.refused = self.left_out = self.conditions = 0
 
     def note(self, name, why):
         """Counts a case, which failed where it says why."""
-        self.passed, self.failed = self.passed + (why is None), self.failed + (why is not None)
-        print(f"{'FAILED ' if why else 'ok     '} {name}" + (f": {why}" if why else ""), flush=True)
+        self.tally.note(not why, name + (f": {why}" if why else ""))
 
     def trial(self, name, schema_path, paths, words=()):
         """Compares over a schema's feeds, of the facts that the words of conditions say, and counts that as a case."""
@@ -387,10 +382,6 @@ class Trials:
         except (OSError, RuntimeError, csv.Error, subprocess.SubprocessError) as error:
             why = str(error)
         self.note(name, why)
-
-    def run(self, words):
-        how = {"stdin": subprocess.DEVNULL, "stdout": subprocess.PIPE, "stderr": subprocess.PIPE, "timeout": SECONDS}
-        return subprocess.run([self.program, *words], **how)
 
     def kept(self, records):
         """The records that PostgreSQL can hold; the others are counted."""
@@ -407,10 +398,10 @@ class Trials:
             feeds.append(kept[1:])
             files.append(path if kept == records else self.write(f"kept{at}.csv", oracle.encode(kept)))
         some = [part for it in words for part in (b"--where", it)]
-        ran = {it: self.run([it, *options, schema_path, *files]) for it, options in (("refusals", []), ("print", some))}
-        for it in ran.values():
-            if it.returncode not in (0, 4):
-                return it.stderr.decode(errors="replace").strip()
+        ran = {it: self.run([it, *options, schema_path, *files], seconds=SECONDS) for it, options in (("refusals", []), ("print", some))}
+        for status, _, err in ran.values():
+            if status not in (0, 4):
+                return err.decode(errors="replace").strip()
         schema = read_schema(schema_path)
         if any(len(it.encode()) > LONGEST_NAME or "\0" in it for it in schema.dimensions + schema.measures):
             return f"PostgreSQL holds no name of a column with a NUL or more than {LONGEST_NAME} bytes"
@@ -419,14 +410,8 @@ class Trials:
         self.records += sum(map(len, feeds))
         self.refused += wanted["refusals"].count(b"\n") - 1
         self.lines += wanted["print"].count(b"\n") - 1
-        faults = (differs(it, ran[it], status, wanted[it]) for it in ran)
-        return next((it for it in faults if it), None)
-
-    def write(self, name, data):
-        path = f"{self.room}/{name}"
-        with open(path, "wb") as file:
-            file.write(data)
-        return path
+        faults = (differs(it, *ran[it][:2], status, wanted[it]) for it in ran)
+        return next(filter(None, faults), None)
 
     def seen(self):
         said = f"{self.records} records, {self.refused} refused, {self.lines} lines of cubes, {self.conditions} conditions"
@@ -434,28 +419,27 @@ class Trials:
         return said + (left if self.left_out else "")
 
 
-def differs(command, ran, status, wanted):
-    """Says how a command's answer differs from what SQL says, or gives None."""
-    if ran.returncode != status:
-        return f"{command} ends with status {ran.returncode}, and not {status}"
-    if ran.stdout == wanted:
+def differs(command, got, out, status, wanted):
+    """Says how a command's status and output differ from what SQL says, or gives None."""
+    if got != status:
+        return f"{command} ends with status {got}, and not {status}"
+    if out == wanted:
         return None
-    place = len(os.path.commonprefix([ran.stdout, wanted]))
-    ours, theirs = (it[max(place - 40, 0) : place + 80] for it in (ran.stdout, wanted))
+    place = len(os.path.commonprefix([out, wanted]))
+    ours, theirs = (it[max(place - 40, 0) : place + 80] for it in (out, wanted))
     return f"{command} differs in line {wanted.count(10, 0, place) + 1}: it has {ours!r}, and SQL {theirs!r}"
 
 
 def examples(trials):
     """The examples, and whether docs/SQL.md shows what is asked over the second."""
-    sample = trials.write("sample.toml", oracle.SAMPLE.toml())
+    sample = trials.path(trials.write("sample.toml", oracle.SAMPLE.toml()))
     trials.trial("examples/first", sample, [f"{ROOT}/examples/first/feed.csv"])
     shop = f"{ROOT}/examples/shop"
     feeds = [f"{shop}/{it}.csv" for it in ("market", "street", "online")]
     trials.trial("examples/shop", f"{shop}/schema.toml", feeds)
     for words in (["city=Leeds,York"], ["city!=York", "cents>=400"], ["city=\\N"], ["product<tea", "pieces!=\\N,1"]):
         trials.trial(f"examples/shop, {' and '.join(words)}", f"{shop}/schema.toml", feeds, words=[it.encode() for it in words])
-    with open(f"{ROOT}/docs/SQL.md", encoding="utf-8") as file:
-        page = file.read()
+    page = programs.text_at(f"{ROOT}/docs/SQL.md")
     parts = [IS_NUMBER, IS_DECIMAL, FRACTION, RECORDS, *statements(read_schema(f"{shop}/schema.toml")).values()]
     missing = [it.strip() for it in parts if it.strip() not in page]
     trials.note("docs/SQL.md shows what is asked of the shop", f"it lacks {missing[0]!r}" if missing else None)
@@ -478,32 +462,25 @@ def show(program, path, files):
 
 
 def main():
-    asks = argparse.ArgumentParser(description=__doc__, formatter_class=argparse.RawDescriptionHelpFormatter)
-    asks.add_argument("--program")
-    asks.add_argument("--show", action="store_true")
-    asks.add_argument("schema", nargs="?")
-    asks.add_argument("feed", nargs="*")
-    given = asks.parse_args()
+    given = programs.words_of(__doc__, program=None, show=False, schema={"nargs": "?"}, feed={"nargs": "*"})
     if given.show and not given.schema:
-        asks.error("--show wants a schema")
+        given.error("--show wants a schema")
     binaries = newest_server()
     if not tomllib or not binaries and not given.show:
         print("Debian's package postgresql isn't installed" if tomllib else "Python 3.11 or later isn't installed")
         print("0 passed, 0 failed")
         return 77
-    program = os.path.abspath(given.program or programs.datacube())
     if given.show:
-        return show(program, given.schema, given.feed)
+        return show(given.program, given.schema, given.feed)
     folder = lambda: tempfile.TemporaryDirectory(prefix="datacube-sql-")
     with folder() as room, folder() as ours, Server(binaries, room) as server:
-        trials = Trials(server, program, ours)
+        trials = Trials(server, given.program, ours)
         if given.schema:
-            trials.trial(given.schema, given.schema, given.feed)
+            trials.trial(given.schema, os.path.abspath(given.schema), [os.path.abspath(it) for it in given.feed])
         else:
             examples(trials)
     print(f"        {trials.seen()}")
-    print(f"{trials.passed} passed, {trials.failed} failed")
-    return 1 if trials.failed else 0
+    return trials.tally.end()
 
 
 if __name__ == "__main__":

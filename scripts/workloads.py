@@ -5,9 +5,13 @@
 
 writes the schema and the feeds of one to a folder, and prints their paths.
 """
-import argparse
 import os
 import random
+import sys
+
+sys.dont_write_bytecode = True
+import oracle
+import programs
 
 # records, the number of values of each dimension, measures with their ranges, shares of updates and of deletes
 WORKLOADS = {
@@ -17,13 +21,6 @@ WORKLOADS = {
     "many": (320_000, (40, 10, 10, 6), {"amount": (1, 100_000)}, 0.2, 0.1),
     "sparse": (75_000, (2000, 1000, 500, 300), {"amount": (-(10**12), 10**12)}, 0, 0),
 }
-
-
-def write_schema(path, dimensions, measures):
-    quoted = lambda names: "[" + ", ".join(f'"{name}"' for name in names) + "]"
-    aggregates = ["count(*)"] + [f"{kind}({name})" for name in measures for kind in ("sum", "min", "max", "avg")]
-    with open(path, "w") as out:
-        out.write(f"dimensions = {quoted(dimensions)}\nmeasures = {quoted(measures)}\naggregates = {quoted(aggregates)}\n")
 
 
 class Source:
@@ -50,6 +47,12 @@ class Source:
             self.out.write(f"I,{name},{values}\n")
 
 
+def values(pick, cards, measures):
+    """The fields of a fact: of each dimension one of so many values, of each measure a number in its range."""
+    texts = [f"value-{int(card * pick.random() ** 1.5)}" for card in cards]
+    return ",".join(texts + [str(pick.randint(*ends)) for ends in measures.values()])
+
+
 def make(folder, name, sources, scale):
     """Writes the schema and the feeds of a workload; answers their paths."""
     return make_of(folder, name, WORKLOADS[name], sources, scale)
@@ -61,26 +64,20 @@ def make_of(folder, name, shape, sources, scale):
     pick = random.Random(f"{name} {sources}")
     dimensions = [f"d{at + 1}" for at in range(len(cards))]
     schema = f"{folder}/schema.toml"
-    write_schema(schema, dimensions, measures)
+    aggregates = [("count", None), *((kind, at) for at in range(len(measures)) for kind in ("sum", "min", "max", "avg"))]
+    programs.write(schema, oracle.Schema(dimensions, list(measures), aggregates).toml())
     header = ",".join(["op", "id", *dimensions, *measures]) + "\n"
     paths = [f"{folder}/feed{at + 1}.csv" for at in range(sources)]
     feeds = [Source(path, header) for path in paths]
     for at in range(int(records * scale)):
-        texts = [f"value-{int(card * pick.random() ** 1.5)}" for card in cards]
-        numbers = [str(pick.randint(*ends)) for ends in measures.values()]
-        feeds[at % sources].change(pick, ",".join(texts + numbers), updates, deletes)
+        feeds[at % sources].change(pick, values(pick, cards, measures), updates, deletes)
     for feed in feeds:
         feed.out.close()
     return [schema, *paths]
 
 
 def main():
-    parser = argparse.ArgumentParser(description=__doc__, formatter_class=argparse.RawDescriptionHelpFormatter)
-    parser.add_argument("workload", choices=WORKLOADS)
-    parser.add_argument("folder")
-    parser.add_argument("--sources", type=int, default=1)
-    parser.add_argument("--scale", type=float, default=1.0)
-    words = parser.parse_args()
+    words = programs.words_of(__doc__, workload={"choices": WORKLOADS}, folder={}, sources=1, scale=1.0)
     os.makedirs(words.folder, exist_ok=True)
     print(*make(words.folder, words.workload, words.sources, words.scale))
 

@@ -11,20 +11,19 @@ import tempfile
 
 sys.dont_write_bytecode = True
 import edits
+import programs
 
 
 def main():
     with tempfile.TemporaryDirectory(prefix="wrong-bodies-") as copy:
         edits.copy_sources(copy)
-        trials = edits.Trials(copy, "wrong-bodies", names=sys.argv[1:])
+        trials, tally = edits.Trials(copy, "wrong-bodies", names=sys.argv[1:]), programs.Tally()
         proofs = subprocess.Popen(["rt", "ci"], cwd=copy, stdin=subprocess.DEVNULL, stdout=subprocess.PIPE, stderr=subprocess.STDOUT, text=True)
         for line in proofs.stdout:
             trials.see(line)
-        found = trials.results()
-    print(*(it.text for it in found), sep="\n")
-    passed = sum(it.is_refused for it in found)
-    print(f"{passed} passed, {len(found) - passed} failed")
-    return 0 if found and passed == len(found) else 1
+        for it in trials.results():
+            tally.note(it.is_refused, it.text)
+    return tally.end()
 
 
 if __name__ == "__main__":

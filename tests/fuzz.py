@@ -6,7 +6,6 @@
 The smallest case of what fails is written to FOLDER, the one for temporary files where it is left out, as a file in the form of
 cases/*.case. A test that failed is left out from then on. The last line says how many cases passed, and how many tests failed.
 """
-import argparse
 import glob
 import os
 import random
@@ -28,9 +27,8 @@ COUNTS = re.compile(r"^(\d+) passed, (\d+) failed$", re.MULTILINE)
 def with_generated_tests():
     """The files that have generated tests."""
     for path in sorted(glob.glob(f"{HERE}/test_*.py")):
-        with open(path, encoding="utf-8") as file:
-            if "@tries(" in file.read():
-                yield path
+        if "@tries(" in programs.text_at(path):
+            yield path
 
 
 def run(words, seed, room, failed):
@@ -49,21 +47,14 @@ def kept(room, to, seed):
     for path in glob.glob(f"{room}/*.case"):
         name = os.path.basename(path).partition(".")[0]
         place = shutil.move(path, f"{to}/{name}-{seed}.case")
-        with open(place, encoding="utf-8") as file:
-            print(f"FAILED {name}, seed {seed}; the smallest case is {place}:\n{file.read()}", flush=True)
+        print(f"FAILED {name}, seed {seed}; the smallest case is {place}:\n{programs.text_at(place)}", flush=True)
         tests.append(name)
     return tests
 
 
 def main():
-    asks = argparse.ArgumentParser(description=__doc__, formatter_class=argparse.RawDescriptionHelpFormatter)
-    asks.add_argument("--minutes", type=float, required=True)
-    asks.add_argument("--program")
-    asks.add_argument("--times", type=float, default=1)
-    asks.add_argument("--seed", type=int, default=random.randrange(2**32), help="the first seed")
-    asks.add_argument("--to", default=tempfile.gettempdir())
-    words = asks.parse_args()
-    words.program = os.path.abspath(words.program or programs.datacube())
+    words = programs.words_of(__doc__, program=None, times=1.0, seed=random.randrange(2**32), to=tempfile.gettempdir(),
+                              **{"--minutes": {"type": float, "required": True}})
     end, seed, passed, failed = time.monotonic() + 60 * words.minutes, words.seed, 0, []
     print(f"the first seed is {seed}", flush=True)
     while time.monotonic() < end:
