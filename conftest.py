@@ -17,8 +17,8 @@ import pytest
 
 sys.path.insert(0, f"{os.path.dirname(os.path.realpath(__file__))}/scripts")
 sys.dont_write_bytecode = True
-# (the status of a part of the gate that says which packages it lacks)
-LEFT_OUT = 77
+import programs  # noqa: E402
+
 # What takes longest, the longest first: files, classes, tests, and those that share a browser.
 LONGEST = (
     "test_types", "Wheels", "browser", "OfAFollower", "OfASession", "test_spoiled_cubes", "test_sessions_over_a_store", "test_a_package", "test_listening",
@@ -116,7 +116,7 @@ class Tally:
 
     def pytest_sessionfinish(self, session, exitstatus):
         if exitstatus in (pytest.ExitCode.OK, pytest.ExitCode.NO_TESTS_COLLECTED) and self.left_out and not self.passed:
-            session.exitstatus = LEFT_OUT
+            session.exitstatus = programs.LEFT_OUT
 
     def pytest_unconfigure(self):
         for name, file in self.files.items():

@@ -9,6 +9,7 @@ import threading
 import time
 
 import programs
+from processes import memory_of, of_family, spent_by
 
 ROOT = programs.ROOT
 DATACUBE = programs.datacube()
@@ -75,41 +76,6 @@ class Watch(threading.Thread):
         self.ended.set()
         self.join()
         return self.most
-
-
-def of_family(first, figure):
-    """A figure of a process, of those that it started, and so on, added up; those that have ended meanwhile have none."""
-    parents = {}
-    for process in filter(str.isdigit, os.listdir("/proc")):
-        parents.setdefault(told(lambda: int(stat_of(process)[1])), []).append(int(process))
-    family = [first]
-    for process in family:
-        family += parents.get(process, [])
-    return sum(told(lambda: figure(process)) for process in family)
-
-
-def told(figure):
-    """A figure of a process, 0 where it has ended."""
-    try:
-        return figure()
-    except OSError:
-        return 0
-
-
-def stat_of(process):
-    with open(f"/proc/{process}/stat", encoding="utf-8") as file:
-        return file.read().rpartition(")")[2].split()
-
-
-def spent_by(process):
-    """Processor seconds of a process, and of those that it started and that have ended."""
-    return sum(map(int, stat_of(process)[11:15])) / os.sysconf("SC_CLK_TCK")
-
-
-def memory_of(process):
-    """A process's memory in MiB, with its share of what it has with others."""
-    with open(f"/proc/{process}/smaps_rollup", encoding="utf-8") as file:
-        return next((int(line.split()[1]) for line in file if line.startswith("Pss:")), 0) / 1024
 
 
 def best_of(ways, runs):

@@ -58,45 +58,26 @@ def cells_of(path, is_ours):
     return cells
 
 
-class Ours:
-    name = "datacube table"
-
-    def __init__(self, file, threads):
-        self.words = [DATACUBE, "table", file, "--threads", str(threads), "--by", "city,product,when:7", "--of", "price:2"]
-
-    def run(self, out):
-        return run_into(self.words, out)
-
-
-class Table:
-    name = "R, data.table"
-
-    def __init__(self, file, threads):
-        self.file, self.threads = file, threads
-
-    def run(self, out):
-        return run_into(["Rscript", "--vanilla", "-e", R.format(file=self.file, out=out, threads=self.threads)], os.devnull)
-
-
-class Postgres:
-    name = "PostgreSQL"
-
-    def __init__(self, file, threads, server):
-        self.file, self.threads, self.server = file, threads, server
-
-    def run(self, out):
-        script = POSTGRES.format(file=self.file, out=out, threads=self.threads).encode()
-        return run_at(self.server.process.pid, lambda: self.server.ask(script))
+def programs_of(file, threads, server):
+    """What makes the cube, by the programs' names: calls that write it to a file, and give what that used."""
+    how = {"file": file, "threads": threads}
+    ours = [DATACUBE, "table", file, "--threads", str(threads), "--by", "city,product,when:7", "--of", "price:2"]
+    found = {"datacube table": lambda out: run_into(ours, out)}
+    if DataTable.version():
+        found["R, data.table"] = lambda out: run_into(["Rscript", "--vanilla", "-e", R.format(out=out, **how)], os.devnull)
+    if server:
+        found["PostgreSQL"] = lambda out: run_at(server.process.pid, lambda: server.ask(POSTGRES.format(out=out, **how).encode()))
+    return found
 
 
 def rounds(programs, room, runs):
     """The best of each program, and whether all have the cells of the first."""
     best, cells, same = {}, None, True
     for number in range(runs):
-        for at, it in enumerate(programs):
+        for at, (name, run) in enumerate(programs.items()):
             out = f"{room}/out{at}.csv"
-            use = it.run(out)
-            best[it.name] = Use(*map(min, use, best.get(it.name, use)))
+            use = run(out)
+            best[name] = Use(*map(min, use, best.get(name, use)))
             if number == 0:
                 found = cells_of(out, at == 0)
                 cells = cells or found
@@ -116,14 +97,9 @@ def measure(asked):
         os.chmod(room, 0o777)
         file = f"{room}/sales.csv"
         make(file, asked.lines)
-        programs = [Ours(file, asked.threads)]
-        if DataTable.version():
-            programs.append(Table(file, asked.threads))
-        if sql.newest_server():
-            os.mkdir(f"{room}/server")
-            server = servers.enter_context(sql.Server(sql.newest_server(), f"{room}/server"))
-            programs.append(Postgres(file, asked.threads, server))
-        best, same = rounds(programs, room, asked.runs)
+        os.mkdir(f"{room}/server")
+        server = servers.enter_context(sql.Server(sql.newest_server(), f"{room}/server")) if sql.newest_server() else None
+        best, same = rounds(programs_of(file, asked.threads, server), room, asked.runs)
         print(f"{asked.lines} lines, {os.path.getsize(file) / 1e6:.1f} MB, {asked.threads} threads, best of {asked.runs}")
         head("", "wall, processor, memory")
         for name, use in best.items():

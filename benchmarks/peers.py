@@ -10,6 +10,7 @@ import subprocess
 import sys
 import time
 
+import programs
 import sql
 from measure import run_at, run_into
 
@@ -110,8 +111,7 @@ class ClickHouse:
             port = free.getsockname()[1]
         self.client = ["clickhouse-client", "--port", str(port), "--max_threads", str(self.threads)]
         config = f"{self.room}/config.xml"
-        with open(config, "w", encoding="utf-8") as file:
-            file.write(CLICKHOUSE.format(room=self.room, port=port))
+        programs.write(config, CLICKHOUSE.format(room=self.room, port=port))
         server = [shutil.which("clickhouse-server", path=PATH), f"--config-file={config}"]
         self.process = subprocess.Popen(server, cwd=self.room, **SILENT)
         for _ in range(100):
@@ -198,13 +198,11 @@ class DataTable:
         call = lambda kind, of: ".N" if kind == "count" else f"{kind}({of})"
         pairs = [(kind, it) for it in work.measures for kind in OVER_CELLS]
         quoted = lambda names: listed(f'"{it}"' for it in names)
-        with open(f"{self.room}/job.R", "w", encoding="utf-8") as file:
-            file.write(TABLE.format(
-                threads=self.threads, dimensions=quoted(work.dimensions), measures=quoted(work.measures),
-                feeds=quoted(work.feeds), out=out,
-                base=listed(f"{kind}_{it} = {call(kind, it)}" for kind, it in pairs),
-                again=listed(f"{kind}_{it} = {OVER_CELLS[kind]}({kind}_{it})" for kind, it in pairs),
-                shown=quoted(answers(work, lambda kind, it: f"{kind}_{it}" if it else "n"))))
+        programs.write(f"{self.room}/job.R", TABLE.format(
+            threads=self.threads, dimensions=quoted(work.dimensions), measures=quoted(work.measures), feeds=quoted(work.feeds), out=out,
+            base=listed(f"{kind}_{it} = {call(kind, it)}" for kind, it in pairs),
+            again=listed(f"{kind}_{it} = {OVER_CELLS[kind]}({kind}_{it})" for kind, it in pairs),
+            shown=quoted(answers(work, lambda kind, it: f"{kind}_{it}" if it else "n"))))
         return run_into(["Rscript", "--vanilla", f"{self.room}/job.R"], f"{self.room}/said")
 
 

@@ -8,10 +8,12 @@ import sys
 import tempfile
 import time
 
+import programs
 import sql
 import workloads
 from measure import DATACUBE, run
 from oracle import digests_of
+from processes import say_times as said
 
 RECORDS, CARDS, MEASURES = workloads.WORKLOADS["tall"][:3]
 DIMENSIONS = [f"d{at + 1}" for at in range(len(CARDS))]
@@ -37,8 +39,8 @@ class Session:
 
     def most_memory(self):
         """The largest memory until now, in MiB."""
-        with open(f"/proc/{self.process.pid}/status", encoding="utf-8") as file:
-            return next(int(line.split()[1]) for line in file if line.startswith("VmHWM")) / 1024
+        lines = programs.text_at(f"/proc/{self.process.pid}/status").splitlines()
+        return next(int(line.split()[1]) for line in lines if line.startswith("VmHWM")) / 1024
 
     def end(self):
         self.process.stdin.close()
@@ -78,13 +80,6 @@ def cell_questions(pick, count):
         yield ("slice," + ",".join(cell) + "\n").encode()
 
 
-def said(name, seconds):
-    """A line of the middle, the 99th of a hundred, and the largest, in milliseconds."""
-    ordered = sorted(it * 1000 for it in seconds)
-    late = ordered[int(len(ordered) * 0.99) - (len(ordered) < 100)]
-    print(f"{name:44} median {statistics.median(ordered):9.3f} ms   99% {late:9.3f} ms   most {ordered[-1]:9.3f} ms", flush=True)
-
-
 def measure(schema, feeds, batches, many, options):
     """Measures a session over these feeds, by these options of `live`."""
     start = time.perf_counter()
@@ -118,9 +113,7 @@ def measure_postgres(feeds, runs):
     with tempfile.TemporaryDirectory() as room, sql.Server(sql.newest_server(), room, [*sql.SETTINGS, "shared_buffers=1GB", "work_mem=1GB"]) as server:
         server.ask(f"CREATE UNLOGGED TABLE facts (op text, id text PRIMARY KEY, {', '.join(columns)});".encode())
         for feed in feeds:
-            with open(feed, "rb") as file:
-                rows = file.read().partition(b"\n")[2]
-            server.ask(b"COPY facts FROM STDIN (FORMAT csv);\n" + rows + b"\\.\n")
+            server.ask(b"COPY facts FROM STDIN (FORMAT csv);\n" + programs.read(feed).partition(b"\n")[2] + b"\\.\n")
         server.ask(f"ANALYZE facts; CREATE MATERIALIZED VIEW kept AS {cube};".encode())
         change = "UPDATE facts SET amount = amount + 1 WHERE id IN (SELECT id FROM facts LIMIT 1000);"
         timed = {"PostgreSQL: REFRESH of its CUBE": "REFRESH MATERIALIZED VIEW kept;",
@@ -254,8 +247,7 @@ def store(asked):
     the same table, with digests that were made before, in a log (WAL) that each commit syncs."""
     with tempfile.TemporaryDirectory(dir=asked.folder) as folder:
         schema, feed, store = f"{folder}/schema.toml", f"{folder}/feed.csv", lambda name: ["--store", f"{folder}/{name}.db"]
-        with open(schema, "w", encoding="utf-8") as file:
-            file.write(SCHEMA)
+        programs.write(schema, SCHEMA)
         print(f"{'a sync':52} {sync(folder, asked.answers):9.3f} ms")
         print(f"{'a change and an answer, no store':52} {one_by_one(schema, [], asked.answers):9.3f} ms")
         print(f"{'a change and an answer, a store':52} {one_by_one(schema, store('one'), asked.answers):9.3f} ms")
@@ -266,8 +258,7 @@ def store(asked):
         each = 1e6 / asked.changes
         print(f"{asked.changes} changes and an answer: {plain:.2f} s, with a store {kept:.2f} s, {(kept - plain) * each:.2f} µs each for storing them")
         print(f"{asked.changes} rows, SQLite by Python: {sqlite_in_bulk(f'{folder}/bulk_c.db', asked.changes) * each:.2f} µs each")
-        with open(feed, "wb") as file:
-            file.write(b"op,id,place,kind,amount\n" + b"".join(line[2:] for line in records.splitlines(keepends=True)))
+        programs.write(feed, b"op,id,place,kind,amount\n" + b"".join(line[2:] for line in records.splitlines(keepends=True)))
         stored, fed, empty = until_asked(schema, [], store("bulk")), until_asked(schema, [feed], []), until_asked(schema, [], [])
         print(f"until the first answer: {stored:.2f} s over the stored changes, {fed:.2f} s over a feed of the same, {empty:.3f} s over nothing")
         print(f"the store's file: {os.path.getsize(f'{folder}/bulk.db') / asked.changes:.1f} bytes a change")

@@ -9,27 +9,13 @@
 set -eu
 root=$(dirname -- "$(dirname -- "$(readlink -f -- "$0")")")
 . "$root/scripts/programs.sh"
-if [ "${1-}" = --jobs ]; then
-    export RT_JOBS="$2"
-else
-    export RT_JOBS="${RT_JOBS-$(checks_side_by_side)}"
-fi
+take_jobs "$@"
 out=$root/crates/datacube/out
 if ! mkdir -p "$out" || [ ! -w "$out" ]; then
     echo "build: there is no leave to write in $out"
     exit 1
 fi
-work=$(mktemp -d)
-trap 'rm -rf "$work"' EXIT
-trap 'exit 1' HUP INT TERM
-copy_crates "$root" "$work"
-
-if ! (cd "$work" && rt ci </dev/null >"$work/log" 2>&1); then
-    tail -n 20 "$work/log"
-    echo "build: not everything is proved, so nothing was built"
-    exit 1
-fi
-tail -n 1 "$work/log"
+prove_copy "$root" datacube "build: not everything is proved, so nothing was built"
 cp "$work/crates/datacube/out/datacube" "$out/datacube.new"
 rm -f "$out/datacube.txt"
 mv "$out/datacube.new" "$out/datacube"

@@ -211,8 +211,7 @@ def make(room, kind, name, what):
     if kind in ("file", "coded"):
         number, lines = what
         text = "".join(lines).replace("##", str(number))
-        with open(path, "wb") as file:
-            file.write(bytes_of(text) if kind == "coded" else text.encode())
+        programs.write(path, bytes_of(text) if kind == "coded" else text)
     elif kind == "folder":
         os.mkdir(path)
     elif kind == "locked":
@@ -223,8 +222,7 @@ def make(room, kind, name, what):
         os.link(f"{room}/{what}", path)
     elif kind == "bytes":
         start = programs.read(f"{room}/sample.toml")
-        with open(path, "wb") as file:
-            file.write(start + b"#" * (what - len(start)))
+        programs.write(path, start + b"#" * (what - len(start)))
 
 
 def wanted_of(what):

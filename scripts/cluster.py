@@ -25,7 +25,6 @@ import programs
 from programs import read, text_at, write
 
 DRIVER = f"{programs.ROOT}/cluster/datacube_dask.py"
-LEFT_OUT = 77
 NO_ROOM = r"datacube: (G1|G2|G4|G3 \d+ F1|killed)"
 # What the workers run: a share says that it begins, takes its time, and has the room that its worker has for it.
 PROGRAM = """#!/bin/sh
@@ -295,7 +294,7 @@ def main():
     program, why = words.program, lacking(words.program)
     if why:
         print(why)
-        return LEFT_OUT
+        return programs.LEFT_OUT
     tally = Tally()
     signal.signal(signal.SIGTERM, lambda *_: sys.exit(1))
     with tempfile.TemporaryDirectory(prefix="datacube-cluster-") as folder, Cluster(folder, program) as cluster:

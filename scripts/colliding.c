@@ -5,9 +5,8 @@
  * The feed is of two dimensions and a measure. KIND is the hash of the cells: `fold` (multiplies and folds words, with the
  * seed and the factor that many programs use), `fx` and `fnv` (from a seed of 0), `known` (the program's own, under
  * the words that SipHash makes of numbers under the key 0), or `none`: cells by chance, as many. `numbers` is a session
- * of one cell whose numbers collide by `fold`, and `any` one whose numbers come by chance. A key is four words of two codes,
- * and texts get codes in the order in which they come. Of a table with a power of 2 of groups, the lowest bits of a hash
- * choose the group.
+ * of one cell whose numbers collide by `fold`. A key is four words of two codes, and texts get codes in the order in which they
+ * come. Of a table with a power of 2 of groups, the lowest bits of a hash choose the group.
  */
 #include <stdint.h>
 #include <stdio.h>
@@ -98,12 +97,11 @@ static void cells(const char *kind, uint64_t lines) {
 
 /* Different numbers, then the least of them taken out, and others put in: the multiset becomes a table. A question makes
    a session apply what it was told. */
-static void numbers(int collide, uint64_t lines) {
+static void numbers(uint64_t lines) {
     uint64_t at = 0, groups = groups_of(lines);
     printf("1,I,least,w,a,-1\n");
     for (uint64_t number = 1; at + 3 < lines; number++) {
-        uint64_t is_taken = collide ? (hash_of("fold", &number, 1) & (groups - 1)) < groups / NARROW : drawn() % NARROW == 0;
-        if (is_taken) {
+        if ((hash_of("fold", &number, 1) & (groups - 1)) < groups / NARROW) {
             printf("1,I,%lu,w,a,%lu\n", at, number);
             if (++at == lines / 8) printf("1,D,least\n");
             if (at % 1000 == 0) printf("slice,\\A,\\A\n");
@@ -116,8 +114,8 @@ int main(int count, char **given) {
     if (count != 3) return 2;
     for (int at = 0; at < 9; at++) words[at] = sip(at);
     uint64_t lines = strtoull(given[2], NULL, 10);
-    if (!strcmp(given[1], "numbers") || !strcmp(given[1], "any")) {
-        numbers(!strcmp(given[1], "numbers"), lines);
+    if (!strcmp(given[1], "numbers")) {
+        numbers(lines);
         return 0;
     }
     printf("op,id,region,kind,amount\n");

@@ -1,4 +1,5 @@
 """Makes completions for shells from what the program's help says of its command line."""
+import collections
 import re
 
 SECTION = re.compile(r"^(\w+):\n((?:  .*\n?)+)", re.MULTILINE)
@@ -7,18 +8,12 @@ ARGUMENT = re.compile(r"^  [<\[](\w+)[>\]](\.\.\.)? +(.*)$")
 MADE = "made by scripts/documents.py from what the program says"
 
 
-class Option:
-    def __init__(self, short, long, value, about):
-        self.short, self.long, self.value, self.about = short, long, value, about
-
+class Option(collections.namedtuple("Option", "short long value about")):
     def is_file(self):
         return self.value == "FILE"
 
 
-class Argument:
-    def __init__(self, name, many, about):
-        self.name, self.is_many, self.about = name, bool(many), about
-
+class Argument(collections.namedtuple("Argument", "name many about")):
     def is_file(self):
         return self.name in ("SCHEMA", "FEED")
 
@@ -118,7 +113,7 @@ _datacube "$@"
 def zsh_arguments(command, codes):
     words = zsh_options(command.options)
     for at, it in enumerate(command.arguments, 1):
-        place = "*" if it.is_many else at
+        place = "*" if it.many else at
         choice = "_files" if it.is_file() else " "
         if it.name == "CODE":
             choice = "(" + " ".join(code.replace(" ", "\\ ") for code in codes) + ")"

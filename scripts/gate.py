@@ -18,17 +18,17 @@ import sys
 import tempfile
 import threading
 import time
+from unittest import mock
 
 sys.dont_write_bytecode = True
 import edits
+import processes
 import programs
 
 ROOT = programs.ROOT
 BUILT = f"{ROOT}/crates/datacube/out"
 RELEASE = f"{ROOT}/release/x86_64-linux"
 COUNTS = re.compile(r"(\d+) passed, (\d+) failed")
-# (the status of a part that says which packages it lacks)
-LEFT_OUT = 77
 # (most share their tests among as many processes as there are processors)
 PARTS_AT_ONCE = 3
 # (where files lie in memory, and the free bytes there from which on temporary files go there)
@@ -85,7 +85,7 @@ class Tally(programs.Tally):
     def add(self, status, last):
         """Adds up what a part's last line counts; a part without such a line, or with a status that it doesn't tell of,
         failed, but for one that was left out."""
-        if status == LEFT_OUT:
+        if status == programs.LEFT_OUT:
             print("left out")
             return
         found = COUNTS.fullmatch(last)
@@ -150,10 +150,8 @@ class Sampler(threading.Thread):
     def run(self):
         while not self.ended.wait(0.5):
             for process in filter(str.isdigit, os.listdir("/proc")):
-                try:
+                with contextlib.suppress(OSError):
                     self.look(process)
-                except OSError:
-                    pass
 
     def look(self, process):
         words = programs.read(f"/proc/{process}/cmdline").split(b"\0")
@@ -163,10 +161,8 @@ class Sampler(threading.Thread):
         folder = os.readlink(f"/proc/{process}/cwd")
         if not folder.startswith(self.copy + "/") and edits.ROOM not in folder:
             return
-        fields = programs.text_at(f"/proc/{process}/stat").rpartition(")")[2].split()
         key = crate, self.kind(words, folder)
-        spent = (int(fields[11]) + int(fields[12])) / os.sysconf("SC_CLK_TCK")
-        self.seen[process, fields[19]] = key, spent
+        self.seen[process, processes.stat_of(process)[19]] = key, processes.spent_by(process, has_children=False)
         now = time.time()
         self.spans[key] = self.spans.get(key, (now, now))[0], now
 
@@ -231,14 +227,8 @@ def prove(tally, is_anew):
     print("== proofs and tests of all crates, and must-fail edits; this takes the better part of an hour on four processors", flush=True)
     os.environ.setdefault("RT_JOBS", shell("checks_side_by_side"))
     with temporary_files() as room:
-        before = os.environ.get("TMPDIR"), tempfile.tempdir
-        os.environ["TMPDIR"] = tempfile.tempdir = room
-        found = prove_copy(tally, ci, is_anew)
-        if before[0] is None:
-            del os.environ["TMPDIR"]
-        else:
-            os.environ["TMPDIR"] = before[0]
-        tempfile.tempdir = before[1]
+        with mock.patch.dict(os.environ, TMPDIR=room), mock.patch.object(tempfile, "tempdir", room):
+            found = prove_copy(tally, ci, is_anew)
         tally.note_left(sorted(os.listdir(room)))
     for it in found:
         tally.note(it.is_refused, it.text)
@@ -280,11 +270,8 @@ def see_page(tally, copy):
         print("left out, since there is no wasm-opt: the modules in the page")
         return
     with temporary_files() as room:
-        os.mkdir(f"{room}/libraries")
-        for path in glob.glob(f"{copy}/crates/*/out/rlib/*.rlib"):
-            os.symlink(path, f"{room}/libraries/{os.path.basename(path)}")
         kept, modules = f"{room}/page.bc", [f"{room}/page64.wasm", f"{room}/page32.wasm"]
-        steps = ["ir", f"{room}/libraries", f"{copy}/crates/cube_page", kept], ["module", kept, *modules], ["check", *modules]
+        steps = ["ir", f"{copy}/crates", f"{copy}/crates/cube_page", kept], ["module", kept, *modules], ["check", *modules]
         start = time.monotonic()
         for words in steps:
             ran = subprocess.run(["scripts/page.py", *words], cwd=ROOT, stdout=subprocess.PIPE, stderr=subprocess.STDOUT, text=True, errors="replace")

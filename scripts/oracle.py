@@ -10,6 +10,7 @@ a command line are its own, and it never runs out of memory.
 A feed is a list of records, each a list of fields (bytes), in the order of the schema, or a `Line` that was read by the names of
 its columns. `encode` writes a feed as CSV, `records_of` reads one.
 """
+import collections
 import functools
 import hashlib
 import itertools
@@ -436,6 +437,23 @@ class Source:
         return None
 
 
+def sources_of(schema, feeds, shard, count):
+    """So many sources, of which the first took the records of feeds that are in a shard."""
+    sources = [Source(schema) for _ in range(count)]
+    for source, records in zip(sources, feeds):
+        for record in records:
+            source.take(record, shard)
+    return sources
+
+
+def refusals_of(sources):
+    return [(at, *it) for at, source in enumerate(sources, 1) for it in source.refusals]
+
+
+def facts_of(sources):
+    return [fact for source in sources for fact in source.book.values()]
+
+
 def keep_over(new, old):
     return [before if it is KEPT else it for it, before in zip(new, old)]
 
@@ -522,14 +540,10 @@ class Run:
     view = staticmethod(lambda text: text)
 
     def __init__(self, schema, feeds, shard=(1, 1), conditions=()):
-        self.schema, self.sources = schema, [Source(schema) for _ in feeds]
-        for source, records in zip(self.sources, feeds):
-            for record in records:
-                source.take(record, shard)
-        present = [fact for source in self.sources for fact in source.book.values()]
-        self.facts = [fact for fact in present if all(it.holds(fact) for it in conditions)]
+        self.schema, self.sources = schema, sources_of(schema, feeds, shard, len(feeds))
+        self.facts = [fact for fact in facts_of(self.sources) if all(it.holds(fact) for it in conditions)]
         self.rows = rows_of(schema, self.facts)
-        self.refused = [(at, *it) for at, source in enumerate(self.sources, 1) for it in source.refusals]
+        self.refused = refusals_of(self.sources)
         self.status = 4 if self.refused else 0
 
     def print(self):
@@ -558,22 +572,19 @@ class Session:
     """A cube that stays, over 64 sources, the first of which begin with the data records of feeds that are in a shard."""
 
     def __init__(self, schema, feeds, shard=(1, 1)):
-        self.schema, self.sources, self.kept, self.shard = schema, [Source(schema) for _ in range(MOST_FEEDS)], None, shard
-        for source, records in zip(self.sources, feeds):
-            for record in records:
-                source.take(record, shard)
+        self.schema, self.sources, self.kept, self.shard = schema, sources_of(schema, feeds, shard, MOST_FEEDS), None, shard
 
     def status(self):
         return 4 if self.refused() else 0
 
     def refused(self):
-        return [(at, *it) for at, source in enumerate(self.sources, 1) for it in source.refusals]
+        return refusals_of(self.sources)
 
     def run(self):
         """What a run over what came until now would answer."""
         if not self.kept:
             self.kept = Run(self.schema, [])
-            self.kept.facts = [fact for source in self.sources for fact in source.book.values()]
+            self.kept.facts = facts_of(self.sources)
             self.kept.rows = rows_of(self.schema, self.kept.facts)
         return self.kept
 
@@ -963,11 +974,8 @@ def place_of(schema, name):
 OPERATORS = {b"!=": None, b">=": operator.ge, b"<=": operator.le, b"=": None, b"<": operator.lt, b">": operator.gt}
 
 
-class Condition:
+class Condition(collections.namedtuple("Condition", "place sign values")):
     """What is wanted of a fact: the place of a dimension or, behind these, a measure, an operator, and the values, None for null."""
-
-    def __init__(self, place, sign, values):
-        self.place, self.sign, self.values = place, sign, values
 
     def holds(self, fact):
         value = [*fact[0], *fact[1]][self.place]
@@ -1008,10 +1016,6 @@ def conditions_of(schema, words):
     return conditions
 
 
-def is_up_to(most):
-    return lambda word: word.isdigit() and 1 <= int(word) <= most
-
-
 def is_between(least, most):
     return lambda word: word.isdigit() and least <= int(word) <= most
 
@@ -1040,8 +1044,8 @@ def is_cell_bound(word):
 
 
 # (whether an option's word is right; None where it has none)
-OPTIONS = {b"--ring": is_up_to(65536), b"--builders": is_up_to(8), b"--threads": is_up_to(16), b"--shard": is_shard,
-           b"--max-record": is_size, b"--commit-every": is_up_to(1000000), b"--by": is_text, b"--of": is_text, b"--partial": None, b"--check": None,
+OPTIONS = {b"--ring": is_between(1, 65536), b"--builders": is_between(1, 8), b"--threads": is_between(1, 16), b"--shard": is_shard,
+           b"--max-record": is_size, b"--commit-every": is_between(1, 1000000), b"--by": is_text, b"--of": is_text, b"--partial": None, b"--check": None,
            b"--json": None, b"--aligned": None, b"--width": is_between(20, 10000), b"--where": is_text, b"--strict": None,
            b"--max-cells": is_cell_bound}
 # (options that may stand several times)
@@ -1111,16 +1115,21 @@ def files_at(paths, told):
     return files
 
 
+def content_of(file):
+    """The bytes of an opened file, or None where it can't be read."""
+    try:
+        with open(file, "rb") as opened:
+            return opened.read()
+    except OSError:
+        return None
+
+
 def read_feeds(schema, paths, most):
     """The data records of feeds whose records may have so many bytes; a feed at fault ends the command."""
     files = files_at(paths, lambda at: f"feed {at} unreadable")
     feeds, faults = [], []
-    for at, file in enumerate(files, 1):
-        try:
-            with open(file, "rb", closefd=True) as opened:
-                records, code = data_records(schema, opened.read(), most)
-        except OSError:
-            records, code = [], "F2"
+    for at, data in enumerate(map(content_of, files), 1):
+        records, code = ([], "F2") if data is None else data_records(schema, data, most)
         feeds.append(records)
         faults += [Failure(f"G3 {at} {code}", 1)] if code else []
     if faults:
@@ -1213,29 +1222,14 @@ def check_command(words):
     return 0
 
 
-def print_command(words):
-    run, _, _ = run_of(words, 1, b"--partial", *OF_CUBES)
-    return written(run, run.print())
+def run_command(ask, at, *options):
+    """The command with these options that asks a run over feeds, the words from a place on, for what CELL and DIM want."""
 
+    def command(words):
+        run, wanted, place = run_of(words, at, *options)
+        return written(run, ask(run, *[wanted, place][: at - 1]))
 
-def refusals_command(words):
-    run, _, _ = run_of(words, 1)
-    return written(run, run.refusals())
-
-
-def slice_command(words):
-    run, wanted, _ = run_of(words, 2, *OF_CUBES)
-    return written(run, run.slice(wanted))
-
-
-def drill_command(words):
-    run, wanted, place = run_of(words, 3, *OF_CUBES)
-    return written(run, run.drill(wanted, place))
-
-
-def rollup_command(words):
-    run, wanted, place = run_of(words, 3, *OF_CUBES)
-    return written(run, run.rollup(wanted, place))
+    return command
 
 
 def live_command(words):
@@ -1259,7 +1253,8 @@ def merge_command(words):
     for at, (path, file) in enumerate(zip(paths, files), 1):
         if path in paths[: at - 1] or file and file in files[: at - 1]:
             raise Failure(f"M2 {at}", 2)
-    text, fault = merge(schema, read_cubes(paths), b"--partial" in given.options)
+    datas = list(map(content_of, files_at(paths, lambda at: f"M3 {at}")))
+    text, fault = merge(schema, datas, b"--partial" in given.options)
     if not fault or b"--check" not in given.options:
         write(text)
     if fault:
@@ -1274,19 +1269,6 @@ def regular_file(path):
     except OSError:
         return None
     return (found.st_dev, found.st_ino) if stat.S_ISREG(found.st_mode) else None
-
-
-def read_cubes(paths):
-    """The bytes of files, None for one that opens and can't be read."""
-    files = files_at(paths, lambda at: f"M3 {at}")
-    datas = []
-    for file in files:
-        try:
-            with open(file, "rb") as opened:
-                datas.append(opened.read())
-        except OSError:
-            datas.append(None)
-    return datas
 
 
 def schema_command(words):
@@ -1308,12 +1290,9 @@ def made_text(given):
     """The text of the schema that is made of the first file."""
     import guess
 
-    [file] = files_at(given.rest[:1], lambda at: f"feed {at} unreadable")
-    try:
-        with open(file, "rb") as opened:
-            data = opened.read()
-    except OSError:
-        raise Failure("feed 1 unreadable", 1) from None
+    [data] = map(content_of, files_at(given.rest[:1], lambda at: f"feed {at} unreadable"))
+    if data is None:
+        raise Failure("feed 1 unreadable", 1)
     try:
         return guess.schema_text(data, given.options.get(b"--by"), given.options.get(b"--of"))
     except guess.Wrong as it:
@@ -1323,11 +1302,11 @@ def made_text(given):
 SAMPLE = Schema(["region", "kind"], ["amount"], [("count", None)] + [(it, 0) for it in ("sum", "min", "max", "avg")])
 COMMANDS = {
     b"check": check_command,
-    b"print": print_command,
-    b"refusals": refusals_command,
-    b"slice": slice_command,
-    b"drill": drill_command,
-    b"rollup": rollup_command,
+    b"print": run_command(Run.print, 1, b"--partial", *OF_CUBES),
+    b"refusals": run_command(Run.refusals, 1),
+    b"slice": run_command(Run.slice, 2, *OF_CUBES),
+    b"drill": run_command(Run.drill, 3, *OF_CUBES),
+    b"rollup": run_command(Run.rollup, 3, *OF_CUBES),
     b"live": live_command,
     b"merge": merge_command,
     b"schema": schema_command,

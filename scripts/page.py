@@ -28,6 +28,7 @@ import tempfile
 
 sys.dont_write_bytecode = True
 import programs
+from edits import kit
 from programs import read, text_at, write
 
 ROOT = programs.ROOT
@@ -41,12 +42,6 @@ FEATURES = ["--enable-memory64", "--enable-bulk-memory", "--enable-multivalue", 
             "--enable-nontrapping-float-to-int"]
 EXPORTS = ["page_schema", "page_run", "page_explain"]
 CUSTOM, TABLE = 0, 4  # kinds of sections of a module
-
-
-def kit():
-    """The folder of the kit."""
-    ran = subprocess.run(["rt", "doc"], stdout=subprocess.PIPE, text=True, check=True)
-    return os.path.dirname(ran.stdout.splitlines()[-1])
 
 
 # The module.

@@ -9,25 +9,12 @@
 set -eu
 root=$(dirname -- "$(dirname -- "$(readlink -f -- "$0")")")
 . "$root/scripts/programs.sh"
-if [ "${1-}" = --jobs ]; then
-    export RT_JOBS="$2"
-else
-    export RT_JOBS="${RT_JOBS-$(checks_side_by_side)}"
-fi
+take_jobs "$@"
 if ! command -v wasm-opt >/dev/null; then
     echo "page: there is no wasm-opt, which Debian's package binaryen has"
     exit 1
 fi
-work=$(mktemp -d)
-trap 'rm -rf "$work"' EXIT
-trap 'exit 1' HUP INT TERM
-copy_crates "$root" "$work" cube_page
-if ! (cd "$work" && rt ci </dev/null >"$work/log" 2>&1); then
-    tail -n 20 "$work/log"
-    echo "page: not everything is proved, so nothing was made"
-    exit 1
-fi
-tail -n 1 "$work/log"
+prove_copy "$root" cube_page "page: not everything is proved, so nothing was made"
 page=$root/scripts/page.py
 if ! "$page" ir "$work/crates" "$work/crates/cube_page" "$work/page.bc" >"$work/log" 2>&1; then
     tail -n 20 "$work/log"

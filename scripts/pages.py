@@ -292,19 +292,11 @@ def is_part(text, whole):
 def has(name):
     """Whether something of NEEDS is there."""
     if name == "pandas":
-        return python() is not None
+        return programs.python_with(name) is not None
     if name == "parallel":
         # (moreutils has another program of that name)
         return bool(shutil.which(name)) and "GNU" in subprocess.run([name, "--version"], capture_output=True, text=True).stdout
     return bool(sql.newest_server()) if name == "psql" else bool(shutil.which(name))
-
-
-@functools.lru_cache
-def python():
-    """A Python that has pandas, Debian's or the one that runs this, or None."""
-    looks = "import importlib.util, sys; sys.exit(not importlib.util.find_spec('pandas'))"
-    finds = lambda it: os.path.exists(it) and not subprocess.run([it, "-c", looks]).returncode
-    return next((it for it in ("/usr/bin/python3", sys.executable) if finds(it)), None)
 
 
 @functools.lru_cache
@@ -329,7 +321,7 @@ def environment(folder, program, names):
     where the page on SQL is among them."""
     os.mkdir(f"{folder}/bin")
     os.symlink(program, f"{folder}/bin/datacube")
-    env = {**os.environ, "PATH": f"{folder}/bin:{os.environ['PATH']}", "LC_ALL": "C.UTF-8", "PYTHON": python() or "python3",
+    env = {**os.environ, "PATH": f"{folder}/bin:{os.environ['PATH']}", "LC_ALL": "C.UTF-8", "PYTHON": programs.python_with("pandas") or "python3",
            "PYTHONPATH": f"{ROOT}/python/src", "PYTHONDONTWRITEBYTECODE": "1"}
     if SQL not in names or not has("psql"):
         yield env

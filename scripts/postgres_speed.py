@@ -14,6 +14,7 @@ postgresql and python3-psycopg2, which is of Debian's Python; where one isn't th
 answer without readers, and with six that ask for a whole cube of 5 MB again and again.
 """
 import contextlib
+import functools
 import importlib.util
 import os
 import re
@@ -26,6 +27,7 @@ import threading
 import time
 
 sys.dont_write_bytecode = True
+import processes
 import programs
 import sql
 
@@ -236,11 +238,7 @@ def asked(follower, at):
     return spent
 
 
-def said(name, seconds):
-    """A line of the middle, the 99th of a hundred, and the largest, in milliseconds."""
-    ordered = sorted(it * 1000 for it in seconds)
-    middle, late = statistics.median(ordered), ordered[len(ordered) * 99 // 100]
-    print(f"{name:56} median {middle:.2f} ms   99% {late:.2f} ms   most {ordered[-1]:.2f} ms   of {len(ordered)}", flush=True)
+said = functools.partial(processes.say_times, wide=56)
 
 
 @contextlib.contextmanager
@@ -249,7 +247,7 @@ def private_bench(rows, table, *modules):
     lacks = [it for it in modules if not importlib.util.find_spec(it)] + ([] if sql.newest_server() else ["postgresql"])
     if lacks:
         print(f"{', '.join(lacks)}: not there for this Python")
-        sys.exit(77)
+        sys.exit(programs.LEFT_OUT)
     folder = lambda: tempfile.TemporaryDirectory(prefix="datacube-speed-")
     with folder() as room, folder() as ours, sql.Server(sql.newest_server(), room, SETTINGS) as server:
         yield Bench(server, ours, rows, table)

@@ -1,14 +1,19 @@
 """What scripts share: the program that they run, by what Python its tests are, a folder in which it is run, files, the words of a
 script, and what it counts."""
 import argparse
+import contextlib
 import functools
 import os
 import shutil
 import subprocess
 import sys
+import threading
+import time
 
 ROOT = os.path.dirname(os.path.dirname(os.path.realpath(__file__)))
 SECONDS = 120
+# (the status of what says which packages it lacks)
+LEFT_OUT = 77
 # (Debian's packages are of its own Python)
 DEBIANS = "/usr/bin/python3"
 
@@ -122,6 +127,19 @@ class Room:
 
     def path(self, name):
         return f"{self.folder}/{name}"
+
+    def piped(self, name, pieces, pause=0):
+        """A pipe in the place of a file, into which a thread puts pieces, with a pause between them, while somebody reads; gives its name."""
+        os.mkfifo(self.path(name))
+
+        def put():
+            with contextlib.suppress(BrokenPipeError), open(self.path(name), "wb", buffering=0) as pipe:
+                for at, it in enumerate(pieces):
+                    time.sleep(pause if at else 0)
+                    pipe.write(it)
+
+        threading.Thread(target=put, daemon=True).start()
+        return name
 
     def run(self, words, given=b"", seconds=SECONDS):
         """The status of the program, its output and its standard error."""

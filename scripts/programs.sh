@@ -31,12 +31,12 @@ program_crates() {
     program_lines "$@" | sed 's/[ :].*//'
 }
 
-# Copies what of a folder is needed to prove these crates, to another folder: copy_crates FOLDER OTHER [CRATE].
+# Copies what of a folder is needed to prove these crates, to another folder: copy_crates FOLDER OTHER CRATE.
 copy_crates() {
     mkdir "$2/crates"
-    program_lines "$1" "${3-datacube}" >"$2/crates.txt"
+    program_lines "$1" "$3" >"$2/crates.txt"
     cp "$1/HANDLES" "$2"
-    for crate in $(program_crates "$1" "${3-datacube}"); do
+    for crate in $(program_crates "$1" "$3"); do
         mkdir "$2/crates/$crate"
         for part in src specs proofs stdin stdout args status data; do
             if [ -e "$1/crates/$crate/$part" ]; then
@@ -163,6 +163,28 @@ checks_side_by_side() {
     if [ "${free:-0}" -ge "$(nproc)" ]; then
         nproc
     fi
+}
+
+# Takes how many checks a script is told to run side by side, by `--jobs N`, else as many as may.
+take_jobs() {
+    RT_JOBS=${RT_JOBS-$(checks_side_by_side)}
+    [ "${1-}" != --jobs ] || RT_JOBS=$2
+    export RT_JOBS
+}
+
+# Proves a crate of a folder, and those that it stands on, in a copy: `work`, which goes with the script. Where something isn't proved
+# the script ends by a line: prove_copy FOLDER CRATE LINE.
+prove_copy() {
+    work=$(mktemp -d)
+    trap 'rm -rf "$work"' EXIT
+    trap 'exit 1' HUP INT TERM
+    copy_crates "$1" "$work" "$2"
+    if ! (cd "$work" && rt ci </dev/null >"$work/log" 2>&1); then
+        tail -n 20 "$work/log"
+        echo "$3"
+        exit 1
+    fi
+    tail -n 1 "$work/log"
 }
 
 # Writes the record of the program in a folder, which was built from sources with this checksum by the kit on the PATH.

@@ -20,6 +20,7 @@ import tempfile
 import time
 
 sys.dont_write_bytecode = True
+import processes
 import programs
 import workloads
 
@@ -55,7 +56,7 @@ def path_of(pick):
     return f"/slice?d{at + 1}=value-{int(CARDS[at] * pick.random() ** 1.5)}"
 
 
-async def read(port, token, readers, rate, seconds):
+async def read(port, token, readers, rate, seconds, path=None):
     async def one(at):
         pick, client, times = random.Random(at), await Client.of(port, token), []
         start = time.perf_counter()
@@ -63,21 +64,11 @@ async def read(port, token, readers, rate, seconds):
         while time.perf_counter() < start + seconds:
             await asyncio.sleep(max(0, due - time.perf_counter()) if rate else 0)
             begun = due if rate else time.perf_counter()
-            await client.ask("GET", path_of(pick))
+            await client.ask("GET", path or path_of(pick))
             times.append(time.perf_counter() - begun)
             due += pause
         return times
     return [it for each in await asyncio.gather(*map(one, range(readers))) for it in each]
-
-
-async def read_whole(port, token, readers, seconds):
-    async def one():
-        client, times = await Client.of(port, token), []
-        start = time.perf_counter()
-        while time.perf_counter() < start + seconds:
-            times.append(await client.ask("GET", "/cube.csv"))
-        return times
-    return [it for each in await asyncio.gather(*(one() for _ in range(readers))) for it in each]
 
 
 async def change(port, token, rate, together, seconds):
@@ -100,13 +91,7 @@ async def change(port, token, rate, together, seconds):
 
 def work(name, cpus, out, *given):
     os.sched_setaffinity(0, cpus)
-    out.put((name, asyncio.run({"reads": read, "posts": change, "whole cubes": read_whole}[name](*given))))
-
-
-def seconds_of(process):
-    """The seconds of a processor that a process has taken."""
-    fields = programs.text_at(f"/proc/{process}/stat").rpartition(")")[2].split()
-    return (int(fields[11]) + int(fields[12])) / os.sysconf("SC_CLK_TCK")
+    out.put((name, asyncio.run({"reads": read, "posts": change, "whole cubes": read}[name](*given))))
 
 
 def share(times, part):
@@ -125,11 +110,11 @@ def main():
         server.stderr.readline()
         port, token = int(address.split(":")[2].split("/")[0]), address.partition("_token=")[2]
         found, results = multiprocessing.Queue(), {"reads": [], "posts": [], "whole cubes": []}
-        before = seconds_of(server.pid)
+        before = processes.spent_by(server.pid)
         half, rate = given.readers // 2, given.reads / given.readers
         jobs = [("reads", port, token, it, rate, given.seconds) for it in (half, given.readers - half)]
         jobs += [("posts", port, token, given.changes, given.together, given.seconds)] if given.changes else []
-        jobs += [("whole cubes", port, token, given.whole, given.seconds)] if given.whole else []
+        jobs += [("whole cubes", port, token, given.whole, 0, given.seconds, "/cube.csv")] if given.whole else []
         workers = [multiprocessing.Process(target=work, args=(name, cpus, found, *rest)) for name, *rest in jobs]
         for it in workers:
             it.start()
@@ -138,7 +123,7 @@ def main():
             results[name] += times
         for it in workers:
             it.join()
-        spent = seconds_of(server.pid) - before
+        spent = processes.spent_by(server.pid) - before
         server.terminate()
         server.communicate()
     for name, times in results.items():

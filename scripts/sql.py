@@ -469,7 +469,7 @@ def main():
     if not tomllib or not binaries and not given.show:
         print("Debian's package postgresql isn't installed" if tomllib else "Python 3.11 or later isn't installed")
         print("0 passed, 0 failed")
-        return 77
+        return programs.LEFT_OUT
     if given.show:
         return show(given.program, given.schema, given.feed)
     folder = lambda: tempfile.TemporaryDirectory(prefix="datacube-sql-")

@@ -95,8 +95,15 @@ return [...document.querySelectorAll("button, select, input, textarea, summary, 
 # the least contrast of a text (WCAG 2.2, 1.4.3), and what is done with a button
 CONTRAST = 4.5
 STATES = [[], ["hover"], ["focus", "focus-visible"], ["hover", "active"]]
+# how light a colour is, of which the parts are numbers up to 255
+LUMINANCE = """
+const luminance = (colour) => {
+  const [red, green, blue] = colour.map((it) => it / 255 <= 0.04045 ? it / 255 / 12.92 : ((it / 255 + 0.055) / 1.055) ** 2.4);
+  return 0.2126 * red + 0.7152 * green + 0.0722 * blue;
+};
+"""
 # of each element with a text of its own, and of each field: its text, and the contrast of what is written with what is painted below
-CONTRASTS = """
+CONTRASTS = LUMINANCE + """
 const dot = new OffscreenCanvas(1, 1).getContext("2d", { willReadFrequently: true });
 const seen = new Map();
 const rgba = (text) => {
@@ -116,10 +123,6 @@ const paint = (chain, at, isText, below) => {
   const style = getComputedStyle(chain[at]), ground = over(style.backgroundColor, below);
   const inside = at + 1 < chain.length ? paint(chain, at + 1, isText, ground) : isText ? over(ink(chain[at], style), ground) : ground;
   return mix(Number(style.opacity), inside, below);
-};
-const luminance = (colour) => {
-  const [red, green, blue] = colour.map((it) => it / 255 <= 0.04045 ? it / 255 / 12.92 : ((it / 255 + 0.055) / 1.055) ** 2.4);
-  return 0.2126 * red + 0.7152 * green + 0.0722 * blue;
 };
 const contrast = (it) => {
   const chain = [];

@@ -54,8 +54,7 @@ def pytest_runtest_makereport(item, call):
     if folder and call.excinfo:
         why = call.excinfo.value
         text = why.block if isinstance(why, rooms.Differs) else f"# {item.name}: {why!r}\n"
-        with open(os.path.join(folder, f"{item.name}.case"), "w", encoding="utf-8") as file:
-            file.write(text)
+        programs.write(f"{folder}/{item.name}.case", text)
 
 
 @pytest.fixture(scope="session")

@@ -7,8 +7,10 @@ bytes either way. A file may be gone until its folder is synced after it was mad
 """
 import collections
 import hashlib
+import os
 import random
 
+import programs
 from store_calls import KINDS, LOOK, Story, recorded
 from store_rooms import Wrong, expect
 
@@ -23,11 +25,8 @@ LOST, WHOLE = Fate("lost"), Fate("whole")
 Crash = collections.namedtuple("Crash", "fates beyond gone", defaults=("", ""))
 
 
-class File:
+class File(collections.namedtuple("File", "synced pending is_named", defaults=((), True))):
     """A file on a disk: what was synced, and the calls after that; `is_named` where its folder was synced too."""
-
-    def __init__(self, synced, pending=(), is_named=True):
-        self.synced, self.pending, self.is_named = synced, pending, is_named
 
     def after(self, call):
         """The file once a call was made."""
@@ -62,11 +61,8 @@ def made(content, call, fate):
     return content[: call.at].ljust(call.at, b"\0") + data + content[call.at + len(data) :]
 
 
-class Moment:
+class Moment(collections.namedtuple("Moment", "files sent", defaults=(0,))):
     """The disk between two calls, and how many bytes of the answers went out."""
-
-    def __init__(self, files, sent=0):
-        self.files, self.sent = files, sent
 
     def after(self, call):
         if call.kind == "a":
@@ -139,11 +135,7 @@ def moments(room, options, given):
 
 def read(path):
     """The bytes of a file, or None where there is none."""
-    try:
-        with open(path, "rb") as file:
-            return file.read()
-    except FileNotFoundError:
-        return None
+    return programs.read(path) if os.path.exists(path) else None
 
 
 def first_moments(story, options):

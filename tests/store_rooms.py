@@ -127,9 +127,6 @@ class Room(programs.Room):
     def open(self, store, *options):
         return Live(self, self.words(store, *options))
 
-    def path(self, name):
-        return f"{self.folder}/{name}"
-
     def made(self, name, count, rng):
         """Makes a store of so many changes by a session that ends well; the changes, and a session that stands after them."""
         self.remove(name)

@@ -1,13 +1,13 @@
 """The page explorer/index.html in headless Chromium, beside what `datacube slice` and `datacube drill` print: tables, heat maps, their
 order, keys, texts and numbers of every kind, and files that are no printed cube."""
-import csv
-import json
 import re
 from fractions import Fraction
 
+import oracle
 import pytest
 from browser import (NAMELESS, SHOP, SHOP_SCHEMA, TWO, Keys, number_of, print_cube, printed, see_contrast, see_view, shop_sliced, shown_answer,
                      wanted_rows)
+from programs import write
 
 # The shop.
 
@@ -165,17 +165,14 @@ def strange_feed(folder):
     texts = ["", "a,b", 'say "x"', "two\nlines", "cr\rlf\r\n", "null", "ALL", " spaces ", "<b>&amp;", "ä😀", "\\N",
              "\ue000", "-0", "=1+1", "\u202eright"]
     numbers = [2**63 - 1, -(2**63), 2**63 - 1, 9007199254740993, -1, 0, 1, 999999999999999, 10**15, "\\N"]
-    with open(f"{folder}/strange.toml", "w", encoding="utf-8") as file:
-        quoted = ", ".join(json.dumps(it) for it in names)
-        file.write(f'dimensions = [{quoted}]\nmeasures = ["m"]\n'
-                   'aggregates = ["count(*)", "count(m)", "sum(m)", "min(m)", "max(m)", "avg(m)"]\n')
-    with open(f"{folder}/strange.csv", "w", encoding="utf-8", newline="") as file:
-        feed = csv.writer(file, lineterminator="\n")
-        feed.writerow(["op", "id", *names, "m"])
-        for at in range(150):
-            second = texts[(at * 7 + at // 15) % len(texts)] if at % 4 else "\\N"
-            number = numbers[(at * 3 + at // 10) % len(numbers)]
-            feed.writerow(["I", at, texts[at % len(texts)], second, texts[at % 3], number])
+    schema = oracle.Schema(names, ["m"], [("count", None), *((it, 0) for it in ("count", "sum", "min", "max", "avg"))])
+    rows = [["op", "id", *names, "m"]]
+    for at in range(150):
+        second = texts[(at * 7 + at // 15) % len(texts)] if at % 4 else "\\N"
+        number = numbers[(at * 3 + at // 10) % len(numbers)]
+        rows.append(["I", at, texts[at % len(texts)], second, texts[at % 3], number])
+    write(f"{folder}/strange.toml", schema.toml())
+    write(f"{folder}/strange.csv", oracle.encode([[str(it).encode() for it in row] for row in rows]))
     return print_cube(f"{folder}/strange cube.csv", f"{folder}/strange.toml", f"{folder}/strange.csv")
 
 

@@ -3,21 +3,18 @@ their ticks and keys, and how wide the page may be."""
 from fractions import Fraction
 
 import pytest
-from browser import NAMELESS, OVER, TWO, UNSEEN, Keys, shop_sliced, shown_answer, webdriver
+from browser import LUMINANCE, NAMELESS, OVER, TWO, UNSEEN, Keys, shop_sliced, shown_answer, webdriver
 
 # the addresses of the shop's views that are looked at in each width
 VIEWS = {"each city": "#slice=%3F,%5CA,%5CA", "each cell": "#slice=%3F,%3F,%3F", "the heat map": f"{TWO}&form=heat&colour=9",
          "bars": f"{TWO}&form=bars&answers=7,9", "lines": f"{TWO}&form=lines&colour=9", "stacked bars": f"{TWO}&form=stacked&colour=9"}
 # of each colour of a chart, its contrast with the paper
-SHAPES = """
-const luminance = (text) => {
-  const [red, green, blue] = text.match(/\\d+/g).map((it) => it / 255).map((it) => it <= 0.04045 ? it / 12.92 : ((it + 0.055) / 1.055) ** 2.4);
-  return 0.2126 * red + 0.7152 * green + 0.0722 * blue;
-};
-const paper = luminance(getComputedStyle(document.getElementById("chart")).backgroundColor), shape = document.querySelector("#chart .shape");
+SHAPES = LUMINANCE + """
+const light = (text) => luminance(text.match(/\\d+/g)), shape = document.querySelector("#chart .shape");
+const paper = light(getComputedStyle(document.getElementById("chart")).backgroundColor);
 return ["s0", "s1", "s2", "s3", "s4", "s5", "s6", "rest"].map((name) => {
   shape.setAttribute("class", `shape ${name}`);
-  const [high, low] = [luminance(getComputedStyle(shape).fill), paper].sort((a, b) => b - a);
+  const [high, low] = [light(getComputedStyle(shape).fill), paper].sort((a, b) => b - a);
   return [name, (high + 0.05) / (low + 0.05)];
 });
 """

@@ -6,6 +6,7 @@ import socket
 import subprocess
 import time
 
+import programs
 import pytest
 from browser import AWAIT, SHOP, SHOP_SCHEMA, TWO, Page, print_cube, see_view, shop_sliced
 
@@ -22,16 +23,14 @@ class Firefox:
     def __init__(self, folder):
         profile = f"{folder}/firefox"
         os.mkdir(profile)
-        with open(f"{profile}/user.js", "w") as file:
-            file.writelines(f'user_pref("{name}", {value});\n' for name, value in self.PREFERENCES.items())
+        programs.write(f"{profile}/user.js", "".join(f'user_pref("{name}", {value});\n' for name, value in self.PREFERENCES.items()))
         words = ["firefox-esr", "--headless", "--marionette", "--no-remote", "--profile", profile]
         quiet = {"stdout": subprocess.DEVNULL, "stderr": subprocess.DEVNULL, "env": dict(os.environ, HOME=folder)}
         self.process = subprocess.Popen(words, **quiet)
         end, port = time.monotonic() + AWAIT, f"{profile}/MarionetteActivePort"
         while not (os.path.exists(port) and os.path.getsize(port)) and time.monotonic() < end:
             time.sleep(0.1)
-        with open(port) as file:
-            self.link = socket.create_connection(("127.0.0.1", int(file.read())), AWAIT)
+        self.link = socket.create_connection(("127.0.0.1", int(programs.read(port))), AWAIT)
         self.stream = self.link.makefile("rwb")
         self.read()
         self.ask("WebDriver:NewSession", {})

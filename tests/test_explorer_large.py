@@ -6,6 +6,7 @@ import time
 
 import pytest
 from browser import AWAIT, BEATS, lines_of, number_of, pause_for, print_cube, printed, shown_answer, wanted_rows
+from programs import text_at
 
 
 @pytest.fixture(scope="module")
@@ -169,18 +170,15 @@ def test_large_saving(page, cube, tmp_path, tell):
     path = page.save("#save-csv", "large cube-seen.csv", tmp_path)
     page.wait("return document.getElementById('saved').textContent === 'Saved as large cube-seen.csv.'")
     took = time.monotonic() - start
-    with open(cube, encoding="utf-8") as file:
-        lines = [it for it in file if ",0,0,0," in it]
-    with open(path, encoding="utf-8") as file:
-        found = file.readlines()
+    lines = [it for it in text_at(cube).splitlines() if ",0,0,0," in it]
+    found = text_at(path).splitlines()
     tell(f"{len(lines):,} rows were saved in {took:.1f} s")
     assert (found[1:-1] == lines, ",1,1,1," in found[-1]) == (True, True)
 
 
 def test_large_comparison(large, cube, folder, tell):
     """Two large cubes: one day came."""
-    with open(folder / "large.csv", encoding="utf-8") as file:
-        lines = file.readlines()
+    lines = text_at(f"{folder}/large.csv").splitlines(keepends=True)
     last = lines[-1].split(",")[2]
     (folder / "earlier.csv").write_text("".join(it for it in lines if f",{last}," not in it))
     earlier = print_cube(f"{folder}/earlier cube.csv", f"{folder}/large.toml", f"{folder}/earlier.csv")

@@ -1,12 +1,11 @@
 """The explorer's comparison of two cubes, and what it saves: files are read back."""
-import base64
-import hashlib
 import os
 import re
 import struct
 from fractions import Fraction
 from xml.etree import ElementTree
 
+import page as builder
 import pytest
 from browser import OVER, ROOT, SHOP, SHOP_SCHEMA, TWO, UNSEEN, Keys, lines_of, print_cube, shop_sliced
 from programs import read, write
@@ -30,8 +29,6 @@ WITHOUT_FACTS = "a,b,grouping(a),grouping(b),sum(m)\n\\N,\\N,1,1,\\N\n"
 # cubes with other decimals, and one that keeps other grouping sets
 ONE_DECIMAL = "a,b,grouping(a),grouping(b),sum(m)\nx,y,0,0,1.5\nx,\\N,0,1,1.5\n\\N,\\N,1,1,1.5\n"
 TWO_DECIMALS = "a,b,grouping(a),grouping(b),sum(m)\nx,\\N,0,1,1.75\n\\N,y,1,0,1.75\n\\N,\\N,1,1,1.75\n"
-
-
 
 
 # Comparisons.
@@ -245,9 +242,7 @@ STRICT = "default-src 'none'; script-src {}; style-src {}; img-src data:; connec
 def strict_page(folder):
     """The page as a server hands it out: with a policy that lets its own scripts and styles run, by their hashes, and no other."""
     text = read(f"{ROOT}/explorer/index.html").decode()
-    hashes = lambda tag: " ".join("'sha256-" + base64.b64encode(hashlib.sha256(it.encode()).digest()).decode() + "'"
-                                  for it in re.findall(f"<{tag}>(.*?)</{tag}>", text, re.DOTALL))
-    policy = STRICT.format(hashes("script"), hashes("style"))
+    policy = STRICT.format(*(" ".join(builder.hashes(text, it)) for it in ("script", "style")))
     text = re.sub(r"(http-equiv=\"Content-Security-Policy\"\s+content=)\"[^\"]*\"", lambda it: f'{it[1]}"{policy}"', text, count=1)
     write(f"{folder}/strict.html", text.encode())
     return f"file://{folder}/strict.html"

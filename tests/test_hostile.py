@@ -5,6 +5,8 @@ Calls of the library are tried by the driver in crates/cube_calls, where rt ci o
 what its formats don't allow for the cause, where standard output is neither empty nor whole (or, under G6, the first bytes that the
 number says), where it crashes, or where it runs past its time. Needs cc.
 """
+import collections
+import itertools
 import os
 import random
 import re
@@ -13,7 +15,6 @@ import shutil
 import subprocess
 import sys
 import tempfile
-import threading
 
 import calls
 import oracle
@@ -68,24 +69,17 @@ SHORT = ("no words", "check", "print, one fact", "print, 3 feeds, 2 builders", "
 NO_WORDS = b"error: out of memory\n"
 
 
-class Answer:
-    def __init__(self, status, out, err, was_refused):
-        self.status, self.out, self.err, self.was_refused = status, out, err, was_refused
-
+class Answer(collections.namedtuple("Answer", "status out err was_refused")):
     def code(self):
         """The code that standard error tells, where it is one line of the program's own."""
         told = re.fullmatch(rb"datacube: (.+)\n", self.err)
         return told[1].decode(errors="replace") if told else None
 
 
-class Program:
+class Program(programs.Room):
     def __init__(self, path, shim, folder):
-        self.path, self.shim, self.folder = path, shim, folder
-
-    def write(self, name, data):
-        with open(os.path.join(self.folder, name), "wb") as file:
-            file.write(data)
-        return name
+        super().__init__(path, folder)
+        self.shim = shim
 
     def run(self, words, given=b"", refuse=None, short=None, out=None, limit=60):
         told, tell = os.pipe()
@@ -93,7 +87,7 @@ class Program:
         env.update({"REFUSE": refuse} if refuse else {})
         env.update({"SHORT": short} if short else {})
         how = {"stdin": subprocess.PIPE, "stdout": out or subprocess.PIPE, "stderr": subprocess.PIPE}
-        ran = subprocess.Popen([self.path, *words], cwd=self.folder, env=env, pass_fds=(tell,), **how)
+        ran = subprocess.Popen([self.program, *words], cwd=self.folder, env=env, pass_fds=(tell,), **how)
         os.close(tell)
         try:
             text, err = ran.communicate(given, timeout=limit)
@@ -361,16 +355,21 @@ def ends_of_output(trials):
             trials.trial(f"{kind}: {name}", call, program, words, given)
 
 
+def nothing_written(status, err):
+    """Why a run that could write nothing doesn't say so."""
+    return None if (status, err) == (1, b"datacube: G6 0\n") else f"{status}, {err[:200]!r}"
+
+
 def full(program, words, given):
     with open("/dev/full", "wb") as file:
         answer = program.run(words, given, out=file)
-    return None if (answer.status, answer.err) == (1, b"datacube: G6 0\n") else f"{answer.status}, {answer.err[:200]!r}"
+    return nothing_written(answer.status, answer.err)
 
 
 def closed(program, words, given):
-    shell = ["/bin/sh", "-c", 'exec "$0" "$@" >&-', program.path, *words]
+    shell = ["/bin/sh", "-c", 'exec "$0" "$@" >&-', program.program, *words]
     ran = subprocess.run(shell, cwd=program.folder, input=given, stderr=subprocess.PIPE, timeout=60)
-    return None if (ran.returncode, ran.stderr) == (1, b"datacube: G6 0\n") else f"{ran.returncode}, {ran.stderr[:200]!r}"
+    return nothing_written(ran.returncode, ran.stderr)
 
 
 def gone(program, words, given):
@@ -378,7 +377,7 @@ def gone(program, words, given):
     os.close(reader)
     with os.fdopen(writer, "wb") as file:
         answer = program.run(words, given, out=file)
-    return None if (answer.status, answer.err) == (1, b"datacube: G6 0\n") else f"{answer.status}, {answer.err[:200]!r}"
+    return nothing_written(answer.status, answer.err)
 
 
 def cut_feeds(trials):
@@ -416,13 +415,14 @@ def cut_in_turn(program, data):
     return len(data) + 1
 
 
-def cut_cubes(trials):
+def parts_of_cubes(trials):
     program = trials.program
     program.write("schema.toml", SAMPLE.toml())
     program.write("feed.csv", oracle.encode([SAMPLE.header(), *MIXED]))
     cube = program.run(["print", "--partial", "schema.toml", "feed.csv"]).out
     program.write("whole.csv", cube)
     trials.trial("a cube cut at each byte, beside the whole one", cut_cube_in_turn, program, cube)
+    trials.trial("a cube through two pipes", through_pipes, program, cube)
 
 
 def cut_cube_in_turn(program, cube):
@@ -438,58 +438,30 @@ def cut_cube_in_turn(program, cube):
     return len(cube)
 
 
-def piped_cubes(trials):
-    """Files are told by device and inode where they are regular alone: the same cube through two pipes counts twice."""
-    program = trials.program
-    program.write("schema.toml", SAMPLE.toml())
-    program.write("feed.csv", oracle.encode([SAMPLE.header(), *MIXED]))
-    cube = program.run(["print", "--partial", "schema.toml", "feed.csv"]).out
-    trials.trial("a cube through two pipes", through_pipes, program, cube)
-
-
 def through_pipes(program, cube):
-    names = ["one.pipe", "two.pipe"]
-    for name in names:
-        os.mkfifo(os.path.join(program.folder, name))
-        threading.Thread(target=fill_pipe, args=(os.path.join(program.folder, name), cube), daemon=True).start()
+    """Files are told by device and inode where they are regular alone: the same cube through two pipes counts twice."""
+    names = [program.piped(it, [cube]) for it in ("one.pipe", "two.pipe")]
     answer = program.run(["merge", "schema.toml", *names])
     wanted = oracle.merge(SAMPLE, [cube, cube], False)[0]
     for name in names:
-        os.unlink(os.path.join(program.folder, name))
+        os.unlink(program.path(name))
     return None if (answer.status, answer.out) == (0, wanted) else f"{answer.status}, {answer.err[:200]!r}"
-
-
-def fill_pipe(path, data):
-    with open(path, "wb") as pipe:
-        pipe.write(data)
 
 
 def endless(program, schema, begin, more, code, options=()):
     """A feed that never ends, behind a pipe by name: it begins so, goes on with more, and is told of by a code."""
     program.write("endless.toml", schema.toml())
-    path = os.path.join(program.folder, "endless.csv")
-    os.mkfifo(path)
-
-    def feed():
-        try:
-            with open(path, "wb") as file:
-                file.write(begin)
-                for at in range(1, 10**9):
-                    file.write(more(at))
-        except BrokenPipeError:
-            pass
-
-    threading.Thread(target=feed, daemon=True).start()
-    answer = program.run(["print", *options, "endless.toml", "endless.csv"])
-    os.unlink(path)
+    feed = program.piped("endless.csv", itertools.chain([begin], map(more, itertools.count(1))))
+    answer = program.run(["print", *options, "endless.toml", feed])
+    os.unlink(program.path(feed))
     return None if (answer.status, answer.code(), answer.out) == (1, code, b"") else f"{answer.status}, {answer.err!r}"
 
 
 def planted_links(program):
     """The driver for Dask writes its text through no link that lies where it writes, and leaves nothing where it can't."""
-    folder = os.path.join(program.folder, "planted")
+    folder = program.path("planted")
     os.mkdir(folder)
-    at = lambda name: os.path.join(folder, name)
+    at = lambda name: f"{folder}/{name}"
     for name in ("theirs", "also theirs"):
         program.write(f"planted/{name}", b"theirs")
     program.write("planted/text", b"ours")
@@ -499,7 +471,7 @@ def planted_links(program):
     run = lambda *paths: subprocess.run([sys.executable, "-B", "-c", call, DASK, *paths], stderr=subprocess.PIPE)
     if run(at("text"), at("cube.csv")).returncode:
         return "the text wasn't handed out"
-    found = {name: open(at(name), "rb").read() for name in ("theirs", "also theirs", "cube.csv")}
+    found = {name: programs.read(at(name)) for name in ("theirs", "also theirs", "cube.csv")}
     if found != {"theirs": b"theirs", "also theirs": b"theirs", "cube.csv": b"ours"} or os.path.islink(at("cube.csv")):
         return f"written through a link: {found}"
     was = sorted(os.listdir(folder))
@@ -539,7 +511,7 @@ def big_inputs(trials):
     trials.trial("a schema of the longest length", lambda: None if sized(limit).out == b"ok\n" else "refused")
     trials.trial("a schema of one byte more",
                  lambda: None if sized(limit + 1).code() == "schema unreadable" else "not refused")
-    os.makedirs(os.path.join(program.folder, "folder"), exist_ok=True)
+    os.makedirs(program.path("folder"), exist_ok=True)
     unread = lambda: program.run(["print", "schema.toml", "folder"])
     trials.trial("a folder in place of a feed",
                  lambda: None if unread().code() in ("G3 1 F2", "feed 1 unreadable") else repr(unread().err))
@@ -635,11 +607,9 @@ def under_valgrind(trials):
 
 def checked(program, checker, words, given):
     whole = program.run(words, given)
-    call = [checker, "-q", "--error-exitcode=99", "--leak-check=no", program.path, *words]
-    ran = subprocess.run(call, cwd=program.folder, input=given, stdout=subprocess.PIPE, stderr=subprocess.PIPE, timeout=300)
-    if (ran.returncode, ran.stdout, ran.stderr) == (whole.status, whole.out, whole.err):
-        return None
-    return f"status {ran.returncode}, {ran.stderr[:300]!r}"
+    call = ["-q", "--error-exitcode=99", "--leak-check=no", program.program, *words]
+    status, out, err = programs.Room(checker, program.folder).run(call, given, seconds=300)
+    return None if (status, out, err) == (whole.status, whole.out, whole.err) else f"status {status}, {err[:300]!r}"
 
 
 def fastest(program, given, words=()):
@@ -679,7 +649,7 @@ def hurtful(trials):
     program = trials.program
     for name, feed_of in HURTFUL.items():
         trials.trial(f"near linear: {name}", near_linear, program, feed_of)
-    tool = os.path.join(program.folder, "colliding")
+    tool = program.path("colliding")
     subprocess.run(["cc", "-O2", "-o", tool, f"{ROOT}/scripts/colliding.c"], check=True)
     made = lambda kind: lambda lines: subprocess.run([tool, kind, str(lines)], stdout=subprocess.PIPE, check=True).stdout
     program.write("schema.toml", SAMPLE.toml())
@@ -701,9 +671,8 @@ def all_of(trials):
     refusals_in_turn(trials)
     ends_of_output(trials)
     cut_feeds(trials)
-    cut_cubes(trials)
+    parts_of_cubes(trials)
     trials.trial("links planted where the driver for Dask writes", planted_links, trials.program)
-    piped_cubes(trials)
     if not trials.is_short:
         growths_in_turn(trials)
         big_inputs(trials)

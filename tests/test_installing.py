@@ -4,6 +4,7 @@ All is tried in a copy of the repository whose released program is the one that 
 command `rt` is a script there that says that it was called.
 """
 import concurrent.futures
+import contextlib
 import glob
 import gzip
 import os
@@ -18,7 +19,7 @@ import time
 import links
 import programs
 import pytest
-from programs import read, write
+from programs import read, text_at, write
 
 ROOT = programs.ROOT
 # (what of the repository the copy lacks: what was built, and what has no part in this)
@@ -41,24 +42,22 @@ class Copy:
         os.mkdir(tools)
         for name in ("rt", "sha256sum"):
             is_kit = name == "rt"
-            with open(f"{tools}/{name}", "w", encoding="utf-8") as file:
-                file.write(f"#!/bin/sh\necho {name} >>{self.marks}\n" + ("exit 1\n" if is_kit else f'exec {shutil.which(name)} "$@"\n'))
+            write(f"{tools}/{name}", f"#!/bin/sh\necho {name} >>{self.marks}\n" + ("exit 1\n" if is_kit else f'exec {shutil.which(name)} "$@"\n'))
             os.chmod(f"{tools}/{name}", 0o755)
         self.env = {**os.environ, "PATH": f"{tools}:{os.environ['PATH']}", "LC_ALL": "C.UTF-8"}
         sources, whole = (self.shell(f". scripts/programs.sh; {it}") for it in ("sources_of .", f"sum_of {self.program}"))
-        with open(f"{release}/datacube.txt", "w", encoding="utf-8") as file:
-            file.write(f"program: {whole}\nkit: none\nsources: {sources}\n")
+        write(f"{release}/datacube.txt", f"program: {whole}\nkit: none\nsources: {sources}\n")
 
     def shell(self, call):
         return subprocess.run(["sh", "-c", call], cwd=self.root, env=self.env, stdout=subprocess.PIPE, text=True).stdout.strip()
 
-    def run(self, script, *words, folder=None, **more):
+    def run(self, script, *words, folder=None, umask=-1, **more):
         """The status of a script of the copy, its output and its standard error, and what it called."""
         if os.path.exists(self.marks):
             os.unlink(self.marks)
-        how = {"cwd": folder or self.root, "env": {**self.env, **more}, "stdin": subprocess.DEVNULL, "timeout": 120}
-        ran = subprocess.run([f"{self.root}/{script}", *words], stdout=subprocess.PIPE, stderr=subprocess.PIPE, text=True, **how)
-        called = open(self.marks, encoding="utf-8").read().split() if os.path.exists(self.marks) else []
+        how = {"cwd": folder or self.root, "env": {**self.env, **more}, "umask": umask, "stdin": subprocess.DEVNULL, "timeout": 120}
+        ran = subprocess.run([f"{self.root}/{script}", *words], capture_output=True, text=True, **how)
+        called = text_at(self.marks).split() if os.path.exists(self.marks) else []
         return ran.returncode, ran.stdout, ran.stderr, called
 
     def version(self):
@@ -67,6 +66,14 @@ class Copy:
     def source(self):
         """A file of the sources."""
         return f"{self.root}/crates/cube_core/src/lib.rt"
+
+    @contextlib.contextmanager
+    def edited(self):
+        """Has a source be another one while a block runs."""
+        was = read(self.source())
+        write(self.source(), was + b"// later\n")
+        yield
+        write(self.source(), was)
 
 
 @pytest.fixture(scope="session")
@@ -87,10 +94,8 @@ def said_by_program(copy):
 def test_it_builds_nothing_and_says_what_does(copy):
     """Where the release is older than the sources, it says what to run, and runs nothing."""
     assert copy.version() == said_by_program(copy), "before the edit"
-    was = read(copy.source())
-    write(copy.source(), was + b"// later\n")
-    status, out, err, called = copy.run("datacube", "--version")
-    write(copy.source(), was)
+    with copy.edited():
+        status, out, err, called = copy.run("datacube", "--version")
     assert (status, out) == (1, ""), "the status and the output"
     assert "built from other sources" in err and "scripts/build.sh" in err, f"it says {err!r}"
     assert "rt" not in called, "the kit was called"
@@ -212,14 +217,9 @@ def test_install_and_take_away(copy):
     os.makedirs(f"{caller}/there/share/zsh")
     write(f"{caller}/there/share/zsh/other", b"")
     before = tree(caller)
-    mask = os.umask(0o077)
-    try:
-        for prefix in ("there", "new/prefix/"):
-            for _ in range(2):
-                status, _, err, called = copy.run("scripts/install.sh", prefix, folder=caller)
-                assert (status, err, "rt" in called) == (0, "", False), "installing"
-    finally:
-        os.umask(mask)
+    for prefix in ("there", "there", "new/prefix/", "new/prefix/"):
+        status, _, err, called = copy.run("scripts/install.sh", prefix, folder=caller, umask=0o077)
+        assert (status, err, "rt" in called) == (0, "", False), "installing"
     installed = tree(caller)
     for path, rights in installed.items():
         wanted = before.get(path) or {"d": "drwxr-xr-x", "l": "lrwxrwxrwx"}.get(rights[0]) or (
@@ -264,10 +264,8 @@ def examples():
 
 def test_install_builds_nothing(copy):
     """A release that is older than the sources isn't installed, and nothing is built for it."""
-    was = read(copy.source())
-    write(copy.source(), was + b"// later\n")
-    status, _, err, called = copy.run("scripts/install.sh", f"{copy.folder}/none")
-    write(copy.source(), was)
+    with copy.edited():
+        status, _, err, called = copy.run("scripts/install.sh", f"{copy.folder}/none")
     assert (status, "rt" in called, os.path.exists(f"{copy.folder}/none")) == (1, False, False), "its status, the kit, a folder"
     assert "scripts/build.sh" in err, f"it says {err!r}"
 
@@ -281,11 +279,7 @@ def test_a_package(copy):
         pytest.skip("dpkg-deb isn't installed")
     room = f"{copy.folder}/package"
     os.makedirs(f"{room}/packed")
-    mask = os.umask(0o077)
-    try:
-        status, _, err, _ = copy.run("scripts/deb.sh", "packed", folder=room)
-    finally:
-        os.umask(mask)
+    status, _, err, _ = copy.run("scripts/deb.sh", "packed", folder=room, umask=0o077)
     assert status == 0, err
     (package,) = glob.glob(f"{room}/packed/*.deb")
     files = f"{room}/files"

@@ -24,7 +24,8 @@ import page as builder
 import pytest
 from browser import BEATS, NAMELESS, ROOT, SHOP, SHOP_SCHEMA, Keys, pause_for, see_contrast
 from generated import random_case, written
-from programs import read, write
+from processes import memory_of, of_family, spent_by
+from programs import Room, read, write
 from workloads import WORKLOADS, make
 
 try:
@@ -165,10 +166,8 @@ def module(page, request):
 
 def ran(folder, *words):
     """The status of the program in a folder, its output, and the line of its failure or nothing."""
-    how = {"cwd": folder, "stdin": subprocess.DEVNULL, "stdout": subprocess.PIPE, "stderr": subprocess.PIPE, "timeout": 300}
-    done = subprocess.run([browser.datacube(), *words], **how)
-    first = done.stderr.split(b"\n")[0]
-    return done.returncode, done.stdout, first.removeprefix(b"datacube: ") if done.returncode not in (0, 4) else b""
+    status, out, err = Room(browser.datacube(), folder).run(words, seconds=300)
+    return status, out, err.split(b"\n")[0].removeprefix(b"datacube: ") if status not in (0, 4) else b""
 
 
 # What isn't seen in a browser.
@@ -734,33 +733,9 @@ def test_workload(module, tmp_path, name, tell):
     tell(f"{name}: {len(wanted) / 1e6:.1f} MB of cube in {took:.1f} s")
 
 
-def processes_of(driver):
-    """The numbers of a browser's processes."""
-    children = {}
-    for name in filter(str.isdigit, os.listdir("/proc")):
-        try:
-            with open(f"/proc/{name}/stat") as file:
-                children.setdefault(int(file.read().rpartition(")")[2].split()[1]), []).append(int(name))
-        except OSError:
-            continue
-    below = [driver.service.process.pid]
-    for it in below:
-        below += children.get(it, [])
-    return below
-
-
 def use_of(driver):
     """The memory that a browser's processes have by themselves, in MiB, and the processor time that they took, in seconds."""
-    memory = ticks = 0
-    for it in processes_of(driver):
-        try:
-            with open(f"/proc/{it}/smaps_rollup") as file:
-                memory += int(re.search(r"^Pss: +(\d+)", file.read(), re.M)[1])
-            with open(f"/proc/{it}/stat") as file:
-                ticks += sum(map(int, file.read().rpartition(")")[2].split()[11:13]))
-        except (OSError, TypeError):
-            continue
-    return memory / 1024, ticks / os.sysconf("SC_CLK_TCK")
+    return tuple(of_family(driver.service.process.pid, it) for it in (memory_of, lambda process: spent_by(process, has_children=False)))
 
 
 @pytest.mark.asked("large")

@@ -11,6 +11,7 @@ import tempfile
 import threading
 import time
 
+import programs
 import pytest
 
 pyte = pytest.importorskip("pyte", reason="python3-pyte isn't installed")
@@ -71,45 +72,25 @@ class Terminal:
         assert self.rows() == (list(rows) or [""])
 
 
-class Trial:
+class Trial(programs.Room):
     """A folder with what a run needs, and the run of it in a terminal."""
 
     def __init__(self, program, folder):
-        self.program, self.folder = program, folder
+        super().__init__(program, folder)
         self.write("schema.toml", SCHEMA)
 
-    def write(self, name, data):
-        with open(f"{self.folder}/{name}", "wb") as file:
-            file.write(data)
-        return name
-
     def slowly(self, first, pieces, pause=0.1):
-        """A pipe in the place of a file, into which a thread puts bytes at once and then each piece after a pause."""
-        path = f"{self.folder}/slow.csv"
-        os.mkfifo(path)
-
-        def put():
-            try:
-                with open(path, "wb", buffering=0) as pipe:
-                    pipe.write(first)
-                    for piece in pieces:
-                        time.sleep(pause)
-                        pipe.write(piece)
-            except BrokenPipeError:
-                pass
-
-        threading.Thread(target=put, daemon=True).start()
-        return "slow.csv"
+        """A pipe in the place of a file, into which come bytes at once and then each piece after a pause."""
+        return self.piped("slow.csv", [first, *pieces], pause)
 
     def slow(self):
         return self.slowly(HEADER + records(1, 1)[0], records(2, 18))
 
     def plain(self, *words):
         """The status and the output of a run without a terminal."""
-        ran = subprocess.run([self.program, *words], cwd=self.folder, stdin=subprocess.DEVNULL, stdout=subprocess.PIPE, stderr=subprocess.PIPE, timeout=SECONDS)
-        return ran.returncode, ran.stdout
+        return self.run(words, seconds=SECONDS)[:2]
 
-    def run(self, *words, term="xterm", shared=False, given=b"", wait=0):
+    def shown(self, *words, term="xterm", shared=False, given=b"", wait=0):
         """The status of a run whose standard error is a terminal, its output, and what the terminal got; where it is shared, the
         output goes there too. The output is read after so many seconds."""
         ours, theirs = pty.openpty()
@@ -148,7 +129,7 @@ def command(*words):
     def tried(it):
         it.write("whole.csv", feed(19))
         wanted = it.plain(*words, "whole.csv")
-        status, output, terminal = it.run(*words, it.slow())
+        status, output, terminal = it.shown(*words, it.slow())
         assert (status, output) == wanted
         terminal.is_steady(3)
         terminal.has(r"datacube: reading 1 feed: [1-9]\d* lines, \d+ a second")
@@ -170,7 +151,7 @@ def lines_are_counted(it):
     """The lines of all feeds are counted, and each once."""
     it.slowly(HEADER + b"".join(records(1, 9)), [b""] * 12)
     it.write("other.csv", feed(30))
-    status, _, terminal = it.run("print", "--builders", "3", "schema.toml", "slow.csv", "other.csv")
+    status, _, terminal = it.shown("print", "--builders", "3", "schema.toml", "slow.csv", "other.csv")
     counts = {int(found[1]) for found in map(re.compile(r"datacube: reading 2 feeds: (\d+) lines.*").fullmatch, terminal.lines()) if found}
     assert status == 0 and counts and counts <= {39, 40, 41}, f"39 lines were taken, 41 with the ends, and {counts} was shown"
     terminal.ends_with()
@@ -179,7 +160,7 @@ def lines_are_counted(it):
 @trial("a feed that stalls")
 def stalled(it):
     """The line comes where no line of a feed does."""
-    status, _, terminal = it.run("print", "schema.toml", it.slowly(b"", [feed(3)], pause=1.3))
+    status, _, terminal = it.shown("print", "schema.toml", it.slowly(b"", [feed(3)], pause=1.3))
     assert status == 0
     terminal.is_steady(2)
     terminal.has(r"datacube: reading 1 feed: 0 lines, 0 a second")
@@ -189,7 +170,7 @@ def stalled(it):
 @trial("live")
 def live(it):
     """`live` shows the line while it reads its feeds, and it is gone before the first reply, which the terminal gets too."""
-    status, _, terminal = it.run("live", "schema.toml", it.slowly(HEADER, records(1, 12)), given=b"slice,\\A,\\A\n", shared=True)
+    status, _, terminal = it.shown("live", "schema.toml", it.slowly(HEADER, records(1, 12)), given=b"slice,\\A,\\A\n", shared=True)
     _, printed = it.plain("print", "schema.toml", it.write("whole.csv", feed(12)))
     rows = terminal.rows()
     assert (status, rows[-1], len(rows)) == (0, printed.splitlines()[-1].decode(), 3), rows
@@ -203,7 +184,7 @@ def merging(it, *options):
     lines = cubes[0].splitlines(keepends=True)
     wanted = it.plain("merge", "schema.toml", it.write("one.csv", cubes[0]), it.write("two.csv", cubes[1]))
     it.slowly(b"".join(lines[:3]), lines[3:18] + [b"".join(lines[18:])])
-    return wanted, it.run("merge", *options, "schema.toml", "slow.csv", "two.csv")
+    return wanted, it.shown("merge", *options, "schema.toml", "slow.csv", "two.csv")
 
 
 @trial("merge")
@@ -219,7 +200,7 @@ def merge(it):
 @trial("output to the terminal")
 def output_to_the_terminal(it):
     """Where the output goes to the terminal too, the line is gone before its first byte."""
-    status, _, terminal = it.run("print", "schema.toml", it.slowly(HEADER, records(1, 12)), shared=True)
+    status, _, terminal = it.shown("print", "schema.toml", it.slowly(HEADER, records(1, 12)), shared=True)
     _, wanted = it.plain("print", "schema.toml", it.write("whole.csv", feed(12)))
     assert status == 0
     terminal.is_steady(3)
@@ -230,7 +211,7 @@ def output_to_the_terminal(it):
 def writing(it):
     """While the output waits for its reader the bytes that went out are shown."""
     it.write("whole.csv", HEADER + b"".join(b"I,%d,%d,k%d,%d\n" % (n, n, n % 3, n) for n in range(5000)))
-    status, output, terminal = it.run("print", "schema.toml", "whole.csv", wait=2.5)
+    status, output, terminal = it.shown("print", "schema.toml", "whole.csv", wait=2.5)
     assert status == 0 and len(output) > 150000
     terminal.has(r"datacube: writing \d+ lines: \d+ bytes")
     terminal.ends_with()
@@ -241,7 +222,7 @@ def failing(it):
     """Of a run that fails, the line that tells so and those that say why stay alone."""
     it.write("schema.toml", b"max_records = 10\n" + SCHEMA)
     name = it.slow()
-    status, output, terminal = it.run("print", "schema.toml", name)
+    status, output, terminal = it.shown("print", "schema.toml", name)
     assert (status, output) == (1, b"")
     terminal.is_steady(1)
     terminal.ends_with("datacube: G3 1 F4", f"  {name}, record 11: one data record more than max_records, which is 10",
@@ -252,7 +233,7 @@ def failing(it):
 def quick(it):
     """A run of less than half a second shows nothing."""
     name, start = it.write("whole.csv", feed(50)), time.monotonic()
-    status, _, terminal = it.run("print", "schema.toml", name)
+    status, _, terminal = it.shown("print", "schema.toml", name)
     assert status == 0 and (terminal.text == b"" or time.monotonic() - start >= 0.5)
 
 
@@ -260,7 +241,7 @@ def silent(*options, **how):
     """A run over a slow feed that shows nothing."""
 
     def tried(it):
-        status, _, terminal = it.run(*options, "schema.toml", it.slow(), **how)
+        status, _, terminal = it.shown(*options, "schema.toml", it.slow(), **how)
         assert (status, terminal.text) == (0, b"")
 
     return tried
@@ -282,16 +263,15 @@ def quiet_merge(it):
 @trial("no terminal")
 def no_terminal(it):
     """Standard error that is no terminal gets nothing."""
-    words, env = [it.program, "print", "schema.toml", it.slow()], {**os.environ, "TERM": "xterm"}
-    ran = subprocess.run(words, cwd=it.folder, env=env, stdout=subprocess.PIPE, stderr=subprocess.PIPE, timeout=SECONDS)
-    assert (ran.returncode, ran.stderr) == (0, b"")
+    status, _, err = programs.Room("env", it.folder).run(["TERM=xterm", it.program, "print", "schema.toml", it.slow()], seconds=SECONDS)
+    assert (status, err) == (0, b"")
 
 
 @trial("a feed from the keyboard")
 def keyboard(it):
     """Without words, a standard input that is a terminal is told of, and how to get help; one that is none isn't."""
     typed = feed(3)
-    plain = subprocess.run([it.program], input=typed, stdout=subprocess.PIPE, stderr=subprocess.PIPE, timeout=SECONDS)
+    plain = it.run([], typed, SECONDS)
     ours, theirs = pty.openpty()
     ran = subprocess.Popen([it.program], cwd=it.folder, stdin=theirs, stdout=subprocess.PIPE, stderr=subprocess.PIPE)
     os.close(theirs)
@@ -301,7 +281,7 @@ def keyboard(it):
     finally:
         ran.kill()
         os.close(ours)
-    assert (ran.returncode, output, plain.stderr) == (0, plain.stdout, b"")
+    assert (ran.returncode, plain) == (0, (0, output, b""))
     assert said == b"datacube: reading a feed from the keyboard, which Ctrl-D ends; for help: datacube --help\n"
 
 

@@ -21,8 +21,7 @@ def test_a_case_that_is_written_is_read_back(room, rng):
     other.files, other.earlier = files, [(words, text(rng))]
     status, out, given = rng.choice([0, 1, 4]), text(rng), text(rng)
     path = f"{room.folder}/found.case"
-    with open(path, "w", encoding="utf-8", newline="") as file:
-        file.write(other.block("why", words, (status, out, b"datacube: G3 1 F3\n"), given))
+    programs.write(path, other.block("why", words, (status, out, b"datacube: G3 1 F3\n"), given))
     [case] = cases.read_cases(path)
     assert (case.name, case.words, case.status) == ("of a case", words, status)
     assert [(it, cases.bytes_of("".join(lines))) for it, lines in case.before] == other.earlier

@@ -7,6 +7,7 @@ import shutil
 import tempfile
 
 import cases
+import programs
 import pytest
 
 READ = [it for it in cases.all_cases("cases") if it.stdout is None]
@@ -93,8 +94,7 @@ def folder(program):
 def failing(tried, spoiling, folder):
     """The first of some cases that fails on the spoiled program, or None."""
     wrapper = f"{folder}/spoiled"
-    with open(wrapper, "w", encoding="utf-8") as file:
-        file.write(wrapper_of(spoiling, f"{folder}/program", f"{folder}/files"))
+    programs.write(wrapper, wrapper_of(spoiling, f"{folder}/program", f"{folder}/files"))
     os.chmod(wrapper, 0o755)
     with cases.room_of(wrapper) as room:
         return next((case for at, case in enumerate(tried) if cases.try_case(case, at, room)), None)

@@ -10,6 +10,7 @@ The stores lie in TMPDIR, else in /dev/shm where that is there: a kill leaves wh
 trials don't wait for one.
 """
 import collections
+import contextlib
 import functools
 import hashlib
 import os
@@ -27,6 +28,7 @@ import oracle
 import pytest
 import store_calls
 import store_crashes
+from programs import read
 from store_rooms import FEEDS, SCHEMA, SOURCES, Changes, LeftOut, Room, Wrong, ended_well, everything, expect, feed_bytes, refusal_of, shown, taken
 
 PAGE = 4096
@@ -181,8 +183,7 @@ def killed_store(room, rng, count):
     live = room.open("killed.db")
     expect(live.ask([b"print"]), store.state.reply([b"print"]), "the last answer")
     ended_well(live, store.state)
-    if KNOWS_STRICT:
-        see_file(room, "killed.db", store.rows)
+    see_file(room, "killed.db", store.rows)
     return store.counts
 
 
@@ -256,19 +257,18 @@ class Signalled:
 
 
 def see_file(room, name, records):
-    """Sees that the file alone has these changes and the notes of the feeds, as SQLite reads it, and nothing else."""
+    """Sees that the file alone has these changes and the notes of the feeds, as SQLite reads it, if it does, and nothing else."""
+    if not KNOWS_STRICT:
+        return
     with tempfile.TemporaryDirectory() as folder:
         shutil.copyfile(room.path(name), f"{folder}/copy.db")
-        base = sqlite3.connect(f"{folder}/copy.db")
-        try:
+        with contextlib.closing(sqlite3.connect(f"{folder}/copy.db")) as base:
             expect(base.execute("PRAGMA integrity_check").fetchall(), [("ok",)], "integrity_check")
             expect(base.execute("PRAGMA page_size").fetchone(), (PAGE,), "the page size")
             expect(base.execute("SELECT sql FROM sqlite_schema ORDER BY name").fetchall(), [(it,) for it in TABLES], "the tables")
             rows = base.execute("SELECT number, source, record, typeof(record) FROM changes ORDER BY number").fetchall()
             digests = [it[0] for it in base.execute("SELECT digest FROM changes ORDER BY number")]
             notes = base.execute("SELECT source, length, digest FROM feeds ORDER BY source").fetchall()
-        finally:
-            base.close()
     expect(len(rows), len(records), "the number of rows")
     for at, (row, record) in enumerate(zip(rows, records), 1):
         expect(row, (at, int(record[0]), oracle.line_of(record)[:-1], "blob"), f"row {at}")
@@ -299,8 +299,7 @@ def odd_records(room, rng):
     words = ["live", *room.words("odd.db")]
     expect(room.run(words, given), (state.status(), b"", b""), "a session without a question")
     expect(room.run(words, b"print\nrefusals\n"), (state.status(), everything(state), b""), "the next one")
-    if KNOWS_STRICT:
-        see_file(room, "odd.db", records)
+    see_file(room, "odd.db", records)
     return f"{len(records)} records"
 
 
@@ -332,16 +331,19 @@ def second_process(room, rng):
     return None
 
 
+def of_sqlite(path, *statements, **how):
+    """What SQLite answers to the last of some statements over a file."""
+    with contextlib.closing(sqlite3.connect(path, isolation_level=None, **how)) as base:
+        return [base.execute(it).fetchall() for it in statements][-1]
+
+
 def is_locked(path):
     """Whether SQLite can't read a file now."""
-    base = sqlite3.connect(path, timeout=0)
     try:
-        base.execute("SELECT count(*) FROM changes").fetchone()
+        of_sqlite(path, "SELECT count(*) FROM changes", timeout=0)
         return False
     except sqlite3.OperationalError as error:
         return "locked" in str(error)
-    finally:
-        base.close()
 
 
 def full_disk(room, rng):
@@ -365,8 +367,7 @@ def fill_disk(room, place, rng):
         turns += 1
         subprocess.run(["mount", "-o", f"remount,size={size}", "tmpfs", place], check=True)
         ended_well(store.found(), store.state)
-    if KNOWS_STRICT:
-        see_file(room, "disk/full.db", store.rows)
+    see_file(room, "disk/full.db", store.rows)
     return f"{turns} times D7, {store.counts['changes']} changes that were found, {store.counts['lost']} lost after the last answer"
 
 
@@ -395,8 +396,7 @@ class Spoiled:
     def __init__(self, room, rng, count):
         self.room, self.counts = room, collections.Counter()
         self.state = room.made("whole.db", count, rng)[1]
-        with open(room.path("whole.db"), "rb") as file:
-            self.data = file.read()
+        self.data = read(room.path("whole.db"))
         self.right = everything(self.state)
 
     def pages(self):
@@ -448,9 +448,7 @@ def turned_bytes(room, rng):
 def turned_rows(room, rng):
     """A byte turned in the record, the digest, the source or the number of a row: the row is told, or the file is refused."""
     store = Spoiled(room, rng, 400)
-    base = sqlite3.connect(room.path("whole.db"))
-    rows = base.execute("SELECT number, source, record, digest FROM changes ORDER BY number").fetchall()
-    base.close()
+    rows = of_sqlite(room.path("whole.db"), "SELECT number, source, record, digest FROM changes ORDER BY number")
     expect([row[3] for row in rows], oracle.digests_of([row[:3] for row in rows]), "the digests of the rows")
     told = collections.Counter()
     for number, source, record, digest in rng.sample(rows, 12 if room.is_short else 60):
@@ -479,9 +477,7 @@ def old_store(room, rng):
         raise LeftOut("Python's SQLite doesn't know STRICT tables")
     name = "old.db"
     shutil.copyfile(OLD_STORE, room.path(name))
-    base = sqlite3.connect(room.path(name))
-    records = [oracle.records_of(bytes(it[0]))[0] for it in base.execute("SELECT record FROM changes ORDER BY number")]
-    base.close()
+    records = [oracle.records_of(bytes(it[0]))[0] for it in of_sqlite(room.path(name), "SELECT record FROM changes ORDER BY number")]
     state = taken(oracle.Session(SCHEMA, FEEDS), records)
     code, out, _ = refusal_of(room, room.words(name), b"print\nrefusals\n")
     expect((code, out), (None, everything(state)), "a start over a store of 1.11.5")
@@ -491,11 +487,8 @@ def old_store(room, rng):
     ended_well(live, taken(state, more))
     code, out, _ = refusal_of(room, room.words(name), b"print\nrefusals\n")
     expect((code, out), (None, everything(state)), "the next start")
-    base = sqlite3.connect(room.path(name))
-    kept = base.execute("SELECT sql FROM sqlite_schema WHERE name = 'changes'").fetchall()
-    count = base.execute("SELECT count(*), max(number) FROM changes").fetchone()
-    base.close()
-    expect((kept, count), ([(OLD_TABLE,)], (len(records) + 60, len(records) + 60)), "its table of changes")
+    kept = of_sqlite(room.path(name), "SELECT sql, (SELECT count(*) FROM changes), (SELECT max(number) FROM changes) FROM sqlite_schema WHERE name = 'changes'")
+    expect(kept, [(OLD_TABLE, len(records) + 60, len(records) + 60)], "its table of changes")
     return f"{len(records)} rows, and 60 behind them"
 
 
@@ -561,10 +554,7 @@ def changed_tables(room, rng):
         ("D5 3", "INSERT INTO feeds VALUES(3, 0, zeroblob(32))"),
     ):
         name = room.copied("sound.db", "changed.db")
-        base = sqlite3.connect(room.path(name), isolation_level=None)
-        for statement in statements:
-            base.execute(statement).fetchall()
-        base.close()
+        of_sqlite(room.path(name), *statements)
         got, out, _ = refusal_of(room, room.words(name), b"print\nrefusals\n")
         expect((got, out), (code, b"" if code else everything(state)), f"a start after {'; '.join(statements)}")
         done += 1
@@ -574,11 +564,8 @@ def changed_tables(room, rng):
 def no_stores(room, rng):
     """Files that are no stores, and paths that can't be opened: nothing is written to a file, and nothing made beside it."""
     os.makedirs(room.path("folder.db"), exist_ok=True)
-    base = sqlite3.connect(room.path("other.db"), isolation_level=None)
-    base.execute("CREATE TABLE other(a)")
-    base.close()
-    with open(room.path("other.db"), "rb") as file:
-        other = file.read()
+    of_sqlite(room.path("other.db"), "CREATE TABLE other(a)")
+    other = read(room.path("other.db"))
     for name, data in (
         ("text.db", b"op,id\n" * 2000),
         ("short.db", b"not a database\n"),
@@ -620,12 +607,8 @@ def asked_of(room, name):
 
 def left_at(room, name):
     """The files whose names begin as a path's does, and what each has."""
-    found = {}
-    for it in os.listdir(room.folder):
-        if name and it.startswith(name) and os.path.isfile(room.path(it)):
-            with open(room.path(it), "rb") as file:
-                found[it] = file.read()
-    return found
+    beside = [it for it in os.listdir(room.folder) if name and it.startswith(name) and os.path.isfile(room.path(it))]
+    return {it: read(room.path(it)) for it in beside}
 
 
 def cut_short(room, rng):
