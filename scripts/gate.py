@@ -286,7 +286,8 @@ def see_release(tally):
     """Sees that the released program is what the proved sources give."""
     print("== the released program", flush=True)
     sources = shell(f"sources_of {ROOT}")
-    recorded = {place: dict(key_values(place)) for place in (BUILT, RELEASE)}
+    lines = {place: contents(f"{place}/datacube.txt").decode().splitlines() for place in (BUILT, RELEASE)}
+    recorded = {place: dict(it.split(": ", 1) for it in some) for place, some in lines.items()}
     tally.note(recorded[RELEASE].get("sources") == sources, "the released program was built from these sources")
     tally.note(shell(f"is_whole {RELEASE} && echo yes") == "yes", "its bytes are those that were recorded")
     is_same = recorded[BUILT].get("sources") == sources and contents(f"{BUILT}/datacube") == contents(f"{RELEASE}/datacube")
@@ -294,13 +295,6 @@ def see_release(tally):
     if not is_same:
         print(f"        released by {recorded[RELEASE].get('kit')}, built by {recorded[BUILT].get('kit')}")
         print("        scripts/release.sh makes what was built the released program")
-
-
-def key_values(place):
-    """The lines of a program's record."""
-    for line in contents(f"{place}/datacube.txt").decode().splitlines():
-        key, _, value = line.partition(": ")
-        yield key, value
 
 
 def contents(path):

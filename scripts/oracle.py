@@ -1035,17 +1035,13 @@ def size_of(word):
     return size if 1 <= size <= 2**40 else None
 
 
-def is_size(word):
-    return size_of(word) is not None
-
-
 def is_cell_bound(word):
     return bool(re.fullmatch(rb"[1-9][0-9]*", word)) and int(word) < 2**63
 
 
 # (whether an option's word is right; None where it has none)
 OPTIONS = {b"--ring": is_between(1, 65536), b"--builders": is_between(1, 8), b"--threads": is_between(1, 16), b"--shard": is_shard,
-           b"--max-record": is_size, b"--commit-every": is_between(1, 1000000), b"--by": is_text, b"--of": is_text, b"--partial": None, b"--check": None,
+           b"--max-record": size_of, b"--commit-every": is_between(1, 1000000), b"--by": is_text, b"--of": is_text, b"--partial": None, b"--check": None,
            b"--json": None, b"--aligned": None, b"--width": is_between(20, 10000), b"--where": is_text, b"--strict": None,
            b"--max-cells": is_cell_bound}
 # (options that may stand several times)

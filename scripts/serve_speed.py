@@ -110,7 +110,7 @@ def main():
         server.stderr.readline()
         port, token = int(address.split(":")[2].split("/")[0]), address.partition("_token=")[2]
         found, results = multiprocessing.Queue(), {"reads": [], "posts": [], "whole cubes": []}
-        before = processes.spent_by(server.pid)
+        before = processes.spent_by(server.pid, has_children=False)
         half, rate = given.readers // 2, given.reads / given.readers
         jobs = [("reads", port, token, it, rate, given.seconds) for it in (half, given.readers - half)]
         jobs += [("posts", port, token, given.changes, given.together, given.seconds)] if given.changes else []
@@ -123,7 +123,7 @@ def main():
             results[name] += times
         for it in workers:
             it.join()
-        spent = processes.spent_by(server.pid) - before
+        spent = processes.spent_by(server.pid, has_children=False) - before
         server.terminate()
         server.communicate()
     for name, times in results.items():

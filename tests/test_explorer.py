@@ -9,9 +9,6 @@ from browser import (NAMELESS, SHOP, SHOP_SCHEMA, TWO, Keys, number_of, print_cu
                      wanted_rows)
 from programs import write
 
-# The shop.
-
-
 def see_shop(page, name, open_dimensions):
     """Compares the table with what the program prints for the command that the page shows."""
     program, command, schema, pattern, *_ = page.command()

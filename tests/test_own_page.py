@@ -711,9 +711,6 @@ def test_names_and_contrast(sales, place):
         see_contrast(sales)
 
 
-# A million lines.
-
-
 @pytest.mark.asked("large")
 @pytest.mark.parametrize("name", WORKLOADS)
 def test_workload(module, tmp_path, name, tell):
@@ -763,9 +760,6 @@ def test_large(page, tmp_path, tell):
     assert longest < pause_for(took), "the page answers meanwhile"
     assert took < 8, "seconds"
     assert most - before < 600e6 / 2**20, "MiB"
-
-
-# Pictures.
 
 
 def shop_sales():
