@@ -15,12 +15,11 @@ use Rattle.std.proofs.lemmas.List.Elements.{filter-append}
 use Rattle.std.proofs.lemmas.List.Sorted.{All-permutation, IsPermutation-refl}
 use Rattle.std.proofs.lemmas.Map.Keys.{IsDistinct-cons}
 use Rattle.std.proofs.lemmas.Slice.Eq.{bytes_eq-Decides}
-use Rattle.cube_core.specs.Arrival.{Arrivals, of_sources}
+use Rattle.cube_core.specs.Arrival.{Arrivals}
 use Rattle.cube_core.specs.Conditions.{hold, of_interest}
-use Rattle.cube_core.specs.GroupingSet.{sets_of_part}
 use Rattle.cube_core.specs.Layout.{Layout}
 use Rattle.cube_core.specs.Refusals.{code_of_fault}
-use Rattle.cube_core.specs.Run.{SourceBytes, AreItemsOf, AreGood}
+use Rattle.cube_core.specs.Run.{SourceBytes, AreGood}
 use Rattle.cube_core.specs.Takes.{fits, is_id}
 use Rattle.cube_core.specs.declared.change.Change.{Change}
 use Rattle.cube_core.specs.declared.change.Change.TheVariants.{Insert}
@@ -47,10 +46,7 @@ use Rattle.cube_build.specs.Counting.{AreCountsOf, AreRefusedOf, AreWeighed, Cou
 use Rattle.cube_build.specs.Counting.{AreCounts, CountsAt, CountsItem, IsCounted, IsCounter, IsNewCounter}
 use Rattle.cube_build.specs.Counting.{IsOneCounter, IsWeighed, putting}
 use Rattle.cube_build.specs.Counting.{refusals_in, refusing, weight_of, with_account, with_entry}
-use Rattle.cube_build.specs.CountedRun.{AreAllCounts}
-use Rattle.cube_build.specs.Interest.{BuildsWhere, PartStandsWhere}
-use Rattle.cube_build.specs.Parted.{IsPartOver}
-use Rattle.cube_build.specs.Parts.{BuiltView}
+use Rattle.cube_build.specs.CountedRun.{CountsFeeds}
 use Rattle.cube_build.proofs.BuilderLaws.{HasFacts-add, HasFacts-permutation}
 
 -- ---- a line fault
@@ -521,14 +517,12 @@ finest-all conditions refused ledger weights cube is =
       facts_are = counted.has.facts_are;
     }
 
--- what is kept of its ledger is counted in a cube over all grouping sets that was filled from it
-pub kept-counts : (conditions : List Condition) (refused ledger kept : LedgerView) (weights : List ℕ)
-    (finest filled : Lattice) → kept ≡ ledger_of_interest conditions ledger → filled.schema ≡ refused.schema
-    → ((facts : List Fact) → IsCubeOfAll facts finest → IsCubeOfAll facts filled)
-    → IsCounter false conditions refused ledger weights finest → AreCounts refused kept filled
-kept-counts conditions refused ledger kept weights finest filled same schema fills is =
-    let all = fills (of_interest conditions (all_facts ledger.accounts))
-    (finest-all conditions refused ledger weights finest is) in
+-- what is kept of its ledger is counted in its cube
+pub kept-counts : (conditions : List Condition) (refused ledger kept : LedgerView) (weights : List ℕ) (cube : Lattice)
+    → kept ≡ ledger_of_interest conditions ledger
+    → IsCounter false conditions refused ledger weights cube → AreCounts refused kept cube
+kept-counts conditions refused ledger kept weights cube same is =
+    let counted = is.counted refl in
     let facts : all_facts (ledger_of_interest conditions ledger).accounts
     ≡ of_interest conditions (all_facts ledger.accounts) = all_facts-of_interest conditions ledger.accounts in
     rw same (record {
@@ -536,32 +530,30 @@ kept-counts conditions refused ledger kept weights finest filled same schema fil
         schema = is.noted.schema;
         refusals = is.noted.refusals ∙ sym (refusals-of_interest conditions ledger.accounts);
       };
-      schema = schema ∙ is.noted.schema;
-      fit = rw facts (is.counted refl).fit;
-      has = rw facts (record { cells = all.cells; facts_are = all.facts_are });
+      schema = is.schema;
+      fit = rw facts counted.fit;
+      has = rw facts counted.has;
     })
 
 -- and these are its counts
-pub counts-of : (counter : CounterView) (refused : LedgerView) (weights : List ℕ) (finest fresh filled : Lattice)
+pub counts-of : (counter : CounterView) (refused : LedgerView) (weights : List ℕ) (cube : Lattice)
     (counts : BuilderView) → counter.is_spent ≡ false
-    → counts.ledger ≡ ledger_of_interest counter.conditions counter.ledger → counts.cube ≡ filled
-    → IsNewLattice refused.schema (sets_of_part 0 1 refused.schema.grouping_sets) fresh → SameSets fresh filled
-    → ((facts : List Fact) → IsCubeOfAll facts finest → IsCubeOfAll facts filled)
-    → IsCounter false counter.conditions refused counter.ledger weights finest → AreCountsOf counter counts
-counts-of counter refused weights finest fresh filled counts unspent kept there new same fills is =
-    let schema : refused.schema ≡ counter.ledger.schema = is.noted.schema in
+    → counts.ledger ≡ ledger_of_interest counter.conditions counter.ledger → counts.cube ≡ cube
+    → IsCounter false counter.conditions refused counter.ledger weights cube → AreCountsOf counter counts
+counts-of counter refused weights cube counts unspent kept there is =
+    let facts : all_facts (ledger_of_interest counter.conditions counter.ledger).accounts
+    ≡ of_interest counter.conditions (all_facts counter.ledger.accounts) =
+    all_facts-of_interest counter.conditions counter.ledger.accounts in
     record {
       unspent = unspent;
-      ledger = kept;
-      over = record {
-        schema = ap (λ (l : Lattice). l.schema) there ∙ same.schema ∙ new.schema_is ∙ schema;
-        sets =
-            ap (λ (l : Lattice). l.sets) there ∙ same.sets ∙ new.sets_are
-            ∙ ap (λ (s : Layout). sets_of_part 0 1 s.grouping_sets) schema;
+      are = record {
+        ledger_is = kept;
+        finest = rw there (is.counted refl).sets;
+        has = rw there (record {
+          schema = is.schema;
+          facts = rw facts (finest-all counter.conditions refused counter.ledger weights cube is);
+        });
       };
-      has = rw there
-          (kept-counts counter.conditions refused counter.ledger counts.ledger weights finest filled kept
-          (same.schema ∙ new.schema_is) fills is).has;
     }
 
 -- ---- what a run has counted
@@ -585,42 +577,19 @@ taken-one s sources counter [] gatherer taken is = absurd taken.each
 taken-one s sources counter (g ∷ gs) gatherer taken is =
     subst (TakesFeeds (CounterStandsFrom counter) taken.feeds) (sym is) taken.each.0
 
-pub builds-counted : (s : Layout) (conditions : List Condition) (sources : SourceBytes) (counters : List CounterView)
-    (gatherers : List (Gatherer CounterView)) (gatherer : Gatherer CounterView) (built : BuiltView) → AreGood s sources
+-- it has counted them
+pub counts-feeds : (s : Layout) (conditions : List Condition) (sources : SourceBytes) (counters : List CounterView)
+    (gatherers : List (Gatherer CounterView)) (gatherer : Gatherer CounterView) → AreGood s sources
     → IsOneCounter s (length sources) conditions counters
     → TakeAll CounterStandsFrom s sources counters gatherers → gatherer ≡ get_or gatherers 0 gatherer
-    → AreAllCounts gatherer built → BuildsWhere s conditions sources 1 built
-builds-counted s conditions sources counters gatherers gatherer built good one all first counted =
-    let n = length sources in
-    let new = one.new in
+    → CountsFeeds s conditions sources gatherer
+counts-feeds s conditions sources counters gatherers gatherer good one all first =
     let taken : TakeAll CounterStandsFrom s sources (one.counter ∷ []) gatherers = rw one.one at all in
-    let takes = taken-one s sources one.counter gatherers gatherer taken first in
-    let long : length taken.feeds ≡ n = sym (AllZip-length (AreItemsOf s) sources taken.feeds taken.items) in
-    let of : of_sources n takes.arrivals ≡ taken.feeds = rw long at takes.same in
-    let are = counted.are in
-    let at : CountsAt one.counter gatherer.builder takes.arrivals = takes.stands_at are.unspent in
-    let schema : gatherer.builder.ledger.schema ≡ s = at.schema ∙ new.schema in
-    let alike : gatherer.builder.conditions ≡ conditions = at.conditions ∙ new.conditions_are in
-    let stands : PartStandsWhere s conditions n 1 0 takes.arrivals counted.counts gatherer.inlets.items =
-    record {
-      whole = gatherer.builder.ledger;
-      schema = schema;
-      all = at.all ∙ ap length new.accounts ∙ length-replicate n new_account;
-      stands = at.stands_at;
-      kept = are.ledger ∙ ap (λ (cs : List Condition). ledger_of_interest cs gatherer.builder.ledger) alike;
-      over = subst (λ (l : Layout). IsPartOver l 1 0 counted.counts.cube) schema are.over;
-      has = are.has;
-      received = rw long at takes.received;
-    } in
     record {
       good = good;
-      arrivals = takes.arrivals;
-      taken = rw of taken.items;
-      stands = record {
-        builders = ap length counted.builders;
-        inlets = ap length counted.inlets;
-        each = λ part d below.
-            let here : part ≡ 0 = omega (arith, below) in
-            rw (here, counted.builders, counted.inlets) stands;
-      };
+      counter = one.counter;
+      new = one.new;
+      feeds = taken.feeds;
+      items = taken.items;
+      takes = taken-one s sources one.counter gatherers gatherer taken first;
     }

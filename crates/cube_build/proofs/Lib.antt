@@ -11,3 +11,4 @@ mod ShareLaws
 mod InterestLaws
 mod SameLaws
 mod CountingLaws
+mod TakenLaws

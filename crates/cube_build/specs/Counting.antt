@@ -13,7 +13,7 @@ use Rattle.cube_core.specs.declared.change.Refusal.{Refusal}
 use Rattle.cube_core.specs.declared.condition.Condition.{Condition}
 use Rattle.cube_core.specs.declared.fact.Fact.{Fact}
 use Rattle.cube_cells.specs.Cube.{Lattice}
-use Rattle.cube_cells.specs.Fill.{finest_set}
+use Rattle.cube_cells.specs.Fill.{IsCubeOfAll, finest_set}
 use Rattle.cube_ledger.specs.Book.{IsBook}
 use Rattle.cube_ledger.specs.Interest.{ledger_of_interest}
 use Rattle.cube_ledger.specs.Ledger.{AccountView, AllFit, AtSource, Enters, LedgerStandsAt, LedgerView, account_of}
@@ -67,12 +67,16 @@ abbrev pub AreWeighed : List ℕ → List AccountView → Type 0
 AreWeighed weights accounts = (place : ℕ) → place < length accounts
     → IsWeighed (get_or weights place 0) (get_or accounts place new_account)
 
+-- a cube is over the finest grouping set alone
+abbrev pub IsOverFinest : Lattice → Type 0
+IsOverFinest cube = cube.sets ≡ finest_set (length cube.schema.dimensions) ∷ []
+
 -- a cube over the finest set has the facts of interest of a ledger, which fit, and no id weighs too much
 pub record IsCounted (conditions : List Condition) (ledger : LedgerView) (weights : List ℕ) (cube : Lattice)
     : Type 0 where
   pub fit : AllFit ledger.schema (of_interest conditions (all_facts ledger.accounts))
   pub has : HasFacts (of_interest conditions (all_facts ledger.accounts)) cube
-  pub sets : cube.sets ≡ finest_set (length cube.schema.dimensions) ∷ []
+  pub sets : IsOverFinest cube
   pub weighed : AreWeighed weights ledger.accounts
 
 -- what is kept has the schema and the refusals of a ledger
@@ -120,12 +124,27 @@ pub record AreCounts (refused ledger : LedgerView) (cube : Lattice) : Type 0 whe
   pub fit : AllFit ledger.schema (all_facts ledger.accounts)
   pub has : HasFacts (all_facts ledger.accounts) cube
 
--- these are the counts of a counter: over all grouping sets, of the facts of interest
+-- cells have the facts of a ledger, which fit, under its schema
+pub record HaveFactsOf (ledger : LedgerView) (cells : Lattice) : Type 0 where
+  pub schema : cells.schema ≡ ledger.schema
+  pub facts : IsCubeOfAll (all_facts ledger.accounts) cells
+
+-- these are the counts of a ledger over the finest grouping set alone
+pub record AreFinestCounts (ledger : LedgerView) (counts : BuilderView) : Type 0 where
+  pub ledger_is : counts.ledger ≡ ledger
+  pub finest : IsOverFinest counts.cube
+  pub has : HaveFactsOf ledger counts.cube
+
+-- these are the counts of a counter: of the facts of interest, over the finest grouping set alone
 pub record AreCountsOf (counter : CounterView) (counts : BuilderView) : Type 0 where
   pub unspent : counter.is_spent ≡ false
-  pub ledger : counts.ledger ≡ ledger_of_interest counter.conditions counter.ledger
-  pub over : IsPartOver counter.ledger.schema 1 0 counts.cube
-  pub has : HasFacts (all_facts counts.ledger.accounts) counts.cube
+  pub are : AreFinestCounts (ledger_of_interest counter.conditions counter.ledger) counts
+
+-- counts are filled from those over the finest grouping set: of the same ledger, over all grouping sets of its schema
+pub record AreFilledFrom (finest counts : BuilderView) : Type 0 where
+  pub ledger : counts.ledger ≡ finest.ledger
+  pub over : IsPartOver finest.ledger.schema 1 0 counts.cube
+  pub has : HasFacts (all_facts finest.ledger.accounts) counts.cube
 
 -- one counter of so many sources that has taken nothing
 pub record IsOneCounter (s : Layout) (sources : ℕ) (conditions : List Condition) (counters : List CounterView)

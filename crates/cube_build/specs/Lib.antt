@@ -9,3 +9,4 @@ pub mod Shares
 pub mod Interest
 pub mod Counting
 pub mod CountedRun
+pub mod Taken

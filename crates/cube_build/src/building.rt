@@ -3,15 +3,17 @@ ghost use Rattle.std.specs.Prelude.{◌≡◌, ◌≤◌, ◌∷◌, [], length,
 ghost use Rattle.cube_rings.specs.FeedingAll.{ExplainsFeeding};
 ghost use Rattle.cube_build.specs.Interest.{BuildsWhere, gathered_of_interest};
 ghost use Rattle.cube_build.specs.Parts.{AreAllMade, BuildsParts, first_ledger, schema_of_run};
+ghost use Rattle.cube_build.specs.Counting.{IsOverFinest};
 ghost use Rattle.cube_build.specs.Shares.{TakenInParts};
+ghost use Rattle.cube_build.specs.Taken.{IsFilledFrom};
 
 use crate::builder::Builder;
 use crate::built::Built;
-use crate::counting::{count_where, need_no_book};
 use crate::counts::Counts;
 use crate::draft::{Draft, new_drafts};
-use crate::making::{Making, make_all};
+use crate::making::{MadePart, Making, make_all};
 use crate::shares::feed_in_shares;
+use crate::taken::take_part;
 use cube_cells::Summary;
 use cube_core::{Condition, Schema};
 use cube_ledger::Ledger;
@@ -21,9 +23,9 @@ use std::io::Read;
 use std::sync::Wait;
 use std::thread::Threads;
 
-// Feeds all sources to the drafts of as many parts as the settings have builders, or in shares where they have one, and
-// more threads.
-fn feed_parts<T: Threads + Wait + Sync, R: Read + Drop + Send, G: Gate + Sync>(
+/// Feeds all sources to the drafts of as many parts as the settings have builders, or in shares where they have one, and
+/// more threads.
+pub(crate) fn feed_parts<T: Threads + Wait + Sync, R: Read + Drop + Send, G: Gate + Sync>(
     rt: &T,
     alloc: Global,
     schema: &Schema,
@@ -118,10 +120,34 @@ pub fn build_where<T: Threads + Wait + Sync, R: Read + Drop + Send, G: Gate + Sy
     ensures schema { IfOk result (λ built. schema_of_run built ≡ schema.now) }
     ensures err { IfErr result (ExplainsFeeding schema.now (map R.Read.remaining readers.items)) }
 {
-    if settings.builders() == 1 && need_no_book(schema) {
-        return count_where(rt, alloc, schema, readers, settings, gate, conditions);
+    if settings.builders() != 1 {
+        return build_kept(rt, alloc, schema, readers, settings, gate, conditions);
     }
-    build_kept(rt, alloc, schema, readers, settings, gate, conditions)
+    let part = take_part(rt, alloc, schema, readers, settings, gate, conditions)?;
+    match filled(rt, alloc, settings.threads(), part) {
+        Ok(built) => Ok(built),
+        Err(_) => Err(FeedingFault::Full),
+    }
+}
+
+// What is built of a part that was taken alone: its cube is filled by so many threads. The only error is that memory ran out.
+fn filled<T: Threads + Sync>(
+    rt: &T,
+    alloc: Global,
+    threads: usize,
+    part: MadePart,
+) -> Result<Built, AllocError>
+    requires { IsOverFinest part.builder.cube }
+    ensures { IfOk result (IsFilledFrom part) }
+{
+    let MadePart {
+        builder: finest,
+        inlets,
+    } = part;
+    let builder = finest.filled(rt, alloc, threads)?;
+    let mut making = Making::with_room(alloc, 1)?;
+    making.keep(MadePart { builder, inlets })?;
+    Ok(Built::of(making))
 }
 
 // Builds them by ledgers, and looks for the facts of interest once the feeds have ended.

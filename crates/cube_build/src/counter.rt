@@ -15,7 +15,6 @@ use cube_feed::{FeedItem, TakesItems};
 use cube_ledger::{Ledger, Ruling};
 use std::alloc::{AllocError, Global};
 use std::marker::Model;
-use std::thread::Threads;
 
 /// The refusals of feeds of which each record is an insert under its number, and the cube over the finest grouping set of
 /// the facts of interest, each of which is counted as it is taken, and let go.
@@ -24,7 +23,6 @@ use std::thread::Threads;
 /// more the later they come, none is there twice.
 #[derive(Drop)]
 pub(crate) struct Counter<'c> {
-    alloc: Global,
     conditions: &'c [Condition],
     weights: Vec<u64>,
     refused: Ledger,
@@ -89,7 +87,6 @@ impl<'c> Counter<'c> {
         let weights = vec![in alloc; 0u64; sources as usize]?;
         let trace = LedgerTrace::of(&refused);
         Ok(Counter {
-            alloc,
             conditions,
             weights,
             refused,
@@ -170,18 +167,15 @@ impl<'c> Counter<'c> {
         }
     }
 
-    /// What was counted: over all grouping sets, whose cells are made by so many threads. The only error is that memory ran
-    /// out, now or before.
-    pub fn finish<T: Threads + Sync>(self, rt: &T, threads: usize) -> Result<Counts, AllocError>
+    /// What was counted, over the finest grouping set alone. The only error is that memory ran out before.
+    pub fn finish(self) -> Result<Counts, AllocError>
         ensures { IfOk result (AreCountsOf self.entry) }
     {
         if self.is_spent {
             return Err(AllocError);
         }
-        let mut cube = Cube::of_part(self.alloc, self.refused.schema(), 0, 1)?;
-        cube.fill_with(rt, threads, self.cube)?;
         let trace = self.trace.keeping(self.conditions);
-        Ok(Counts::new(self.refused, cube, trace))
+        Ok(Counts::new(self.refused, self.cube, trace))
     }
 }
 

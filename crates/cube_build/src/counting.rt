@@ -1,14 +1,12 @@
 //! Feeds that need no book, counted as they come.
-ghost use Rattle.std.specs.Prelude.{◌≡◌, ◌≤◌, [], map, vec_len, IfOk, IfErr, OnOk};
+ghost use Rattle.std.specs.Prelude.{◌≡◌, ◌≤◌, map, vec_len, IfOk, IfErr};
 ghost use Rattle.cube_rings.specs.FeedingAll.{ExplainsFeeding};
-ghost use Rattle.cube_build.specs.CountedRun.{AreAllCounts};
+ghost use Rattle.cube_build.specs.CountedRun.{CountsFeeds};
 ghost use Rattle.cube_build.specs.Counting.{AreCountsOf};
-ghost use Rattle.cube_build.specs.Interest.{BuildsWhere};
-ghost use Rattle.cube_build.specs.Parts.{schema_of_run};
+ghost use Rattle.cube_build.specs.Taken.{IsTakenPart};
 
-use crate::built::Built;
 use crate::counter::{Counter, new_counters};
-use crate::making::{MadePart, Making};
+use crate::making::MadePart;
 use cube_core::{Condition, Schema};
 use cube_rings::{FeedingFault, Gate, Gatherer, Settings, feed_all};
 use std::alloc::{AllocError, Global};
@@ -25,12 +23,31 @@ pub(crate) fn need_no_book(schema: &Schema) -> bool {
     }
 }
 
-// What a counter counted, with its inlets. The only error is that memory ran out.
-fn counted<T: Threads + Sync>(
+// Feeds all sources to a counter of the facts of interest.
+fn feed_counter<'c, T: Threads + Wait + Sync, R: Read + Drop + Send, G: Gate + Sync>(
     rt: &T,
-    threads: usize,
-    gatherer: Gatherer<Counter<'_>>,
-) -> Result<MadePart, AllocError>
+    alloc: Global,
+    schema: &Schema,
+    readers: Vec<R>,
+    settings: &Settings,
+    gate: &G,
+    conditions: &'c [Condition],
+) -> Result<Gatherer<Counter<'c>>, FeedingFault>
+    requires readers { (1 ≤ vec_len readers) × (vec_len readers ≤ 64) }
+    ensures counts { IfOk result
+        (CountsFeeds schema.now conditions.now (map R.Read.remaining readers.items)) }
+    ensures err { IfErr result (ExplainsFeeding schema.now (map R.Read.remaining readers.items)) }
+{
+    let Ok(counters) = new_counters(alloc, schema, readers.len() as u32, conditions) else {
+        return Err(FeedingFault::Memory);
+    };
+    let capacity = settings.capacity();
+    let mut gatherers = feed_all(rt, alloc, schema, readers, capacity, counters, gate)?;
+    Ok(gatherers.swap_remove(0))
+}
+
+// What a counter counted, with its inlets. The only error is that memory ran out.
+fn counted(gatherer: Gatherer<Counter<'_>>) -> Result<MadePart, AllocError>
     ensures counts { IfOk result (λ part. AreCountsOf gatherer.entry.builder part.builder) }
     ensures inlets { IfOk result (λ part. part.inlets.items ≡ gatherer.entry.inlets.items) }
 {
@@ -40,30 +57,12 @@ fn counted<T: Threads + Sync>(
         inlets,
         wanting: _,
     } = gatherer;
-    let builder = counter.finish(rt, threads)?;
+    let builder = counter.finish()?;
     Ok(MadePart { builder, inlets })
 }
 
-// Keeps what a counter counted, alone. The only error is that memory ran out.
-fn keep_counted<T: Threads + Sync>(
-    rt: &T,
-    threads: usize,
-    gatherer: Gatherer<Counter<'_>>,
-    making: &mut Making,
-) -> Result<(), AllocError>
-    requires builders { making.old.builders.items ≡ [] }
-    requires links { making.old.links.items ≡ [] }
-    ensures { OnOk result (AreAllCounts gatherer.entry (record {
-      builders = making.new.builders.items;
-      inlets = map (λ links. links.inlets.items) making.new.links.items;
-    })) }
-{
-    let part = counted(rt, threads, gatherer)?;
-    making.keep(part)
-}
-
-/// Builds the feeds as [`build_where`](crate::build_where) does with one builder, where they need no book: each fact of
-/// interest is counted as it is taken. The faults are the same; `Full` also where an item of another kind came.
+/// Takes feeds that need no book: each fact of interest is counted as it is taken. The faults are those of `feed_all`; `Full`
+/// also where an item of another kind came.
 pub(crate) fn count_where<T: Threads + Wait + Sync, R: Read + Drop + Send, G: Gate + Sync>(
     rt: &T,
     alloc: Global,
@@ -72,29 +71,15 @@ pub(crate) fn count_where<T: Threads + Wait + Sync, R: Read + Drop + Send, G: Ga
     settings: &Settings,
     gate: &G,
     conditions: &[Condition],
-) -> Result<Built, FeedingFault>
+) -> Result<MadePart, FeedingFault>
     requires readers { (1 ≤ vec_len readers) × (vec_len readers ≤ 64) }
-    requires one { settings.now.builders ≡ 1 }
-    ensures ok { IfOk result (BuildsWhere schema.now conditions.now
-        (map R.Read.remaining readers.items) settings.now.builders) }
-    ensures schema { IfOk result (λ built. schema_of_run built ≡ schema.now) }
+    ensures ok { IfOk result
+        (IsTakenPart schema.now conditions.now (map R.Read.remaining readers.items)) }
     ensures err { IfErr result (ExplainsFeeding schema.now (map R.Read.remaining readers.items)) }
 {
-    let Ok(mut making) = Making::with_room(alloc, 1) else {
-        return Err(FeedingFault::Memory);
-    };
-    let Ok(counters) = new_counters(alloc, schema, readers.len() as u32, conditions) else {
-        return Err(FeedingFault::Memory);
-    };
-    let capacity = settings.capacity();
-    let mut gatherers = feed_all(rt, alloc, schema, readers, capacity, counters, gate)?;
-    match keep_counted(
-        rt,
-        settings.threads(),
-        gatherers.swap_remove(0),
-        &mut making,
-    ) {
-        Ok(()) => Ok(Built::of(making)),
+    let gatherer = feed_counter(rt, alloc, schema, readers, settings, gate, conditions)?;
+    match counted(gatherer) {
+        Ok(part) => Ok(part),
         Err(_) => Err(FeedingFault::Full),
     }
 }

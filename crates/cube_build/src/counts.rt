@@ -1,7 +1,7 @@
 //! What a run counted of its feeds.
-ghost use Rattle.std.specs.Prelude.{◌≡◌, length};
+ghost use Rattle.std.specs.Prelude.{◌≡◌, length, IfOk};
 ghost use Rattle.cube_build.specs.Builder.{HasFacts};
-ghost use Rattle.cube_build.specs.Counting.{refusals_in};
+ghost use Rattle.cube_build.specs.Counting.{AreFilledFrom, IsOverFinest, refusals_in};
 ghost use Rattle.cube_ledger.specs.Ledger.{AllFit, all_facts};
 
 use crate::builder::Builder;
@@ -9,7 +9,9 @@ use crate::joined::HoldsCube;
 use crate::trace::LedgerTrace;
 use cube_cells::{Cube, Summary};
 use cube_ledger::Ledger;
+use std::alloc::{AllocError, Global};
 use std::marker::Model;
+use std::thread::Threads;
 
 /// What a run counted of its feeds: the refusals of each source, and the cube of a part, over the facts that survive.
 ///
@@ -63,6 +65,31 @@ impl Counts {
         let trace = LedgerTrace::of(builder.ledger());
         let (ledger, cube) = builder.into_parts();
         Counts::new(ledger, cube, trace)
+    }
+
+    /// The same counts over all grouping sets, whose cells are made by so many threads of those over the finest one. The only
+    /// error is that memory ran out.
+    pub(crate) fn filled<T: Threads + Sync>(
+        self,
+        rt: &T,
+        alloc: Global,
+        threads: usize,
+    ) -> Result<Counts, AllocError>
+        requires { IsOverFinest self.cube }
+        ensures { IfOk result (AreFilledFrom self) }
+    {
+        let mut cube = Cube::of_part(alloc, self.refused.schema(), 0, 1)?;
+        cube.fill_with(rt, threads, self.cube)?;
+        Ok(Counts::new(self.refused, cube, self.trace))
+    }
+
+    /// A ledger with the schema, the sources and the refusals, the cube, and the trace of the ledger.
+    pub(crate) fn into_parts(self) -> (Ledger, Cube<Summary>, LedgerTrace)
+        ensures cube { result.1 ≡ self.cube }
+        ensures ledger { result.2.ledger ≡ self.ledger }
+        ensures are { AreCounts result.0 result.2.ledger result.1 }
+    {
+        (self.refused, self.cube, self.trace)
     }
 
     /// How many facts were counted.

@@ -2,11 +2,15 @@
 ghost use Rattle.std.specs.Prelude.{◌≡◌, ◌≤◌, ◌<◌, ◌++◌, ◌∷◌, [], flat_map, length, sum_by, IfOk, OnOk, OnErr};
 ghost use Rattle.std.specs.List.{All};
 ghost use Rattle.cube_core.specs.Arrival.{Arrivals};
+ghost use Rattle.cube_build.specs.Counting.{AreFinestCounts};
 ghost use Rattle.cube_build.specs.Drafts.{DraftView, StandsFrom, IsNewDraft, AreNewDrafts, IsDraftOf, IsMadeOf};
 ghost use Rattle.cube_build.specs.Interest.{draft_of_interest};
 ghost use Rattle.cube_build.specs.Parted.{IsPartOver};
 
 use crate::builder::Builder;
+use crate::counts::Counts;
+use crate::fill::finest_with;
+use crate::trace::LedgerTrace;
 use cube_cells::{Cube, Summary};
 use cube_core::{Condition, Schema};
 use cube_feed::{FeedItem, TakesItems};
@@ -23,6 +27,7 @@ pub(crate) struct Draft {
 }
 
 impl Model for Draft {
+    ghost use Rattle.cube_build.specs.Counting.{AreFinestCounts};
     ghost use Rattle.cube_build.specs.Drafts.{DraftView, IsDraft};
 
     ghost Value = { DraftView };
@@ -128,6 +133,16 @@ impl Draft {
         ensures { IfOk result (IsMadeOf self) }
     {
         Builder::of_with(rt, threads, self.ledger, self.cube)
+    }
+
+    /// The counts of the ledger over the finest grouping set alone, made by so many threads. The only error is that memory
+    /// ran out.
+    pub fn finest<T: Threads + Sync>(self, rt: &T, threads: usize) -> Result<Counts, AllocError>
+        ensures { IfOk result (AreFinestCounts self.ledger) }
+    {
+        let cube = finest_with(rt, threads.max(1), &self.cube, &self.ledger)?;
+        let trace = LedgerTrace::of(&self.ledger);
+        Ok(Counts::new(self.ledger, cube, trace))
     }
 }
 

@@ -76,9 +76,9 @@ pub fn fill_cube_with<T: Threads + Sync>(
     Ok(())
 }
 
-// The cube of the facts of all books of a ledger over the finest grouping set, with the schema of a cube, made by as
-// many threads as this says. With one thread no thread is started. The only error is that memory ran out.
-fn finest_with<T: Threads + Sync>(
+/// The cube of the facts of all books of a ledger over the finest grouping set, with the schema of a cube, made by as
+/// many threads as this says. With one thread no thread is started. The only error is that memory ran out.
+pub(crate) fn finest_with<T: Threads + Sync>(
     rt: &T,
     threads: usize,
     cube: &Cube<Summary>,

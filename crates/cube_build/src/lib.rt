@@ -3,7 +3,8 @@
 //! A [`Builder`] keeps a ledger and the cube of its facts, [`Parted`] a ledger and the cubes of parts. Cubes of parts
 //! ([`HoldsCube`]) are asked together, and answer as their whole cube. [`build`] runs a feeder for each source and gives back
 //! what was counted of the feeds ([`Counts`]), on threads, [`build_where`] over the facts of interest alone; [`build_plain`] does so
-//! on the caller's thread, and [`build_ledger`] builds what a ledger has.
+//! on the caller's thread, and [`build_ledger`] builds what a ledger has. [`take_where`] and [`take_ledger`] give what one
+//! builder took before a cube is filled ([`Taken`]).
 #![tactic(auto)]
 
 mod builder;
@@ -20,6 +21,7 @@ mod making;
 mod parted;
 mod plain;
 mod shares;
+mod taken;
 mod taking;
 mod trace;
 
@@ -34,3 +36,4 @@ pub use joined::{
 };
 pub use parted::{Part, Parted};
 pub use plain::build_plain;
+pub use taken::{Taken, take_ledger, take_where};

@@ -1,0 +1,199 @@
+//! What one builder takes of the feeds of all sources.
+ghost use Rattle.std.specs.Prelude.{◌≡◌, ◌≤◌, [], length, map, vec_len, IfOk, IfErr};
+ghost use Rattle.cube_cells.specs.Fill.{IsCubeOfAll};
+ghost use Rattle.cube_ledger.specs.Interest.{ledger_of_interest};
+ghost use Rattle.cube_ledger.specs.Ledger.{all_facts};
+ghost use Rattle.cube_rings.specs.FeedingAll.{ExplainsFeeding};
+ghost use Rattle.cube_build.specs.Counting.{AreFinestCounts, HaveFactsOf, IsOverFinest, refusals_in};
+ghost use Rattle.cube_build.specs.Taken.{IsTakenPart, TakesWhere};
+
+use crate::building::feed_parts;
+use crate::counting::{count_where, need_no_book};
+use crate::draft::Draft;
+use crate::making::MadePart;
+use crate::trace::LedgerTrace;
+use cube_cells::{FinestCells, Summary};
+use cube_core::{Condition, Schema};
+use cube_ledger::Ledger;
+use cube_rings::{FeedingFault, Gate, Gatherer, Inlet, Parcel, Settings};
+use std::alloc::{AllocError, Global};
+use std::io::Read;
+use std::marker::Model;
+use std::sync::Wait;
+use std::thread::Threads;
+
+/// What one builder took of the feeds of all sources: the refusals of each, and the cells of the facts that survive over the
+/// finest grouping set alone, of which a walk makes those of all grouping sets; with the inlets, from which all was taken.
+///
+/// Contracts see the books too. Where the feeds need no book, nothing in memory is left of it.
+#[derive(Drop)]
+pub struct Taken {
+    refused: Ledger,
+    cells: FinestCells<Summary>,
+    facts: u64,
+    trace: LedgerTrace,
+    inlets: Vec<Inlet<Parcel>>,
+}
+
+impl Model for Taken {
+    ghost use Rattle.cube_build.specs.Taken.{IsTaken, TakenView};
+
+    ghost Value = { TakenView };
+
+    ghost view = { λ t. record {
+      ledger = t.trace.ledger;
+      cells = t.cells;
+      inlets = t.inlets.items;
+    } };
+
+    ghost invariant = { λ t. IsTaken t.refused t.trace.ledger t.cells t.facts };
+}
+
+impl Taken {
+    /// What was taken of a part whose cube is over the finest grouping set alone. The only error is that memory ran out.
+    pub(crate) fn of(part: MadePart) -> Result<Taken, AllocError>
+        requires { IsOverFinest part.builder.cube }
+        ensures ledger { IfOk result (λ taken. taken.ledger ≡ part.builder.ledger) }
+        ensures cells { IfOk result (λ taken. HaveFactsOf part.builder.ledger taken.cells) }
+        ensures inlets { IfOk result (λ taken. taken.inlets ≡ part.inlets.items) }
+    {
+        let MadePart {
+            builder: counts,
+            inlets,
+        } = part;
+        let facts = counts.facts();
+        let (refused, cube, trace) = counts.into_parts();
+        let cells = FinestCells::of(cube)?;
+        Ok(Taken {
+            refused,
+            cells,
+            facts,
+            trace,
+            inlets,
+        })
+    }
+
+    /// How many facts survive.
+    pub fn facts(&self) -> u64
+        ensures { result ≡ length (all_facts self.now.ledger.accounts) }
+    {
+        self.facts
+    }
+
+    /// The cells of the facts that survive, over the finest grouping set alone.
+    pub fn cells(&self) -> &FinestCells<Summary>
+        ensures cells { result.now ≡ self.now.cells }
+        ensures schema { result.now.schema ≡ self.now.ledger.schema }
+        ensures facts { IsCubeOfAll (all_facts self.now.ledger.accounts) result.now }
+    {
+        &self.cells
+    }
+
+    /// A ledger with the schema, the sources and the refusals. Its books may have no fact.
+    pub fn refused(&self) -> &Ledger
+        ensures schema { result.now.schema ≡ self.now.ledger.schema }
+        ensures refusals { refusals_in result.now ≡ refusals_in self.now.ledger }
+    {
+        &self.refused
+    }
+
+    /// The inlets; inlet s - 1 is source s.
+    pub fn inlets(&self) -> &[Inlet<Parcel>]
+        ensures { result.now ≡ self.now.inlets }
+    {
+        self.inlets.as_slice()
+    }
+}
+
+/// Takes the feeds of 1 to 64 sources, one reader each, as [`build_where`](crate::build_where) does with one builder, and
+/// fills no cube: only the cells over the finest grouping set are made. Refusals and faults are the same; `Full` is the
+/// answer where a growth was refused in taking.
+pub fn take_where<T: Threads + Wait + Sync, R: Read + Drop + Send, G: Gate + Sync>(
+    rt: &T,
+    alloc: Global,
+    schema: &Schema,
+    readers: Vec<R>,
+    settings: &Settings,
+    gate: &G,
+    conditions: &[Condition],
+) -> Result<Taken, FeedingFault>
+    requires readers { (1 ≤ vec_len readers) × (vec_len readers ≤ 64) }
+    requires one { settings.now.builders ≡ 1 }
+    ensures ok { IfOk result
+        (TakesWhere schema.now conditions.now (map R.Read.remaining readers.items)) }
+    ensures err { IfErr result (ExplainsFeeding schema.now (map R.Read.remaining readers.items)) }
+{
+    let part = take_part(rt, alloc, schema, readers, settings, gate, conditions)?;
+    match Taken::of(part) {
+        Ok(taken) => Ok(taken),
+        Err(_) => Err(FeedingFault::Full),
+    }
+}
+
+/// Takes the facts in the books of a ledger that took what it takes before, by so many threads. No feed was read, so there
+/// is no inlet. The only error is that memory ran out.
+pub fn take_ledger<T: Threads + Sync>(
+    rt: &T,
+    alloc: Global,
+    threads: usize,
+    ledger: Ledger,
+) -> Result<Taken, AllocError>
+    ensures ledger { IfOk result (λ taken. taken.ledger ≡ ledger) }
+    ensures cells { IfOk result (λ taken. HaveFactsOf ledger taken.cells) }
+    ensures no_inlets { IfOk result (λ taken. taken.inlets ≡ []) }
+{
+    let draft = Draft::of_ledger(alloc, ledger)?;
+    let builder = draft.finest(rt, threads)?;
+    let inlets = Vec::new(alloc);
+    Taken::of(MadePart { builder, inlets })
+}
+
+/// What one builder takes, with its counts over the finest grouping set alone. The faults are those of [`take_where`].
+pub(crate) fn take_part<T: Threads + Wait + Sync, R: Read + Drop + Send, G: Gate + Sync>(
+    rt: &T,
+    alloc: Global,
+    schema: &Schema,
+    readers: Vec<R>,
+    settings: &Settings,
+    gate: &G,
+    conditions: &[Condition],
+) -> Result<MadePart, FeedingFault>
+    requires readers { (1 ≤ vec_len readers) × (vec_len readers ≤ 64) }
+    requires one { settings.now.builders ≡ 1 }
+    ensures ok { IfOk result
+        (IsTakenPart schema.now conditions.now (map R.Read.remaining readers.items)) }
+    ensures err { IfErr result (ExplainsFeeding schema.now (map R.Read.remaining readers.items)) }
+{
+    if need_no_book(schema) {
+        return count_where(rt, alloc, schema, readers, settings, gate, conditions);
+    }
+    let mut gatherers = feed_parts(rt, alloc, schema, readers, settings, gate)?;
+    let gatherer = gatherers.swap_remove(0);
+    match kept(rt, settings.threads(), gatherer, conditions) {
+        Ok(part) => Ok(part),
+        Err(_) => Err(FeedingFault::Full),
+    }
+}
+
+// The counts of the facts of interest of what was gathered, made by so many threads, with the inlets. The only error is that
+// memory ran out.
+fn kept<T: Threads + Sync>(
+    rt: &T,
+    threads: usize,
+    gatherer: Gatherer<Draft>,
+    conditions: &[Condition],
+) -> Result<MadePart, AllocError>
+    ensures counts { IfOk result (λ part.
+        AreFinestCounts (ledger_of_interest conditions.now gatherer.builder.ledger) part.builder) }
+    ensures inlets { IfOk result (λ part. part.inlets.items ≡ gatherer.inlets.items) }
+{
+    let Gatherer {
+        builder: mut draft,
+        place: _,
+        inlets,
+        wanting: _,
+    } = gatherer;
+    draft.keep(conditions);
+    let builder = draft.finest(rt, threads)?;
+    Ok(MadePart { builder, inlets })
+}
