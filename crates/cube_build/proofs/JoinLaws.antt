@@ -1,6 +1,7 @@
 -- The rows of the parts of a cube, one part's after the other's and put in key order, are the rows of the cube.
 use Rattle.std.proofs.Common.{◌≡◌, ◌<◌, ◌≤◌, ◌+◌, ◌==◌, ◌&&◌, ◌||◌, ◌↔◌, ◌⊎◌, inl, inr, ℕ, Bool, true, false, List, []}
 use Rattle.std.proofs.Common.{◌∷◌, ◌++◌, length, map, get_or, refl, sym, ap, subst, ◌∙◌, arith, Contains, IsPermutation}
+use Rattle.std.proofs.Common.{length-append}
 use Rattle.std.specs.Prelude.{IsTrue, Some}
 use Rattle.std.specs.Cmp.{IsEquivalence}
 use Rattle.std.specs.List.{AllByRecursion, IsDistinct}
@@ -25,6 +26,7 @@ use Rattle.cube_core.specs.declared.key.Key.{Key}
 use Rattle.cube_core.specs.declared.key.Row.{Row}
 use Rattle.cube_core.proofs.ListLaws.{AllByRecursion-Contains, Contains-AllByRecursion, Contains-head, Contains-tail}
 use Rattle.cube_core.proofs.KeyOrderLaws.{key_cmp-exact, key_cmp-IsTotalOrder}
+use Rattle.cube_cells.specs.Count.{HasCellsOver}
 use Rattle.cube_cells.specs.Rows.{IsRowOver}
 use Rattle.cube_cells.proofs.Codes.RankLaws.{Less-from_is_lt}
 
@@ -240,11 +242,11 @@ rows-first parts test sets dimensions aggregates facts rows are =
     )) (rows-where test (sets_of_part 0 parts sets) dimensions aggregates facts rows are)
 
 -- those of one part more
-pub rows-more : (part parts : ℕ) (test : Key → Bool) (sets : List ℕ) (dimensions : ℕ) (aggregates : List Agg)
+rows-added : (part parts : ℕ) (test : Key → Bool) (sets : List ℕ) (dimensions : ℕ) (aggregates : List Agg)
     (facts : List Fact) (rows more : List Row) → AreRowsBelow part parts test sets dimensions aggregates facts rows →
-    AreRowsWhere test (sets_of_part part parts sets) dimensions aggregates facts more
+    AreRowsAt (IsKeyOf part parts test sets dimensions facts) aggregates facts more
     → AreRowsBelow (part + 1) parts test sets dimensions aggregates facts (rows ++ more)
-rows-more part parts test sets dimensions aggregates facts rows more are add =
+rows-added part parts test sets dimensions aggregates facts rows more are add =
     let P = IsKeyBelow part parts test sets dimensions facts in
     let Q = IsKeyOf part parts test sets dimensions facts in
     rows-by (λ key. P key ⊎ Q key) (IsKeyBelow (part + 1) parts test sets dimensions facts) aggregates facts
@@ -264,8 +266,88 @@ rows-more part parts test sets dimensions aggregates facts rows more are add =
     ))
     (rows-append P Q aggregates facts rows more
     (λ key p q. let o = of-part part parts test sets dimensions facts key q in let at = o.0 in let below = p.below in
-    omega arith) are
-    (rows-where test (sets_of_part part parts sets) dimensions aggregates facts more add))
+    omega arith) are add)
+
+pub rows-more : (part parts : ℕ) (test : Key → Bool) (sets : List ℕ) (dimensions : ℕ) (aggregates : List Agg)
+    (facts : List Fact) (rows more : List Row) → AreRowsBelow part parts test sets dimensions aggregates facts rows →
+    AreRowsWhere test (sets_of_part part parts sets) dimensions aggregates facts more
+    → AreRowsBelow (part + 1) parts test sets dimensions aggregates facts (rows ++ more)
+rows-more part parts test sets dimensions aggregates facts rows more are add =
+    rows-added part parts test sets dimensions aggregates facts rows more are
+    (rows-where test (sets_of_part part parts sets) dimensions aggregates facts more add)
+
+-- ---- how many cells the first so many parts have
+-- rows of keys alone, which answer nothing
+bare : List Key → List Row
+bare keys = map (λ key. record { key = key; answers = [] }) keys
+
+keys-bare : (keys : List Key) → map key_of (bare keys) ≡ keys
+unfolding bare
+keys-bare [] = refl
+keys-bare (key ∷ keys) = ap (λ (rest : List Key). key ∷ rest) (keys-bare keys)
+
+answers-bare : (facts : List Fact) (keys : List Key) → AllByRecursion (HasAnswers [] facts) (bare keys)
+unfolding bare
+answers-bare facts [] = tt
+answers-bare facts (key ∷ keys) = (tt, answers-bare facts keys)
+
+-- the first so many parts of a cube have so many cells
+pub record HaveCellsBelow (count parts : ℕ) (sets : List ℕ) (dimensions : ℕ) (facts : List Fact) (number : ℕ)
+    : Type 0 where
+  pub rows : List Row
+  pub are : AreRowsBelow count parts (λ key. true) sets dimensions [] facts rows
+  pub many : number ≡ length rows
+
+pub cells-none : (parts : ℕ) (sets : List ℕ) (dimensions : ℕ) (facts : List Fact)
+    → HaveCellsBelow 0 parts sets dimensions facts 0
+unfolding IsDistinct
+cells-none parts sets dimensions facts = record {
+  rows = [];
+  are = record {
+    keys = λ key. (λ inside. absurd (omega (arith, inside.1)), λ is. let below = is.below in absurd (omega (arith, below)));
+    once = tt;
+    answers = tt;
+  };
+  many = refl;
+}
+
+-- those of one part more
+pub cells-added : (part parts : ℕ) (sets : List ℕ) (dimensions : ℕ) (facts : List Fact) (number more : ℕ)
+    → HaveCellsBelow part parts sets dimensions facts number
+    → HasCellsOver (sets_of_part part parts sets) dimensions facts more
+    → HaveCellsBelow (part + 1) parts sets dimensions facts (number + more)
+cells-added part parts sets dimensions facts number more so_far has = record {
+  rows = so_far.rows ++ bare has.keys;
+  are = rows-added part parts (λ key. true) sets dimensions [] facts so_far.rows (bare has.keys) so_far.are (record {
+    keys = λ key. rw (keys-bare has.keys)
+        (λ inside. ((has.are.cells key).0 inside, refl), λ is. (has.are.cells key).1 is.0);
+    once = rw (keys-bare has.keys) has.are.once;
+    answers = answers-bare facts has.keys;
+  });
+  many = omega (
+    arith,
+    so_far.many,
+    has.many,
+    length-append so_far.rows (bare has.keys),
+    ap (λ (keys : List Key). length keys) (keys-bare has.keys),
+    length-map (bare has.keys) key_of,
+  );
+}
+
+-- all parts
+pub cells-all-below : (parts : ℕ) (sets : List ℕ) (dimensions : ℕ) (facts : List Fact) (number : ℕ) → 1 ≤ parts
+    → HaveCellsBelow parts parts sets dimensions facts number → HasCellsOver sets dimensions facts number
+cells-all-below parts sets dimensions facts number some has = record {
+  keys = map key_of has.rows;
+  are = record {
+    cells = λ key. (
+      λ inside. ((has.are.keys key).0 inside).cell,
+      λ is. (has.are.keys key).1 (record { cell = is; passes = refl; below = part_of-below parts (mask_of key) some }),
+    );
+    once = has.are.once;
+  };
+  many = has.many ∙ sym (length-map has.rows key_of);
+}
 
 -- all parts
 below-all : (parts : ℕ) (test : Key → Bool) (sets : List ℕ) (dimensions : ℕ) (aggregates : List Agg) (facts : List Fact)

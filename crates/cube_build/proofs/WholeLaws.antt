@@ -13,11 +13,14 @@ use Rattle.cube_core.specs.declared.aggregate.Agg.{Agg}
 use Rattle.cube_core.specs.declared.fact.Fact.{Fact}
 use Rattle.cube_core.specs.declared.key.Key.{Key}
 use Rattle.cube_core.specs.declared.key.Row.{Row}
+use Rattle.cube_cells.specs.Count.{HasCellsOver}
 use Rattle.cube_cells.specs.Cube.{Cells, Lattice, IsCubeOf}
 use Rattle.cube_cells.specs.Rows.{AreRowsInOrder, CellsInOrder, IsRowOf, IsRowOver}
-use Rattle.cube_build.specs.Joined.{AnswersIn, AnswersInWhole, AreRowsOfWhole, IsRowOfWhole, OrdersCells}
+use Rattle.cube_build.specs.Joined.{AnswersIn, AnswersInWhole, AreRowsOfWhole, HasCellsOfWhole, IsRowOfWhole}
+use Rattle.cube_build.specs.Joined.{OrdersCells}
 use Rattle.cube_build.specs.Parted.{ArePartsOf, IsPartWith}
 use Rattle.cube_build.proofs.JoinLaws.{AreRowsBelow, IsNotBelow, rows-first, rows-more, rows-all, rows-one, rows-over}
+use Rattle.cube_build.proofs.JoinLaws.{HaveCellsBelow, cells-added, cells-all-below}
 use Rattle.cube_build.proofs.JoinLaws.{over-rows, row-of-part, not-below-more, not-below-all}
 use Rattle.cube_build.proofs.OrderLaws.{AllZip-IsPermutation, AllZip-split, IsSortedBy-IsRowOf}
 
@@ -175,6 +178,37 @@ pub cells-alone : {T : Type 0} (cube_of : T → Lattice) (parts : List T) (d : T
     → AreRowsInOrder o rows → AreRowsOfWhole cube_of parts rows
 cells-alone cube_of parts d cube o one is orders rows in_order = over-whole cube_of parts rows
     (parts-alone cube_of (λ key. true) parts d cube rows one is (rows-of-cells cube o rows orders in_order))
+
+-- ---- how many cells there are
+-- the first so many parts have so many cells
+abbrev pub HaveCellsOfFirst : {T : Type 0} → (T → Lattice) → ℕ → List T → ℕ → Type 0
+HaveCellsOfFirst cube_of count parts number = (s : Layout) (facts : List Fact) → ArePartsOf cube_of s facts parts
+    → HaveCellsBelow count (length parts) s.grouping_sets (length s.dimensions) facts number
+
+-- what counting the cells of a cube promises
+abbrev pub CountsCells : Lattice → ℕ → Type 0
+CountsCells cube number =
+    (facts : List Fact) → IsCubeOf cube facts → HasCellsOver cube.sets (length cube.schema.dimensions) facts number
+
+-- one part more has more of them
+pub number-more : {T : Type 0} (cube_of : T → Lattice) (parts : List T) (part : ℕ) (d : T) (cube : Lattice)
+    (number more : ℕ) → part < length parts → cube ≡ cube_of (get_or parts part d) → CountsCells cube more
+    → HaveCellsOfFirst cube_of part parts number → HaveCellsOfFirst cube_of (part + 1) parts (number + more)
+number-more cube_of parts part d cube number more below is counts so_far = λ s facts are.
+    let at = part-at cube_of s facts parts part d cube are below is in
+    cells-added part (length parts) s.grouping_sets (length s.dimensions) facts number more (so_far s facts are)
+    (subst (λ (l : Layout). HasCellsOver (sets_of_part part (length parts) s.grouping_sets) (length l.dimensions) facts
+    more) at.over.schema
+    (subst (λ (sets : List ℕ). HasCellsOver sets (length cube.schema.dimensions) facts more) at.over.sets
+    (counts facts at.has.cells)))
+
+-- all of them are the whole cube's
+pub number-all : {T : Type 0} (cube_of : T → Lattice) (parts : List T) (count number : ℕ) → count ≡ length parts
+    → HaveCellsOfFirst cube_of count parts number → HasCellsOfWhole cube_of parts number
+number-all cube_of parts count number all first = λ s facts are.
+    cells-all-below (length parts) s.grouping_sets (length s.dimensions) facts number are.some
+    (subst (λ (n : ℕ). HaveCellsBelow n (length parts) s.grouping_sets (length s.dimensions) facts number) all
+    (first s facts are))
 
 -- ---- the row of a key
 -- what a look-up of a key in a cube promises

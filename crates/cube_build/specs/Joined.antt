@@ -6,6 +6,7 @@ use Rattle.cube_core.specs.Query.{AreRowsWhere}
 use Rattle.cube_core.specs.declared.fact.Fact.{Fact}
 use Rattle.cube_core.specs.declared.key.Key.{Key}
 use Rattle.cube_core.specs.declared.key.Row.{Row}
+use Rattle.cube_cells.specs.Count.{HasCells}
 use Rattle.cube_cells.specs.Cube.{Lattice, IsCubeOf}
 use Rattle.cube_cells.specs.Rows.{AreRowsInOrder, CellsInOrder, IsRowOver}
 use Rattle.cube_build.specs.Parted.{ArePartsOf}
@@ -53,3 +54,8 @@ AnswersInWhole cube_of test parts rows = (s : Layout) (facts : List Fact) → Ar
 abbrev pub IsRowOfWhole : {Holder : Type 0} → (Holder → Lattice) → Key → List Holder → Option Row → Type 0
 IsRowOfWhole cube_of key parts row = (s : Layout) (facts : List Fact) → ArePartsOf cube_of s facts parts
     → IsRowOver s.grouping_sets (length s.dimensions) s.aggregates facts key row
+
+-- the whole cube that these are the parts of has so many cells
+abbrev pub HasCellsOfWhole : {Holder : Type 0} → (Holder → Lattice) → List Holder → ℕ → Type 0
+HasCellsOfWhole cube_of parts number =
+    (s : Layout) (facts : List Fact) → ArePartsOf cube_of s facts parts → HasCells s facts number

@@ -3,11 +3,12 @@ ghost use Rattle.std.specs.Prelude.{◌≡◌, ◌<◌, [], List, length, map, s
 ghost use Rattle.cube_core.specs.Cube.{AreRows};
 ghost use Rattle.cube_core.specs.Query.{matches, drills_down, drill_fault, rolled_up};
 ghost use Rattle.cube_core.specs.declared.key.Row.{Row};
+ghost use Rattle.cube_cells.specs.Count.{HasCells};
 ghost use Rattle.cube_cells.specs.Rows.{AreRowsInOrder, GivesUnless};
 ghost use Rattle.cube_build.specs.Parts.{AreParts, AreRowsOfRun, IsRowOfRun, schema_of_run, facts_of_run};
 
 use crate::counts::Counts;
-use crate::joined::{DrillDown, Slice, ordered_parts_with, row_above, rows_of_parts};
+use crate::joined::{DrillDown, Slice, count_parts, ordered_parts_with, row_above, rows_of_parts};
 use crate::making::{Links, Making};
 use cube_cells::{OrderedCells, Summary};
 use cube_core::{Key, Pattern, QueryFault, Row, Schema};
@@ -82,6 +83,13 @@ impl Built {
         ensures { result.now ≡ slice_index_or self.now.inlets builder [] }
     {
         self.links[builder].inlets.as_slice()
+    }
+
+    /// How many cells the cube has. The only error is that numbers to count them with ran out.
+    pub fn count_cells(&self) -> Result<u64, AllocError>
+        ensures { IfOk result (HasCells (schema_of_run self.now) (facts_of_run self.now)) }
+    {
+        count_parts(self.builders())
     }
 
     /// The cells of all parts in key order, sorted by so many threads, for rows that are made one at a time. The only

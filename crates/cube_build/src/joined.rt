@@ -10,7 +10,7 @@ ghost use Rattle.cube_core.specs.declared.key.Key.{Key as TheKey};
 ghost use Rattle.cube_core.specs.declared.key.Row.{Row as TheRow};
 ghost use Rattle.cube_cells.specs.Cube.{Lattice};
 ghost use Rattle.cube_cells.specs.Rows.{AreRowsInOrder};
-ghost use Rattle.cube_build.specs.Joined.{AnswersIn, AnswersInWhole, ArePartsOfOne, AreRowsOfWhole, EachSchema, IsRowOfWhole, OrdersCells, OrdersFirst};
+ghost use Rattle.cube_build.specs.Joined.{AnswersIn, AnswersInWhole, ArePartsOfOne, AreRowsOfWhole, EachSchema, HasCellsOfWhole, IsRowOfWhole, OrdersCells, OrdersFirst};
 
 use cube_cells::{Cube, Numbers, OrderedCells, Summary};
 use cube_core::{Key, Pattern, Row};
@@ -127,6 +127,20 @@ pub fn row_above<N: Numbers, P: HoldsCube<N>>(
         }
     }
     Ok(None)
+}
+
+/// How many cells all parts have. The only error is that numbers to count them with ran out.
+pub fn count_parts<N: Numbers, P: HoldsCube<N>>(parts: &[P]) -> Result<u64, AllocError>
+    ensures { IfOk result (HasCellsOfWhole P.lattice parts.now) }
+{
+    let mut number: u64 = 0;
+    for part in 0..parts.len() {
+        let Some(more) = number.checked_add(parts[part].held().count_cells()?) else {
+            return Err(AllocError);
+        };
+        number = more;
+    }
+    Ok(number)
 }
 
 /// The cells of all parts in key order, for rows that are made one at a time. The only error is that memory ran out.
