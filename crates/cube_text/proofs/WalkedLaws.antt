@@ -5,9 +5,9 @@ use Rattle.std.specs.Global.{Vec}
 use Rattle.std.proofs.lemmas.Grind.{flat_map-append}
 use Rattle.std.specs.Prelude.{All, Ok, map}
 use Rattle.std.specs.List.{AllZip, flat_map}
-use Rattle.std.proofs.Math.Seq.{get_or-append_seam, take-append_seam}
+use Rattle.std.proofs.Math.Seq.{drop-append_seam, get_or-append_seam, take-append_seam}
 use Rattle.std.proofs.lemmas.List.{append-nil, get_or-map, length-map, map-append, take_all, take_more}
-use Rattle.std.proofs.lemmas.List.Elements.{All-head, All-tail, All-weaker}
+use Rattle.std.proofs.lemmas.List.Elements.{All-drop, All-head, All-tail, All-take, All-weaker}
 use Rattle.cube_core.specs.Answer.{IsAnswer}
 use Rattle.cube_core.specs.Layout.{Layout}
 use Rattle.cube_core.specs.Printed.{IsPrinted}
@@ -20,7 +20,6 @@ use Rattle.cube_core.specs.declared.key.Row.{Row}
 use Rattle.cube_core.proofs.ListLaws.{AllZip-append, AllZip-push}
 use Rattle.cube_cells.specs.BottomUp.{AreCellsOfCube, TakesAll, TakesCube}
 use Rattle.cube_cells.specs.WalkParts.{AreCellsOfPart, ArePartsOfCube, PartOfWalk, TakesPart, put_together}
-use Rattle.cube_cells.proofs.Filling.BottomUpLaws.{All-parts}
 use Rattle.cube_cells.specs.Codes.{key_at}
 use Rattle.cube_cells.specs.Coded.{CodedCells, IsCodedCell, decoded}
 use Rattle.cube_cells.specs.Cube.{Lattice}
@@ -196,9 +195,11 @@ AreTextsOfParts-each finest shown (part ∷ parts) (piece ∷ pieces) long each 
       lists = here.cells ∷ rest.lists;
       are = (here.are, rest.are);
       text_is = λ is widths.
-          let both = All-parts W here.cells (put_together rest.lists) widths in
-          let first = here.text_is is both.0 in
-          let second = rest.text_is is both.1 in
+          let more : CodedCells = put_together rest.lists in
+          let first = here.text_is is (subst (All W) (take-append_seam here.cells more)
+          (All-take W (length here.cells) (here.cells ++ more) widths)) in
+          let second = rest.text_is is (subst (All W) (drop-append_seam here.cells more)
+          (All-drop W (length here.cells) (here.cells ++ more) widths)) in
           record {
             rows = first.rows ++ second.rows;
             are = rw (map-append (λ (cell : Codes × Tally). (key_at finest.dictionaries cell.0.codes, cell.1)) here.cells (put_together rest.lists))
