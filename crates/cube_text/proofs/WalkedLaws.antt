@@ -3,7 +3,9 @@ use Rattle.std.proofs.Common.{◌≡◌, ◌∙◌, ◌++◌, ◌+◌, ◌<◌, 
 use Rattle.std.proofs.Common.{append_assoc, arith, length-append, suc}
 use Rattle.std.specs.Global.{Vec}
 use Rattle.std.proofs.lemmas.Grind.{flat_map-append}
-use Rattle.std.specs.Prelude.{All, Ok, map}
+use Rattle.std.specs.Prelude.{All, Ok, Result, map}
+use Rattle.std.specs.declared.alloc.AllocError.{AllocError}
+use Rattle.cube_core.specs.declared.key.Key.{Key}
 use Rattle.std.specs.List.{AllZip, flat_map}
 use Rattle.std.proofs.Math.Seq.{drop-append_seam, get_or-append_seam, take-append_seam}
 use Rattle.std.proofs.lemmas.List.{append-nil, get_or-map, length-map, map-append, take_all, take_more}
@@ -184,10 +186,10 @@ pub AreTextsOfParts-each : (finest : Lattice) (shown : List Shown) (parts : List
 AreTextsOfParts-each finest shown [] [] long each =
     record { lists = []; are = tt; text_is = λ _ _. record { rows = []; are = tt; text_is = refl } }
 AreTextsOfParts-each finest shown [] (piece ∷ pieces) long each = absurd (omega (arith, long))
-AreTextsOfParts-each finest shown (part ∷ parts) [] long each = absurd (omega (arith, long))
-AreTextsOfParts-each finest shown (part ∷ parts) (piece ∷ pieces) long each =
+AreTextsOfParts-each finest shown (part ∷ others) [] long each = absurd (omega (arith, long))
+AreTextsOfParts-each finest shown (part ∷ others) (piece ∷ pieces) long each =
     let here = each 0 part piece (omega arith) in
-    let rest = AreTextsOfParts-each finest shown parts pieces (omega (arith, long))
+    let rest = AreTextsOfParts-each finest shown others pieces (omega (arith, long))
     (λ i one other inside. each (suc i) one other (omega (arith, inside))) in
     let W : Codes × Tally → Type 0 = λ cell. length cell.1.bags ≡ length finest.schema.measures in
     let lines : List Row → List ℕ = flat_map (line_with (digits_of_answers finest.schema)) in
@@ -202,7 +204,7 @@ AreTextsOfParts-each finest shown (part ∷ parts) (piece ∷ pieces) long each 
           (All-drop W (length here.cells) (here.cells ++ more) widths)) in
           record {
             rows = first.rows ++ second.rows;
-            are = rw (map-append (λ (cell : Codes × Tally). (key_at finest.dictionaries cell.0.codes, cell.1)) here.cells (put_together rest.lists))
+            are = rw (map-append {B = Key × Tally} (λ (cell : Codes × Tally). (key_at finest.dictionaries cell.0.codes, cell.1)) here.cells (put_together rest.lists))
                 (AllZip-append (IsRowOf finest.schema.aggregates) (decoded finest.dictionaries here.cells)
                 (decoded finest.dictionaries (put_together rest.lists)) first.rows second.rows first.are second.are);
             text_is = ap (λ (t : List ℕ). t ++ text_of_pieces pieces) first.text_is
@@ -214,7 +216,8 @@ AreTextsOfParts-each finest shown (part ∷ parts) (piece ∷ pieces) long each 
 -- no piece follows the first
 pub GathersPieces-none : (first text : List ℕ) → GathersPieces first [] text → text ≡ first
 GathersPieces-none first text gathers = none gathers.pieces gathers.are gathers.text_is where
-  none : (pieces : List (Vec ℕ)) → map Ok pieces ≡ [] → text ≡ first ++ text_of_pieces pieces → text ≡ first
+  none : (pieces : List (Vec ℕ)) → map {B = Result (Vec ℕ) AllocError} Ok pieces ≡ []
+      → text ≡ first ++ text_of_pieces pieces → text ≡ first
   none [] are is = is ∙ append-nil first
   none (piece ∷ pieces) are is = cc are
 

@@ -8,16 +8,16 @@ use Rattle.cube_core.specs.Printed.{IsPrinted}
 use Rattle.cube_text.proofs.WalkedLaws.{AreTextsOfParts-each, GathersPieces-none, IsPrinted-AreTextsOfParts}
 use Rattle.cube_text.proofs.walked.print_walked_in_pieces.Goals as goal
 
-pub returns-then-or : goal.returns-then-or
-returns-then-or g c = IfOk-weaker c.of.result _ _ (λ text gathers facts all.
+pub returns-then-threads-le1 : goal.returns-then-threads-le1
+returns-then-threads-le1 g c = IfOk-weaker c.of.result _ _ (λ text gathers facts all.
     subst (IsPrinted c.args.cells.now.schema facts) (sym (GathersPieces-none c.in_ok-text.text.items text gathers))
     (c.in_ok-text.ensures facts all)) (rw c.new.ensures.items at c.of.ensures)
 
 pub raised-requires : goal.raised-requires
-raised-requires g c = omega (arith, c.facts.ensures, c.if-or.false)
+raised-requires g c = omega (arith, c.facts.ensures, c.if-facts-eq0.false)
 
 pub returns : goal.returns
-returns g c = IfOk-weaker c.of.result _ _ (λ text gathers facts all.
+returns g c = IfOk-weaker c.of-2.result _ _ (λ text gathers facts all.
     let finest = c.args.cells.now in
     let shown = c.in_ok-shown.shown.items in
     let parts = c.in_ok-parts.parts.items in
@@ -32,4 +32,4 @@ returns g c = IfOk-weaker c.of.result _ _ (λ text gathers facts all.
     rw (← gathers.are) (get_or-map Ok gathers.pieces i piece (Ok piece) (omega (arith, inside, count))) in
     rw one at (each i (Ok piece) part inside)))
     (rw c.in_ok-raised.ensures at c.in_ok-parts.ensures) c.in_ok-shown.ensures
-    (rw c.schema.ensures at c.in_ok-header.ensures) gathers.text_is all) c.of.ensures
+    (rw c.schema.ensures at c.in_ok-header.ensures) gathers.text_is all) c.of-2.ensures

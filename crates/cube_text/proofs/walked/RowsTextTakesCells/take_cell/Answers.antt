@@ -5,4 +5,4 @@ use Rattle.cube_text.proofs.walked.RowsTextTakesCells.take_cell.Goals as goal
 pub returns : goal.returns
 returns g c = on_ok_weaker c.put_row_of.result
     (λ adds. record { same = refl; same_shown = refl; adds = λ are width. adds are })
-    (rw c.deref.ensures.value at c.put_row_of.ensures)
+    c.put_row_of.ensures
