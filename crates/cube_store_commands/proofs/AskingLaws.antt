@@ -43,7 +43,7 @@ use Rattle.cube_tool.specs.declared.command.failure.Failure.{Failure}
 use Rattle.cube_tool.specs.declared.command.failure.Failure.TheVariants.{Unreadable, Schema, TooManyFeeds, InputTaken}
 use Rattle.cube_tool.specs.declared.command.failure.Failure.TheVariants.{NoRandomKey, FeedUnreadable, Query}
 use Rattle.cube_tool.specs.declared.command.failure.Failure.TheVariants.{UnknownCode, Run, Session, TooManyCubes}
-use Rattle.cube_tool.specs.declared.command.failure.Failure.TheVariants.{SamePath, Merge, LineRefused}
+use Rattle.cube_tool.specs.declared.command.failure.Failure.TheVariants.{SamePath, Merge, LineRefused, TooManyCells}
 use Rattle.cube_tool.specs.declared.command.status.Status.{Status}
 use Rattle.cube_tool.specs.declared.command.terms.Terms.{Terms}
 use Rattle.cube_tool.specs.declared.fault.RunFault.TheVariants as run_fault
@@ -63,7 +63,7 @@ under cube arrivals is stands = record { schema = is.schema; all = is.sources; s
 -- what was answered over its ledger was answered at the arrival list
 pub AnsweredAt-ledger : (terms : Terms) (question : Question) (cube : LiveView) (status : Status)
     (old new : Option (List ℕ)) → IsLive cube.schema cube.ledger cube.numbers
-    → AnswersOn terms.is_strict question cube.schema
+    → AnswersOn terms question cube.schema
     (of_interest terms.conditions.items (all_facts cube.ledger.accounts)) (refusals_of_accounts cube.ledger.accounts)
     status old new
     → (arrivals : Arrivals) → LiveStandsAt cube arrivals
@@ -75,7 +75,8 @@ AnsweredAt-ledger terms question cube status old new is answers arrivals stands 
       asked = answers.asked;
       within = AreWithin-live arrivals is stands.numbers;
       status_is = answers.status_is ∙ ap status_after (refused-under stood);
-      strict = Done-MayAnswer (refusals_of_accounts cube.ledger.accounts) answers.status_is answers.may;
+      strict = Done-MayAnswer (refusals_of_accounts cube.ledger.accounts) answers.status_is answers.may.0;
+      may = MayAnswerOver-stands terms stood answers.may;
     }
 
 -- what is told of a question that may be refused, where memory isn't, is why it is
@@ -96,20 +97,19 @@ said-of s Refusals fault other is = absurd is
 -- what a failure over its ledger leaves
 FailsAt-ledger : (terms : Terms) (question : Question) (s : Layout) (arrivals : Arrivals) (ledger : LedgerView)
     (failure : Failure) (old new : Option (List ℕ)) → StandsUnder s 64 arrivals ledger → failure ≢ Query Memory
-    → FailsOn terms.is_strict question s (of_interest terms.conditions.items (all_facts ledger.accounts))
+    → FailsOn terms question s (of_interest terms.conditions.items (all_facts ledger.accounts))
     (refusals_of_accounts ledger.accounts) failure old new
     → FailsAt terms question s arrivals failure old new
 FailsAt-ledger terms question s arrivals ledger (LineRefused source number code) old new stood other fails =
     (fails.0, fails.1, ap (first_refusal 1) (sym (refused-under stood)) ∙ fails.2)
-FailsAt-ledger terms question s arrivals ledger (Query fault) old new stood other fails = (
-  fails.0,
-  said-of s question fault other fails.1,
-  λ strict. ap (first_refusal 1) (sym (refused-under stood)) ∙ fails.2 strict,
-)
+FailsAt-ledger terms question s arrivals ledger TooManyCells old new stood other fails =
+    (fails.0, HasTooManyCells-stands terms stood fails.1 fails.2)
+FailsAt-ledger terms question s arrivals ledger (Query fault) old new stood other fails =
+    (fails.0, said-of s question fault other fails.1, MayAnswerOver-stands terms stood fails.2)
 FailsAt-ledger terms question s arrivals ledger (Run run_fault.Full) old new stood other fails = fails
 FailsAt-ledger terms question s arrivals ledger (Run (run_fault.Write sent)) old new stood other fails = (
   WroteFirst-weaker (λ text. IsTextOn-Tells terms.conditions.items question text stood) fails.0,
-  λ strict. ap (first_refusal 1) (sym (refused-under stood)) ∙ fails.1 strict,
+  MayAnswerOver-stands terms stood fails.1,
 )
 FailsAt-ledger terms question s arrivals ledger (Run run_fault.Memory) old new stood other fails = absurd fails
 FailsAt-ledger terms question s arrivals ledger (Run run_fault.NoThread) old new stood other fails = absurd fails
@@ -132,13 +132,13 @@ FailsAt-ledger terms question s arrivals ledger (Merge fault) old new stood othe
 -- and as it is told
 pub FailsAt-told : (terms : Terms) (question : Question) (cube : LiveView) (failure told : Failure)
     (old new : Option (List ℕ)) → IsLive cube.schema cube.ledger cube.numbers → IsToldAs failure told
-    → FailsOn terms.is_strict question cube.schema
+    → FailsOn terms question cube.schema
     (of_interest terms.conditions.items (all_facts cube.ledger.accounts)) (refusals_of_accounts cube.ledger.accounts)
     failure old new
     → (arrivals : Arrivals) → LiveStandsAt cube arrivals
     → FailsAt terms question cube.schema arrivals told old new
 FailsAt-told terms question cube failure told old new is (inl memory) fails arrivals stands =
-    let forgone = subst (λ (f : Failure). FailsOn terms.is_strict question cube.schema
+    let forgone = subst (λ (f : Failure). FailsOn terms question cube.schema
     (of_interest terms.conditions.items (all_facts cube.ledger.accounts)) (refusals_of_accounts cube.ledger.accounts)
     f old new) memory.0 fails in
     subst (λ (f : Failure). FailsAt terms question cube.schema arrivals f old new) (sym memory.1) forgone.0
@@ -265,7 +265,7 @@ module _ (s : Layout) (sources : SourceBytes) (was : View) (before after : LiveV
   leaves-of terms question NoRandomKey old new fails = absurd fails
   leaves-of terms question (FeedUnreadable source) old new fails = absurd fails
   leaves-of terms question (Query fault) old new fails =
-      (fails.0, fails.1, after-feeds (λ arrivals. MayAnswer terms.is_strict (refusals_at s arrivals)) fails.2)
+      (fails.0, fails.1, after-feeds (λ arrivals. MayAnswerOver terms s (of_sources 64 arrivals)) fails.2)
   leaves-of terms question UnknownCode old new fails = absurd fails
   leaves-of terms question (Run run_fault.Memory) old new fails = absurd fails
   leaves-of terms question (Run run_fault.NoThread) old new fails = absurd fails
@@ -275,7 +275,9 @@ module _ (s : Layout) (sources : SourceBytes) (was : View) (before after : LiveV
   leaves-of terms question (Run (run_fault.Unsealed source)) old new fails = absurd fails
   leaves-of terms question (Run (run_fault.Write sent)) old new fails =
       after-feeds (λ arrivals. WroteFirst (IsTextAt terms question s arrivals) sent old new
-      × MayAnswer terms.is_strict (refusals_at s arrivals)) fails
+      × MayAnswerOver terms s (of_sources 64 arrivals)) fails
+  leaves-of terms question TooManyCells old new fails =
+      (fails.0, after-feeds (λ arrivals. HasTooManyCells terms s (of_sources 64 arrivals)) fails.1)
   leaves-of terms question (LineRefused source number code) old new fails = (
     fails.0,
     fails.1,
@@ -315,45 +317,46 @@ LeavesUnwritten-refused (resume.Store fault) old = refl
 LeavesUnwritten-refused (resume.TooMany source) old = refl
 
 -- nor where the question wasn't answered, but by a failed write
-FailsUnwritten-fails : (is_strict : Bool) (question : Question) (s : Layout) (facts : List Fact)
+FailsUnwritten-fails : (terms : Terms) (question : Question) (s : Layout) (facts : List Fact)
     (refusals : List (List Refusal)) (failure : Failure) (old new : Option (List ℕ))
-    → FailsOn is_strict question s facts refusals failure old new → FailsUnwritten failure old new
-FailsUnwritten-fails is_strict question s facts refusals (LineRefused source number code) old new fails = fails.0
-FailsUnwritten-fails is_strict question s facts refusals (Query fault) old new fails = fails.0
-FailsUnwritten-fails is_strict question s facts refusals (Run run_fault.Full) old new fails = fails
-FailsUnwritten-fails is_strict question s facts refusals (Run (run_fault.Write sent)) old new fails = tt
-FailsUnwritten-fails is_strict question s facts refusals (Run run_fault.Memory) old new fails = absurd fails
-FailsUnwritten-fails is_strict question s facts refusals (Run run_fault.NoThread) old new fails = absurd fails
-FailsUnwritten-fails is_strict question s facts refusals (Run (run_fault.Feed source fault)) old new fails =
+    → FailsOn terms question s facts refusals failure old new → FailsUnwritten failure old new
+FailsUnwritten-fails terms question s facts refusals (LineRefused source number code) old new fails = fails.0
+FailsUnwritten-fails terms question s facts refusals TooManyCells old new fails = fails.0
+FailsUnwritten-fails terms question s facts refusals (Query fault) old new fails = fails.0
+FailsUnwritten-fails terms question s facts refusals (Run run_fault.Full) old new fails = fails
+FailsUnwritten-fails terms question s facts refusals (Run (run_fault.Write sent)) old new fails = tt
+FailsUnwritten-fails terms question s facts refusals (Run run_fault.Memory) old new fails = absurd fails
+FailsUnwritten-fails terms question s facts refusals (Run run_fault.NoThread) old new fails = absurd fails
+FailsUnwritten-fails terms question s facts refusals (Run (run_fault.Feed source fault)) old new fails =
     absurd fails
-FailsUnwritten-fails is_strict question s facts refusals (Run (run_fault.Unsealed source)) old new fails =
+FailsUnwritten-fails terms question s facts refusals (Run (run_fault.Unsealed source)) old new fails =
     absurd fails
-FailsUnwritten-fails is_strict question s facts refusals Unreadable old new fails = absurd fails
-FailsUnwritten-fails is_strict question s facts refusals (Schema fault) old new fails = absurd fails
-FailsUnwritten-fails is_strict question s facts refusals TooManyFeeds old new fails = absurd fails
-FailsUnwritten-fails is_strict question s facts refusals InputTaken old new fails = absurd fails
-FailsUnwritten-fails is_strict question s facts refusals NoRandomKey old new fails = absurd fails
-FailsUnwritten-fails is_strict question s facts refusals (FeedUnreadable source) old new fails = absurd fails
-FailsUnwritten-fails is_strict question s facts refusals UnknownCode old new fails = absurd fails
-FailsUnwritten-fails is_strict question s facts refusals (Session fault) old new fails = absurd fails
-FailsUnwritten-fails is_strict question s facts refusals TooManyCubes old new fails = absurd fails
-FailsUnwritten-fails is_strict question s facts refusals (SamePath input) old new fails = absurd fails
-FailsUnwritten-fails is_strict question s facts refusals (Merge fault) old new fails = absurd fails
+FailsUnwritten-fails terms question s facts refusals Unreadable old new fails = absurd fails
+FailsUnwritten-fails terms question s facts refusals (Schema fault) old new fails = absurd fails
+FailsUnwritten-fails terms question s facts refusals TooManyFeeds old new fails = absurd fails
+FailsUnwritten-fails terms question s facts refusals InputTaken old new fails = absurd fails
+FailsUnwritten-fails terms question s facts refusals NoRandomKey old new fails = absurd fails
+FailsUnwritten-fails terms question s facts refusals (FeedUnreadable source) old new fails = absurd fails
+FailsUnwritten-fails terms question s facts refusals UnknownCode old new fails = absurd fails
+FailsUnwritten-fails terms question s facts refusals (Session fault) old new fails = absurd fails
+FailsUnwritten-fails terms question s facts refusals TooManyCubes old new fails = absurd fails
+FailsUnwritten-fails terms question s facts refusals (SamePath input) old new fails = absurd fails
+FailsUnwritten-fails terms question s facts refusals (Merge fault) old new fails = absurd fails
 
 pub FailsUnwritten-told : (terms : Terms) (question : Question) (cube : LiveView) (failure told : Failure)
     (old new : Option (List ℕ)) → IsToldAs failure told
-    → FailsOn terms.is_strict question cube.schema
+    → FailsOn terms question cube.schema
     (of_interest terms.conditions.items (all_facts cube.ledger.accounts)) (refusals_of_accounts cube.ledger.accounts)
     failure old new
     → FailsUnwritten told old new
 FailsUnwritten-told terms question cube failure told old new (inl memory) fails =
-    let forgone = subst (λ (f : Failure). FailsOn terms.is_strict question cube.schema
+    let forgone = subst (λ (f : Failure). FailsOn terms question cube.schema
     (of_interest terms.conditions.items (all_facts cube.ledger.accounts)) (refusals_of_accounts cube.ledger.accounts)
     f old new) memory.0 fails in
     subst (λ (f : Failure). FailsUnwritten f old new) (sym memory.1) forgone.0
 FailsUnwritten-told terms question cube failure told old new (inr same) fails =
     subst (λ (f : Failure). FailsUnwritten f old new) (sym same.1)
-    (FailsUnwritten-fails terms.is_strict question cube.schema
+    (FailsUnwritten-fails terms question cube.schema
     (of_interest terms.conditions.items (all_facts cube.ledger.accounts)) (refusals_of_accounts cube.ledger.accounts)
     failure old new fails)
 

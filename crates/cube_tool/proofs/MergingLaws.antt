@@ -9,7 +9,7 @@ use Rattle.cube_tool.specs.declared.command.failure.Failure.{Failure}
 use Rattle.cube_tool.specs.declared.command.failure.Failure.TheVariants.{Unreadable, Schema, TooManyFeeds, InputTaken}
 use Rattle.cube_tool.specs.declared.command.failure.Failure.TheVariants.{NoRandomKey, FeedUnreadable, Query}
 use Rattle.cube_tool.specs.declared.command.failure.Failure.TheVariants.{UnknownCode, Run, Session, TooManyCubes}
-use Rattle.cube_tool.specs.declared.command.failure.Failure.TheVariants.{SamePath, Merge, LineRefused}
+use Rattle.cube_tool.specs.declared.command.failure.Failure.TheVariants.{SamePath, Merge, LineRefused, TooManyCells}
 
 -- what was merged can be
 pub CanBeMerged-merged : (given wanted : Layout) (texts : List (Option (List ℕ))) (old new : Option (List ℕ))
@@ -50,6 +50,7 @@ CheckFails-leaves given wanted texts (Query why) old new leaves = absurd leaves
 CheckFails-leaves given wanted texts UnknownCode old new leaves = absurd leaves
 CheckFails-leaves given wanted texts (Run why) old new leaves = absurd leaves
 CheckFails-leaves given wanted texts (LineRefused source number code) old new leaves = absurd leaves
+CheckFails-leaves given wanted texts TooManyCells old new leaves = absurd leaves
 CheckFails-leaves given wanted texts (Session why) old new leaves = absurd leaves
 CheckFails-leaves given wanted texts TooManyCubes old new leaves = absurd leaves
 CheckFails-leaves given wanted texts (SamePath input) old new leaves = absurd leaves

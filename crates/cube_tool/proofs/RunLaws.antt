@@ -8,7 +8,7 @@ use Rattle.cube_core.proofs.ListLaws.{AllZip-length}
 use Rattle.cube_core.specs.Conditions.{of_interest}
 use Rattle.cube_core.specs.Layout.{Layout}
 use Rattle.cube_core.specs.Refusals.{refusals_of}
-use Rattle.cube_core.specs.Run.{SourceBytes, AreItemsOf}
+use Rattle.cube_core.specs.Run.{SourceBytes, AreGood, AreItemsOf, AreTaken}
 use Rattle.cube_core.specs.Sources.{SurviveTogether}
 use Rattle.cube_core.specs.declared.change.Item.{Item}
 use Rattle.cube_core.specs.declared.change.Refusal.{Refusal}
@@ -20,19 +20,22 @@ use Rattle.cube_ledger.specs.Ledger.{AccountStandsAt, LedgerView, LedgerStandsAt
 use Rattle.cube_ledger.proofs.InterestLaws.{all_facts-of_interest, refusals-of_interest}
 use Rattle.cube_ledger.proofs.SurvivorLaws.{SurviveTogether-stands}
 use Rattle.cube_ledger.specs.Interest.{ledger_of_interest}
-use Rattle.cube_build.specs.Interest.{BuildsWhere, PartStandsWhere, StandsWhere}
+use Rattle.cube_build.specs.Interest.{BuildsWhere, PartStandsWhere}
+use Rattle.cube_build.specs.Taken.{TakenView, TakesWhere}
 use Rattle.cube_rings.specs.Link.{Receiving}
 use Rattle.cube_live.proofs.RefusalLaws.{refusals_of_accounts}
 use Rattle.cube_live.proofs.ShowsLaws.{refusals-each}
 use Rattle.cube_build.specs.Parts.{BuiltView, BuildsParts, PartStandsAt, StandsInParts, first_ledger, facts_of_run}
 use Rattle.cube_rings.specs.declared.parcel.Parcel.{Parcel}
-use Rattle.cube_tool.specs.Answering.{AnswersOn, HasTaken, HasTakenOn, MayAnswer, first_refusal, refusals_of_run}
-use Rattle.cube_tool.specs.Answering.{status_over}
+use Rattle.cube_tool.specs.Answering.{AnswersOn, HasTaken, HasTooManyCells, MayAnswer, MayAnswerOn, MayAnswerOver}
+use Rattle.cube_tool.specs.Answering.{OfInterestIn, first_refusal, refusals_of_run, status_over}
 use Rattle.cube_tool.specs.Command.{status_after}
+use Rattle.cube_tool.specs.MaxCells.{HasCellsBeyond, HasCellsWithin}
 use Rattle.cube_tool.specs.Run.{IsTextOf, IsTextOn, OfFeeds, StandsOver, Tells, Wrote, WroteFirst}
 use Rattle.cube_tool.proofs.RefusalLaws.{status_after-first_refusal}
 use Rattle.cube_tool.specs.declared.command.status.Status.{Status}
 use Rattle.cube_tool.specs.declared.command.status.Status.TheVariants.{Done}
+use Rattle.cube_tool.specs.declared.command.terms.Terms.{Terms}
 use Rattle.cube_tool.specs.declared.question.Question.{Question}
 
 -- ---- what a ledger says of the feeds at which it stands
@@ -87,6 +90,40 @@ IsTextOn-Tells {s = s} {ledger = ledger} conditions question text under tells = 
       (refused-under under) tells;
 }
 
+-- what holds of its facts of interest holds of those in the feeds
+pub OfInterestIn-stands : {s : Layout} {sources : ℕ} {arrivals : Arrivals} {ledger : LedgerView}
+    (conditions : List Condition) (Holds : List Fact → Type 0) → StandsUnder s sources arrivals ledger
+    → Holds (of_interest conditions (all_facts ledger.accounts))
+    → OfInterestIn conditions s (of_sources sources arrivals) Holds
+OfInterestIn-stands {ledger = ledger} conditions Holds under holds =
+    record { facts = all_facts ledger.accounts; survive = survives under; holds = holds }
+
+-- where none of its lines may be refused, none of the feeds was
+pub MayAnswer-stands : {s : Layout} {sources : ℕ} {arrivals : Arrivals} {ledger : LedgerView} (is_strict : Bool)
+    → StandsUnder s sources arrivals ledger → MayAnswer is_strict (refusals_of_accounts ledger.accounts)
+    → MayAnswer is_strict (map (refusals_of s) (of_sources sources arrivals))
+MayAnswer-stands is_strict under may = λ strict. ap (first_refusal 1) (sym (refused-under under)) ∙ may strict
+
+-- what may be answered over its facts of interest may be answered over the feeds
+pub MayAnswerOver-stands : {s : Layout} {sources : ℕ} {arrivals : Arrivals} {ledger : LedgerView} (terms : Terms)
+    → StandsUnder s sources arrivals ledger
+    → MayAnswerOn terms s (of_interest terms.conditions.items (all_facts ledger.accounts))
+    (refusals_of_accounts ledger.accounts) → MayAnswerOver terms s (of_sources sources arrivals)
+MayAnswerOver-stands {s = s} terms under may = (
+  MayAnswer-stands terms.is_strict under may.0,
+  OfInterestIn-stands terms.conditions.items (HasCellsWithin terms.max_cells s) under may.1,
+)
+
+-- and there are too many cells of them where there are of the feeds'
+pub HasTooManyCells-stands : {s : Layout} {sources : ℕ} {arrivals : Arrivals} {ledger : LedgerView} (terms : Terms)
+    → StandsUnder s sources arrivals ledger → MayAnswer terms.is_strict (refusals_of_accounts ledger.accounts)
+    → HasCellsBeyond terms.max_cells s (of_interest terms.conditions.items (all_facts ledger.accounts))
+    → HasTooManyCells terms s (of_sources sources arrivals)
+HasTooManyCells-stands {s = s} terms under may beyond = (
+  MayAnswer-stands terms.is_strict under may,
+  OfInterestIn-stands terms.conditions.items (HasCellsBeyond terms.max_cells s) under beyond,
+)
+
 -- ---- what was written
 
 pub Wrote-weaker : {P Q : List ℕ → Type 0} {old new : Option (List ℕ)} → ((text : List ℕ) → P text → Q text)
@@ -97,6 +134,13 @@ pub WroteFirst-weaker : {P Q : List ℕ → Type 0} {sent : ℕ} {old new : Opti
     → ((text : List ℕ) → P text → Q text) → WroteFirst P sent old new → WroteFirst Q sent old new
 WroteFirst-weaker to wrote =
     record { text = wrote.text; holds = to wrote.text wrote.holds; within = wrote.within; written = wrote.written }
+
+-- ---- what holds of feeds
+
+pub OfFeeds-weaker : {s : Layout} {sources : SourceBytes} {P Q : List (List Item) → Type 0}
+    → ((feeds : List (List Item)) → P feeds → Q feeds) → OfFeeds s sources P → OfFeeds s sources Q
+OfFeeds-weaker to of =
+    record { feeds = of.feeds; good = of.good; items = of.items; holds = to of.feeds of.holds }
 
 -- ---- the build in parts
 
@@ -170,27 +214,26 @@ OfFeeds-first {sources = sources} {question = question} some builds wrote = reco
 -- ---- the build of the facts of interest
 
 -- a ledger that keeps the facts of interest has these, and all refusals
-pub facts-kept : (conditions : List Condition) (whole : LedgerView) (built : BuiltView)
-    → first_ledger built.builders ≡ ledger_of_interest conditions whole
-    → facts_of_run built ≡ of_interest conditions (all_facts whole.accounts)
-facts-kept conditions whole built kept =
+pub facts-kept : (conditions : List Condition) (whole ledger : LedgerView) → ledger ≡ ledger_of_interest conditions whole
+    → all_facts ledger.accounts ≡ of_interest conditions (all_facts whole.accounts)
+facts-kept conditions whole ledger kept =
     ap (λ (l : LedgerView). all_facts l.accounts) kept ∙ all_facts-of_interest conditions whole.accounts
 
-pub refusals-kept : (conditions : List Condition) (whole : LedgerView) (built : BuiltView)
-    → first_ledger built.builders ≡ ledger_of_interest conditions whole
-    → refusals_of_run built ≡ refusals_of_accounts whole.accounts
-refusals-kept conditions whole built kept =
+pub refusals-kept : (conditions : List Condition) (whole ledger : LedgerView)
+    → ledger ≡ ledger_of_interest conditions whole
+    → refusals_of_accounts ledger.accounts ≡ refusals_of_accounts whole.accounts
+refusals-kept conditions whole ledger kept =
     ap (λ (l : LedgerView). refusals_of_accounts l.accounts) kept ∙ refusals-of_interest conditions whole.accounts
 
--- so what holds of what was built holds of these
-pub over-kept : (conditions : List Condition) (whole : LedgerView) (built : BuiltView)
-    → first_ledger built.builders ≡ ledger_of_interest conditions whole
-    → (Holds : List Fact → List (List Refusal) → Type 0) → Holds (facts_of_run built) (refusals_of_run built)
+-- so what holds of it holds of these
+pub over-kept : (conditions : List Condition) (whole ledger : LedgerView) → ledger ≡ ledger_of_interest conditions whole
+    → (Holds : List Fact → List (List Refusal) → Type 0)
+    → Holds (all_facts ledger.accounts) (refusals_of_accounts ledger.accounts)
     → Holds (of_interest conditions (all_facts whole.accounts)) (refusals_of_accounts whole.accounts)
-over-kept conditions whole built kept Holds holds =
-    subst (λ (f : List Fact). Holds f (refusals_of_accounts whole.accounts)) (facts-kept conditions whole built kept)
-    (subst (λ (r : List (List Refusal)). Holds (facts_of_run built) r) (refusals-kept conditions whole built kept)
-    holds)
+over-kept conditions whole ledger kept Holds holds =
+    subst (λ (f : List Fact). Holds f (refusals_of_accounts whole.accounts)) (facts-kept conditions whole ledger kept)
+    (subst (λ (r : List (List Refusal)). Holds (all_facts ledger.accounts) r)
+    (refusals-kept conditions whole ledger kept) holds)
 
 -- where it might be answered, and no line may be refused, none was
 pub Done-MayAnswer : {is_strict : Bool} (refusals : List (List Refusal)) {status : Status}
@@ -198,12 +241,20 @@ pub Done-MayAnswer : {is_strict : Bool} (refusals : List (List Refusal)) {status
 Done-MayAnswer refusals status_is may strict =
     status_is ∙ status_after-first_refusal 1 refusals (may strict)
 
--- the ledger of builder 0 keeps the facts of interest of a whole one, which stands at what an arrival list has
+-- a ledger keeps the facts of interest of a whole one, which stands at what an arrival list has
 pub record KeepsUnder (s : Layout) (conditions : List Condition) (sources : ℕ) (arrivals : Arrivals)
     (ledger : LedgerView) : Type 0 where
   pub whole : LedgerView
   pub under : StandsUnder s sources arrivals whole
   pub kept : ledger ≡ ledger_of_interest conditions whole
+
+-- the list has of each source the items of its feed, and every feed is good
+pub record KeepsFeeds (s : Layout) (conditions : List Condition) (sources : SourceBytes) (ledger : LedgerView)
+    : Type 0 where
+  pub good : AreGood s sources
+  pub arrivals : Arrivals
+  pub taken : AreTaken s sources arrivals
+  pub keeps : KeepsUnder s conditions (length sources) arrivals ledger
 
 first-keeps : (s : Layout) (conditions : List Condition) (sources parts : ℕ) (arrivals : Arrivals)
     (builders : List BuilderView) (inlets : List (List (Receiving Parcel))) → 1 ≤ length builders
@@ -219,72 +270,110 @@ first-keeps s conditions sources parts arrivals (builder ∷ builders) inlets so
       kept = first.kept;
     }
 
-module _ {s : Layout} {conditions : List Condition} {sources : SourceBytes} {parts : ℕ} {built : BuiltView}
-    (some : 1 ≤ length built.builders) (builds : BuildsWhere s conditions sources parts built) where
+-- so does the ledger of builder 0
+pub keeps-built : {s : Layout} {conditions : List Condition} {sources : SourceBytes} {parts : ℕ} {built : BuiltView}
+    → 1 ≤ length built.builders → BuildsWhere s conditions sources parts built
+    → KeepsFeeds s conditions sources (first_ledger built.builders)
+keeps-built {s = s} {conditions = conditions} {sources = sources} {parts = parts} {built = built} some builds =
+    let count = builds.stands.builders in
+    record {
+      good = builds.good;
+      arrivals = builds.arrivals;
+      taken = builds.taken;
+      keeps = first-keeps s conditions (length sources) parts builds.arrivals built.builders built.inlets some
+          (λ d. builds.stands.each 0 d (omega arith));
+    }
+
+-- and that of what one builder took
+pub keeps-taken : {s : Layout} {conditions : List Condition} {sources : SourceBytes} {taken : TakenView}
+    → TakesWhere s conditions sources taken → KeepsFeeds s conditions sources taken.ledger
+keeps-taken takes =
+    let stands = takes.stands in
+    record {
+      good = takes.good;
+      arrivals = takes.arrivals;
+      taken = takes.taken_are;
+      keeps = record {
+        whole = stands.whole;
+        under = record { schema = stands.schema; all = stands.all; stands = stands.stands };
+        kept = stands.kept;
+      };
+    }
+
+module _ {s : Layout} {sources : SourceBytes} {ledger : LedgerView} (terms : Terms)
+    (of : KeepsFeeds s terms.conditions.items sources ledger) where
+  abbrev conditions : List Condition
+  conditions = terms.conditions.items
+
   -- where the feeds end
   abbrev there : List (List Item)
-  there = of_sources (length sources) builds.arrivals
+  there = of_sources (length sources) of.arrivals
 
-  keeps : KeepsUnder s conditions (length sources) builds.arrivals (first_ledger built.builders)
-  keeps =
-      let count = builds.stands.builders in
-      first-keeps s conditions (length sources) parts builds.arrivals built.builders built.inlets some
-      (λ d. builds.stands.each 0 d (omega arith))
+  abbrev refusals : List (List Refusal)
+  refusals = refusals_of_accounts ledger.accounts
 
-  refused-where : refusals_of_run built ≡ map (refusals_of s) there
-  refused-where = refusals-kept conditions keeps.whole built keeps.kept ∙ refused-under keeps.under
+  refused-where : refusals ≡ map (refusals_of s) there
+  refused-where = refusals-kept conditions of.keeps.whole ledger of.keeps.kept ∙ refused-under of.keeps.under
 
-  -- a text that tells what is asked of what was built is that of the question about the facts of interest
-  told-where : (question : Question) (text : List ℕ)
-      → Tells question s (facts_of_run built) (refusals_of_run built) text
+  -- what holds of the ledger's facts and refusals holds of the facts of interest, and of the whole ledger's refusals
+  of-whole : (Holds : List Fact → List (List Refusal) → Type 0) → Holds (all_facts ledger.accounts) refusals
+      → Holds (of_interest conditions (all_facts of.keeps.whole.accounts)) (refusals_of_accounts of.keeps.whole.accounts)
+  of-whole = over-kept conditions of.keeps.whole ledger of.keeps.kept
+
+  -- a text that tells what is asked of the ledger is that of the question about the facts of interest
+  told-where : (question : Question) (text : List ℕ) → Tells question s (all_facts ledger.accounts) refusals text
       → IsTextOn conditions question s there text
-  told-where question text tells =
-      IsTextOn-Tells conditions question text keeps.under
-      (over-kept conditions keeps.whole built keeps.kept (λ f r. Tells question s f r text) tells)
+  told-where question text tells = IsTextOn-Tells conditions question text of.keeps.under
+      (of-whole (λ f r. Tells question s f r text) tells)
 
   over-feeds : (Holds : List (List Item) → Type 0) → Holds there → OfFeeds s sources Holds
-  over-feeds Holds holds = record { feeds = there; good = builds.good; items = builds.taken; holds = holds }
+  over-feeds Holds holds = record { feeds = there; good = of.good; items = of.taken; holds = holds }
 
-  may-where : (is_strict : Bool) → MayAnswer is_strict (refusals_of_run built)
-      → MayAnswer is_strict (map (refusals_of s) there)
-  may-where is_strict may = λ strict. ap (first_refusal 1) (sym refused-where) ∙ may strict
+  may-where : MayAnswerOn terms s (all_facts ledger.accounts) refusals → MayAnswerOver terms s there
+  may-where may = MayAnswerOver-stands terms of.keeps.under (of-whole (λ f r. MayAnswerOn terms s f r) may)
 
-  -- the question was answered
-  pub OfFeeds-where : {question : Question} {status : Status} {is_strict : Bool} {old new : Option (List ℕ)}
-      → AnswersOn is_strict question s (facts_of_run built) (refusals_of_run built) status old new
+  -- the question was answered, and this stands at the list
+  pub OfFeeds-where : {question : Question} {status : Status} {old new : Option (List ℕ)}
+      (Stands : ℕ → Arrivals → Type 0) → Stands (length sources) of.arrivals
+      → AnswersOn terms question s (all_facts ledger.accounts) refusals status old new
       → OfFeeds s sources (λ feeds. Wrote (IsTextOn conditions question s feeds) old new
-      × (status ≡ status_over s feeds) × (is_strict ≡ true → status ≡ Done)
-      × HasTakenOn conditions s parts feeds built)
-  OfFeeds-where {question = question} {status = status} {is_strict = is_strict} {old = old} {new = new} answers =
+      × (status ≡ status_over s feeds) × (terms.is_strict ≡ true → status ≡ Done) × MayAnswerOver terms s feeds
+      × StandsOver (Stands (length feeds)) feeds)
+  OfFeeds-where {question = question} {status = status} {old = old} {new = new} Stands stands answers =
       over-feeds (λ feeds. Wrote (IsTextOn conditions question s feeds) old new
-      × (status ≡ status_over s feeds) × (is_strict ≡ true → status ≡ Done)
-      × HasTakenOn conditions s parts feeds built) (
+      × (status ≡ status_over s feeds) × (terms.is_strict ≡ true → status ≡ Done) × MayAnswerOver terms s feeds
+      × StandsOver (Stands (length feeds)) feeds) (
         Wrote-weaker (told-where question) answers.wrote,
         answers.status_is ∙ ap status_after refused-where,
-        Done-MayAnswer (refusals_of_run built) answers.status_is answers.may,
-        StandsOver-arrivals (λ n. StandsWhere s conditions n parts built) (length sources) builds.arrivals
-            builds.stands,
+        Done-MayAnswer refusals answers.status_is answers.may.0,
+        may-where answers.may,
+        StandsOver-arrivals Stands (length sources) of.arrivals stands,
       )
 
   -- the first bytes of its text were written
-  pub OfFeeds-where_first : {question : Question} {sent : ℕ} {is_strict : Bool} {old new : Option (List ℕ)}
-      → WroteFirst (Tells question s (facts_of_run built) (refusals_of_run built)) sent old new
-      → MayAnswer is_strict (refusals_of_run built)
+  pub OfFeeds-where_first : {question : Question} {sent : ℕ} {old new : Option (List ℕ)}
+      → WroteFirst (Tells question s (all_facts ledger.accounts) refusals) sent old new
+      → MayAnswerOn terms s (all_facts ledger.accounts) refusals
       → OfFeeds s sources (λ feeds. WroteFirst (IsTextOn conditions question s feeds) sent old new
-      × MayAnswer is_strict (map (refusals_of s) feeds))
-  OfFeeds-where_first {question = question} {sent = sent} {is_strict = is_strict} {old = old} {new = new} wrote may =
+      × MayAnswerOver terms s feeds)
+  OfFeeds-where_first {question = question} {sent = sent} {old = old} {new = new} wrote may =
       over-feeds (λ feeds. WroteFirst (IsTextOn conditions question s feeds) sent old new
-      × MayAnswer is_strict (map (refusals_of s) feeds))
-      (WroteFirst-weaker (told-where question) wrote, may-where is_strict may)
+      × MayAnswerOver terms s feeds)
+      (WroteFirst-weaker (told-where question) wrote, may-where may)
 
   -- it might have been answered
-  pub OfFeeds-may : (is_strict : Bool) → MayAnswer is_strict (refusals_of_run built)
-      → OfFeeds s sources (λ feeds. MayAnswer is_strict (map (refusals_of s) feeds))
-  OfFeeds-may is_strict may =
-      over-feeds (λ feeds. MayAnswer is_strict (map (refusals_of s) feeds)) (may-where is_strict may)
+  pub OfFeeds-may : MayAnswerOn terms s (all_facts ledger.accounts) refusals → OfFeeds s sources (MayAnswerOver terms s)
+  OfFeeds-may may = over-feeds (MayAnswerOver terms s) (may-where may)
+
+  -- there are more cells than there may be
+  pub OfFeeds-too_many : MayAnswer terms.is_strict refusals
+      → HasCellsBeyond terms.max_cells s (all_facts ledger.accounts) → OfFeeds s sources (HasTooManyCells terms s)
+  OfFeeds-too_many may beyond = over-feeds (HasTooManyCells terms s)
+      (HasTooManyCells-stands terms of.keeps.under
+      (of-whole (λ f r. MayAnswer terms.is_strict r) may) (of-whole (λ f r. HasCellsBeyond terms.max_cells s f) beyond))
 
   -- the first refusal
-  pub OfFeeds-first_refusal : (first : ℕ × Refusal) → first_refusal 1 (refusals_of_run built) ≡ Some first
+  pub OfFeeds-first_refusal : (first : ℕ × Refusal) → first_refusal 1 refusals ≡ Some first
       → OfFeeds s sources (λ feeds. first_refusal 1 (map (refusals_of s) feeds) ≡ Some first)
   OfFeeds-first_refusal first is =
       over-feeds (λ feeds. first_refusal 1 (map (refusals_of s) feeds) ≡ Some first)

@@ -17,7 +17,7 @@ use Rattle.cube_tool.specs.declared.command.failure.Failure.{Failure}
 use Rattle.cube_tool.specs.declared.command.failure.Failure.TheVariants.{Unreadable, Schema, TooManyFeeds, InputTaken}
 use Rattle.cube_tool.specs.declared.command.failure.Failure.TheVariants.{NoRandomKey, FeedUnreadable, Query}
 use Rattle.cube_tool.specs.declared.command.failure.Failure.TheVariants.{UnknownCode, Run, Session, TooManyCubes}
-use Rattle.cube_tool.specs.declared.command.failure.Failure.TheVariants.{SamePath, Merge, LineRefused}
+use Rattle.cube_tool.specs.declared.command.failure.Failure.TheVariants.{SamePath, Merge, LineRefused, TooManyCells}
 
 -- the number of a status
 abbrev pub status_code : Status → ℕ
@@ -39,6 +39,7 @@ status_of (Query fault) = WrongWords
 status_of UnknownCode = WrongWords
 status_of (Run fault) = Failed
 status_of (LineRefused source number code) = Failed
+status_of TooManyCells = Failed
 status_of (Session fault) = Failed
 status_of TooManyCubes = WrongWords
 status_of (SamePath input) = WrongWords

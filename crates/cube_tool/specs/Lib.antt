@@ -9,3 +9,4 @@ pub mod Session
 pub mod MergingCubes
 pub mod ShardWord
 pub mod MaxRecord
+pub mod MaxCells

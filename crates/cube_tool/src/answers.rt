@@ -57,8 +57,8 @@ pub fn answer<T: Threads + Sync, P: Reporter, W: Write>(
     }
 }
 
-// What is told of a text that was written, or wasn't: the answer to its question, where that can't be refused.
-fn told(written: Result<(), TextFault>) -> Result<(), Failure>
+/// What is told of a text that was written, or wasn't: the answer to its question, where that can't be refused.
+pub(crate) fn told(written: Result<(), TextFault>) -> Result<(), Failure>
     ensures { (question : TheQuestion) (s : Layout) (facts : List Fact) (refusals : List (List Refusal))
         (old new : Option (List ℕ)) → question_fault s question ≡ None →
         Writes (Tells question s facts refusals) written old new →
@@ -166,8 +166,8 @@ pub fn write_roll_up<W: Write>(
     write_rows(alloc, schema, &rows, out)
 }
 
-// The list of a row, or of none.
-fn listed(alloc: Global, row: Option<Row>) -> Result<Vec<Row>, AllocError>
+/// The list of a row, or of none.
+pub(crate) fn listed(alloc: Global, row: Option<Row>) -> Result<Vec<Row>, AllocError>
     ensures { IfOk result (λ rows. rows.items ≡ option_to_list row) }
 {
     let mut rows = Vec::new(alloc);
@@ -182,12 +182,24 @@ pub fn write_refusals<W: Write>(alloc: Global, built: &Built, out: &mut W) -> Re
     ensures { Writes (λ text. text ≡ text_of_refusals (refusals_of_run built.now))
         result (W.contents out.old) (W.contents out.new) }
 {
-    let text = print_refusals(alloc, refused_of(built))?;
+    write_refused(alloc, refused_of(built), out)
+}
+
+/// Writes the refusals of all sources of a ledger.
+pub(crate) fn write_refused<W: Write>(
+    alloc: Global,
+    refused: &Ledger,
+    out: &mut W,
+) -> Result<(), TextFault>
+    ensures { Writes (λ text. text ≡ text_of_refusals (map (λ account. account.refusals) refused.now.accounts))
+        result (W.contents out.old) (W.contents out.new) }
+{
+    let text = print_refusals(alloc, refused)?;
     write_text(&text, out)
 }
 
-// Writes the text of rows.
-fn write_rows<W: Write>(
+/// Writes the text of rows.
+pub(crate) fn write_rows<W: Write>(
     alloc: Global,
     schema: &Schema,
     rows: &[Row],

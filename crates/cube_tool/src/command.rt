@@ -6,6 +6,7 @@
 mod explanation;
 mod failure;
 mod feeds;
+mod max_cells;
 mod max_record;
 mod merging;
 mod notes;
@@ -22,6 +23,7 @@ pub use crate::question::Question;
 pub use explanation::explain;
 pub use failure::Failure;
 pub use feeds::{ask, ask_ledger};
+pub use max_cells::read_max_cells;
 pub use max_record::{read_max_record, record_bound};
 pub use merging::{FileIdentity, NamedCube, check_cubes, first_repeated, merge_cubes};
 pub use notes::{FEED_NOTES, LATER_NOTES, Note, RUN_NOTES, SCHEMA_NOTES, STORE_NOTES};

@@ -198,13 +198,7 @@ pub(crate) fn ask_kept<T: Threads + Wait + Clock + Sync>(
     requires feeds { length words.now.feeds.items ≤ 64 }
 {
     let question = question_of(rt, schema, asked)?;
-    let terms = terms_of(
-        rt,
-        schema,
-        &words.conditions,
-        words.strict,
-        reads.max_cells,
-    )?;
+    let terms = terms_of(rt, schema, &words.conditions, words.strict, reads.max_cells)?;
     let asked = &AskedOn { question, terms };
     if words.wary {
         let start = Wary;

@@ -29,7 +29,7 @@ use crate::terms::terms_of;
 use crate::views::{mixes_views, refuse_views, told_of, view_of};
 use crate::watch::Watch;
 use crate::why::{say_refused, say_repeated, say_why, says_why, wants_why};
-use cube_build::{Built, Settings};
+use cube_build::Settings;
 use cube_console::{
     Counts, CubeReader, FeedReader, LiveWords, MergeWords, Output, Phase, Progress, Request,
     RunWords, clashing_words, read_words, unreadable_words,
@@ -41,7 +41,7 @@ use cube_tool::command::{
     answer_words, ask, check, check_cubes, explain, first_repeated, live, merge_cubes, read_cell,
     read_dimension, read_pattern, read_schema, run_sample,
 };
-use cube_tool::{InputFault, MergeFault, RunFault};
+use cube_tool::{Fed, InputFault, MergeFault, RunFault};
 use cube_why::code_words;
 use std::fs::File;
 use std::io::{IsTerminal, Stderr};
@@ -379,9 +379,7 @@ fn answer<T: Threads + Wait + Clock + Sync>(
     let schema = schema_of(rt, words.schema, &words.feeds, 1, reads)?;
     match words.store {
         Some(path) => ask_kept(rt, threads, words, path, &schema, reads, asked, progress),
-        None => told(answer_fed(
-            rt, threads, words, &schema, reads, asked, progress,
-        )),
+        None => told(answer_fed(rt, threads, words, &schema, reads, asked, progress)),
     }
 }
 
@@ -439,13 +437,7 @@ fn answer_under<T: Threads + Wait + Clock + Sync>(
 {
     let alloc = rt.alloc();
     let question = question_of(rt, schema, asked)?;
-    let terms = terms_of(
-        rt,
-        schema,
-        &words.conditions,
-        words.strict,
-        reads.max_cells,
-    )?;
+    let terms = terms_of(rt, schema, &words.conditions, words.strict, reads.max_cells)?;
     let feeds = open_feeds(rt, &words.feeds, progress.counts())?;
     let settings = settings_of(threads, words.ring, words.builders, words.threads);
     progress.begin(Phase::Reading { feeds: feeds.len() });
@@ -454,12 +446,12 @@ fn answer_under<T: Threads + Wait + Clock + Sync>(
     match ask(
         threads, alloc, schema, feeds, &settings, &question, &terms, &watch, out,
     ) {
-        Ok((status, built)) => {
+        Ok((status, fed)) => {
             if status == Status::LinesRefused && !matches!(question, Question::Refusals) {
-                tell_refused(rt, words.why, schema, &words.feeds, &built, progress);
+                tell_refused(rt, words.why, schema, &words.feeds, &fed, progress);
             }
-            // The process ends after this, so what was built isn't taken apart.
-            mem::forget(built);
+            // The process ends after this, so what was taken isn't taken apart.
+            mem::forget(fed);
             Ok(status)
         }
         Err(failure) => Err(told_of(failure, out)),
@@ -472,12 +464,12 @@ pub(crate) fn tell_refused<T: Wait + Clock>(
     is_wanted: bool,
     schema: &Schema,
     feeds: &[&str],
-    built: &Built,
+    fed: &Fed,
     progress: &Progress<'_, T, Stderr>,
 ) {
     if is_wanted || says_why(rt) {
         progress.end();
-        say_refused(rt, schema, feeds, built);
+        say_refused(rt, schema, feeds, fed);
     }
 }
 

@@ -122,13 +122,7 @@ fn print_under<T: Threads + Wait + Clock + Sync>(
     requires room { TableHasRoom words.now }
     requires files { length words.now.files.items ≤ 64 }
 {
-    let terms = terms_of(
-        rt,
-        schema,
-        &words.conditions,
-        words.strict,
-        reads.max_cells,
-    )?;
+    let terms = terms_of(rt, schema, &words.conditions, words.strict, reads.max_cells)?;
     let feeds = open_files(rt, &words.files, begun, progress.counts())?;
     let settings = settings_of(threads, words.ring, words.builders, words.threads);
     progress.begin(Phase::Reading { feeds: feeds.len() });
@@ -138,12 +132,12 @@ fn print_under<T: Threads + Wait + Clock + Sync>(
     match ask(
         threads, alloc, schema, feeds, &settings, &question, &terms, &watch, out,
     ) {
-        Ok((status, built)) => {
+        Ok((status, fed)) => {
             if status == Status::LinesRefused {
-                tell_refused(rt, true, schema, &words.files, &built, progress);
+                tell_refused(rt, true, schema, &words.files, &fed, progress);
             }
-            // The process ends after this, so what was built isn't taken apart.
-            mem::forget(built);
+            // The process ends after this, so what was taken isn't taken apart.
+            mem::forget(fed);
             Ok(status)
         }
         Err(failure) => Err(told_of(failure, out)),

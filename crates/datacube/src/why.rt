@@ -3,11 +3,11 @@
 use crate::own_files::own_schema;
 use crate::path_of;
 use crate::reads::{Reads, max_cells_of, max_record_of, read_so};
-use cube_build::Built;
 use cube_console::Request;
 use cube_core::Schema;
 use cube_lines::write_whole;
 use cube_store_commands::StoredFailure;
+use cube_tool::Fed;
 use cube_tool::command::{read_condition, read_schema};
 use cube_why::{
     FoundLine, KIND_ADVICE, Lines, Refused, Report, Said, advice_on, find_line, kind_of, lines_of,
@@ -460,8 +460,8 @@ fn stands_before(paths: &[&str], count: u64, path: &str) -> bool {
 
 /// Says how many lines were refused, and what is wrong with the first one, where its file can be read again; and of which files
 /// the last record has a quote that is never closed.
-pub(crate) fn say_refused(rt: &HostRuntime, schema: &Schema, paths: &[&str], built: &Built) {
-    if let Some(refused) = refused_of(built.builder().refused()) {
+pub(crate) fn say_refused(rt: &HostRuntime, schema: &Schema, paths: &[&str], fed: &Fed) {
+    if let Some(refused) = refused_of(fed.refused()) {
         let _ = put_refused(rt, schema, paths, &refused);
     }
 }

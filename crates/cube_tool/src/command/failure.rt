@@ -35,6 +35,8 @@ pub enum Failure {
     /// A line of a feed was refused, where none may be: the lowest source, counted from 1, of which one is, the number of
     /// its first such record, and the code of the refusal.
     LineRefused { source: u32, number: u32, code: u8 },
+    /// The whole cube has more cells than it may have.
+    TooManyCells,
     /// The session ended before its input did.
     Session(SessionFault),
     /// There are more than 64 cubes to merge.
@@ -62,6 +64,7 @@ impl Failure {
             | Failure::FeedUnreadable { source: _ }
             | Failure::Run(_)
             | Failure::LineRefused { .. }
+            | Failure::TooManyCells
             | Failure::Session(_)
             | Failure::Merge(_) => Status::Failed,
         }
@@ -166,6 +169,7 @@ impl fmt::Display for Failure {
                 number,
                 code,
             } => write!(f, "G7 {source} {number} {code}"),
+            Failure::TooManyCells => f.write_str("G8"),
             Failure::Session(fault) => write_session_fault(*fault, f),
             Failure::TooManyCubes => f.write_str("too many cubes"),
             Failure::SamePath { input } => write!(f, "M2 {input}"),

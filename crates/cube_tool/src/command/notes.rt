@@ -249,7 +249,7 @@ pub const FEED_NOTES: [Note; 20] = [
 
 /// The codes of runs over feeds, of refused lines and of the program's files. A refused line's number may stand for one
 /// thing under each version of feeds.
-pub const RUN_NOTES: [Note; 23] = [
+pub const RUN_NOTES: [Note; 24] = [
     Note {
         code: "G1",
         about: "run",
@@ -297,6 +297,13 @@ pub const RUN_NOTES: [Note; 23] = [
         about: "run",
         means: "With `--strict` a line was refused, and nothing was written: the source that follows, counted from 1, the number of the record, and the code by which it was refused.",
         mend: "Look the last code up, and mend the line, or leave `--strict` out. `datacube refusals` shows all.",
+        example: "",
+    },
+    Note {
+        code: "G8",
+        about: "run",
+        means: "The whole cube has more cells than `--max-cells` allows, and nothing was written.",
+        mend: "Allow more, or keep fewer grouping sets, or leave out a dimension of many texts.",
         example: "",
     },
     Note {

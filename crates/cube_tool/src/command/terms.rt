@@ -16,6 +16,8 @@ pub struct Terms {
     pub conditions: Vec<Condition>,
     /// Whether a refused line is a failure.
     pub is_strict: bool,
+    /// How many cells the cube of the facts that count may have over all grouping sets; where it is none, any number.
+    pub max_cells: Option<u64>,
 }
 
 /// The condition that a word spells under a schema; the failure is `P8` where it spells none, or out of memory.

@@ -2,17 +2,22 @@ use Rattle.std.proofs.Common.{refl}
 use Rattle.std.proofs.lemmas.Result.{err_from_is_err_and}
 use Rattle.cube_core.specs.Query.{rolled_up}
 use Rattle.cube_live.specs.Shows.{is_key}
-use Rattle.cube_build.specs.Parts.{AreRowsOfRun}
-use Rattle.cube_tool.proofs.AnsweringLaws.{AreRowsOfRun-key, IsTextWhere-rows, Writes-weaker, shapes}
+use Rattle.cube_build.specs.Parts.{AreRowsOfRun, facts_of_run, schema_of_run}
+use Rattle.cube_tool.proofs.AnsweringLaws.{AreRowsWhere-key, Writes-rows, shapes}
+use Rattle.cube_tool.proofs.answers.write_roll_up.Given.{Over}
+use Rattle.cube_tool.proofs.answers.write_roll_up.Goals.{In_ok-rows}
 use Rattle.cube_tool.proofs.answers.write_roll_up.Goals as goal
+
+-- the rows are that of the rolled-up key, or none
+are : (g : Over) (c : In_ok-rows g)
+    → AreRowsOfRun (is_key (rolled_up c.args.dimension c.args.key.now)) c.args.built.now c.in_ok-rows.rows.items
+are g c = rw c.in_ok-rows.ensures (AreRowsWhere-key _ _ _ _ _ c.in_ok-row.row c.in_ok-row.ensures)
 
 pub write_rows-requires : goal.write_rows-requires
 write_rows-requires g c =
-    let key = rolled_up c.args.dimension c.args.key.now in
-    let are : AreRowsOfRun (is_key key) c.args.built.now c.in_ok-rows.rows.items =
-    rw c.in_ok-rows.ensures (AreRowsOfRun-key key c.args.built.now c.in_ok-row.row c.in_ok-row.ensures) in
-    rw c.deref.ensures.value (shapes (is_key key)
-    c.args.schema.now c.args.built.now c.in_ok-rows.rows.items c.requires.schema c.facts_fit.ensures are)
+    rw c.deref.ensures.value (shapes (is_key (rolled_up c.args.dimension c.args.key.now))
+    (schema_of_run c.args.built.now) c.args.schema.now (facts_of_run c.args.built.now) c.in_ok-rows.rows.items
+    c.requires.schema c.facts_fit.ensures (are g (goal.at.write_rows-requires g c).In_ok-rows))
 
 pub returns-in_err-row : goal.returns-in_err-row
 returns-in_err-row g c =
@@ -26,10 +31,6 @@ returns-in_err-rows g c =
 
 pub returns : goal.returns
 returns g c =
-    let key = rolled_up c.args.dimension c.args.key.now in
-    let are : AreRowsOfRun (is_key key) c.args.built.now c.in_ok-rows.rows.items =
-    rw c.in_ok-rows.ensures (AreRowsOfRun-key key c.args.built.now c.in_ok-row.row c.in_ok-row.ensures) in
-    Writes-weaker c.write_rows.result _ _
-    (λ text is. IsTextWhere-rows (is_key key) c.args.schema.now c.args.built.now c.in_ok-rows.rows.items text
-    c.requires.schema are (rw c.deref.ensures.value at is))
-    c.write_rows.ensures
+    Writes-rows c.write_rows.result _ _ (is_key (rolled_up c.args.dimension c.args.key.now))
+    (schema_of_run c.args.built.now) c.args.schema.now (facts_of_run c.args.built.now) c.in_ok-rows.rows.items
+    c.requires.schema (are g (goal.at.returns g c).In_ok-rows) (rw c.deref.ensures.value at c.write_rows.ensures)

@@ -1,13 +1,14 @@
 use Rattle.std.proofs.Common.{refl}
 use Rattle.std.proofs.lemmas.Result.{err_from_is_err_and}
 use Rattle.cube_core.specs.Query.{matches}
-use Rattle.cube_tool.proofs.AnsweringLaws.{IsTextWhere-rows, Writes-weaker, shapes}
+use Rattle.cube_build.specs.Parts.{facts_of_run, schema_of_run}
+use Rattle.cube_tool.proofs.AnsweringLaws.{Writes-rows, shapes}
 use Rattle.cube_tool.proofs.answers.write_slice.Goals as goal
 
 pub write_rows-requires : goal.write_rows-requires
 write_rows-requires g c =
-    rw c.deref.ensures.value (shapes (matches c.args.pattern.now)
-    c.args.schema.now c.args.built.now c.in_ok-rows.rows.items c.requires c.facts_fit.ensures c.in_ok-rows.ensures)
+    rw c.deref.ensures.value (shapes (matches c.args.pattern.now) (schema_of_run c.args.built.now) c.args.schema.now
+    (facts_of_run c.args.built.now) c.in_ok-rows.rows.items c.requires c.facts_fit.ensures c.in_ok-rows.ensures)
 
 pub returns-in_err-rows : goal.returns-in_err-rows
 returns-in_err-rows g c =
@@ -16,7 +17,6 @@ returns-in_err-rows g c =
 
 pub returns : goal.returns
 returns g c =
-    Writes-weaker c.write_rows.result _ _
-    (λ text is. IsTextWhere-rows (matches c.args.pattern.now) c.args.schema.now c.args.built.now c.in_ok-rows.rows.items
-    text c.requires c.in_ok-rows.ensures (rw c.deref.ensures.value at is))
-    c.write_rows.ensures
+    Writes-rows c.write_rows.result _ _ (matches c.args.pattern.now) (schema_of_run c.args.built.now) c.args.schema.now
+    (facts_of_run c.args.built.now) c.in_ok-rows.rows.items c.requires c.in_ok-rows.ensures
+    (rw c.deref.ensures.value at c.write_rows.ensures)
