@@ -7,7 +7,7 @@ use Rattle.cube_core.specs.declared.key.Row.{Row}
 use Rattle.cube_build.specs.Parts.{AreRowsOfRun, facts_of_run, schema_of_run}
 use Rattle.cube_tool.specs.Answering.{refusals_of_run}
 use Rattle.cube_tool.specs.declared.question.Question.TheVariants.{Drill}
-use Rattle.cube_tool.proofs.AnsweringLaws.{Answers-text, Writes-rows, drill-given, drill-refused, shapes}
+use Rattle.cube_tool.proofs.AnsweringLaws.{Answers-text, Writes-rows, Writes-weaker, drill-given, drill-refused, shapes}
 use Rattle.cube_tool.proofs.answers.write_drill.Given.{Over}
 use Rattle.cube_tool.proofs.answers.write_drill.Goals.{In_ok-rows}
 use Rattle.cube_tool.proofs.answers.write_drill.Goals as goal
@@ -48,7 +48,9 @@ returns-in_err-write_rows g c =
     (refusals_of_run c.args.built.now) c.in_err-write_rows.field-0.0 _ _ drilled.0
     (Writes-rows (Err c.in_err-write_rows.field-0.0) _ _ (drills_down c.args.dimension c.args.key.now)
     (schema_of_run c.args.built.now) c.args.schema.now (facts_of_run c.args.built.now) c.in_ok-rows.rows.items
-    c.requires.schema drilled.1 (rw c.deref.ensures.value at c.in_err-write_rows.ensures)))
+    c.requires.schema drilled.1
+    (Writes-weaker {T = Unit {0}} (Err c.in_err-write_rows.field-0.0) _ _ (λ text is. rw c.deref.ensures.value at is)
+    c.in_err-write_rows.ensures)))
 
 pub returns : goal.returns
 returns g c =

@@ -10,19 +10,19 @@ use Rattle.cube_tool.proofs.walked.write_roll_up.Goals as goal
 
 -- the rows are that of the rolled-up key, or none
 are : (g : Over) (c : In_ok-rows g)
-    → AreRowsWhere (is_key (rolled_up c.args.dimension c.args.key.now)) c.cells.result.now.schema.grouping_sets
-    (length c.cells.result.now.schema.dimensions) c.cells.result.now.schema.aggregates
+    → AreRowsWhere (is_key (rolled_up c.args.dimension c.args.key.now)) c.cells-cells.result.now.schema.grouping_sets
+    (length c.cells-cells.result.now.schema.dimensions) c.cells-cells.result.now.schema.aggregates
     (all_facts c.args.taken.now.ledger.accounts) c.in_ok-rows.rows.items
 are g c =
     rw c.in_ok-rows.ensures (AreRowsWhere-key _ _ _ _ _ c.in_ok-row.row
-    (c.in_ok-row.ensures (all_facts c.args.taken.now.ledger.accounts) c.cells.ensures.facts))
+    (c.in_ok-row.ensures (all_facts c.args.taken.now.ledger.accounts) c.cells-cells.ensures.facts))
 
 pub write_rows-requires : goal.write_rows-requires
 write_rows-requires g c =
-    rw (c.deref.ensures.value, c.schema.ensures, c.cells.ensures.schema)
-    (shapes (is_key (rolled_up c.args.dimension c.args.key.now)) c.cells.result.now.schema
+    rw (c.deref.ensures.value, c.schema.ensures, c.cells-cells.ensures.schema)
+    (shapes (is_key (rolled_up c.args.dimension c.args.key.now)) c.cells-cells.result.now.schema
     c.args.taken.now.ledger.schema (all_facts c.args.taken.now.ledger.accounts) c.in_ok-rows.rows.items
-    c.cells.ensures.schema c.cells.ensures.facts.fit (are g (goal.at.write_rows-requires g c).In_ok-rows))
+    c.cells-cells.ensures.schema c.cells-cells.ensures.facts.fit (are g (goal.at.write_rows-requires g c).In_ok-rows))
 
 pub returns-in_err-row : goal.returns-in_err-row
 returns-in_err-row g c =
@@ -37,6 +37,6 @@ returns-in_err-rows g c =
 pub returns : goal.returns
 returns g c =
     Writes-rows c.write_rows.result _ _ (is_key (rolled_up c.args.dimension c.args.key.now))
-    c.cells.result.now.schema c.args.taken.now.ledger.schema (all_facts c.args.taken.now.ledger.accounts)
-    c.in_ok-rows.rows.items c.cells.ensures.schema (are g (goal.at.returns g c).In_ok-rows)
-    (rw (c.deref.ensures.value, c.schema.ensures, c.cells.ensures.schema) at c.write_rows.ensures)
+    c.cells-cells.result.now.schema c.args.taken.now.ledger.schema (all_facts c.args.taken.now.ledger.accounts)
+    c.in_ok-rows.rows.items c.cells-cells.ensures.schema (are g (goal.at.returns g c).In_ok-rows)
+    (rw (c.deref.ensures.value, c.schema.ensures, c.cells-cells.ensures.schema) at c.write_rows.ensures)

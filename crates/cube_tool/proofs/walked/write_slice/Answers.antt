@@ -8,9 +8,9 @@ use Rattle.cube_tool.proofs.walked.write_slice.Goals as goal
 pub write_rows-requires : goal.write_rows-requires
 write_rows-requires g c =
     let facts = all_facts c.args.taken.now.ledger.accounts in
-    rw (c.deref.ensures.value, c.schema.ensures, c.cells.ensures.schema) (shapes (matches c.args.pattern.now)
-    c.cells.result.now.schema c.args.taken.now.ledger.schema facts c.in_ok-rows.rows.items c.cells.ensures.schema
-    c.cells.ensures.facts.fit (c.in_ok-rows.ensures facts c.cells.ensures.facts))
+    rw (c.deref.ensures.value, c.schema.ensures, c.cells-cells.ensures.schema) (shapes (matches c.args.pattern.now)
+    c.cells-cells.result.now.schema c.args.taken.now.ledger.schema facts c.in_ok-rows.rows.items c.cells-cells.ensures.schema
+    c.cells-cells.ensures.facts.fit (c.in_ok-rows.ensures facts c.cells-cells.ensures.facts))
 
 pub returns-in_err-rows : goal.returns-in_err-rows
 returns-in_err-rows g c =
@@ -20,7 +20,7 @@ returns-in_err-rows g c =
 pub returns : goal.returns
 returns g c =
     let facts = all_facts c.args.taken.now.ledger.accounts in
-    Writes-rows c.write_rows.result _ _ (matches c.args.pattern.now) c.cells.result.now.schema
-    c.args.taken.now.ledger.schema facts c.in_ok-rows.rows.items c.cells.ensures.schema
-    (c.in_ok-rows.ensures facts c.cells.ensures.facts)
-    (rw (c.deref.ensures.value, c.schema.ensures, c.cells.ensures.schema) at c.write_rows.ensures)
+    Writes-rows c.write_rows.result _ _ (matches c.args.pattern.now) c.cells-cells.result.now.schema
+    c.args.taken.now.ledger.schema facts c.in_ok-rows.rows.items c.cells-cells.ensures.schema
+    (c.in_ok-rows.ensures facts c.cells-cells.ensures.facts)
+    (rw (c.deref.ensures.value, c.schema.ensures, c.cells-cells.ensures.schema) at c.write_rows.ensures)
