@@ -271,7 +271,7 @@ first-keeps s conditions sources parts arrivals (builder ∷ builders) inlets so
     }
 
 -- so does the ledger of builder 0
-pub keeps-built : {s : Layout} {conditions : List Condition} {sources : SourceBytes} {parts : ℕ} {built : BuiltView}
+abbrev pub keeps-built : {s : Layout} {conditions : List Condition} {sources : SourceBytes} {parts : ℕ} {built : BuiltView}
     → 1 ≤ length built.builders → BuildsWhere s conditions sources parts built
     → KeepsFeeds s conditions sources (first_ledger built.builders)
 keeps-built {s = s} {conditions = conditions} {sources = sources} {parts = parts} {built = built} some builds =
@@ -285,7 +285,7 @@ keeps-built {s = s} {conditions = conditions} {sources = sources} {parts = parts
     }
 
 -- and that of what one builder took
-pub keeps-taken : {s : Layout} {conditions : List Condition} {sources : SourceBytes} {taken : TakenView}
+abbrev pub keeps-taken : {s : Layout} {conditions : List Condition} {sources : SourceBytes} {taken : TakenView}
     → TakesWhere s conditions sources taken → KeepsFeeds s conditions sources taken.ledger
 keeps-taken takes =
     let stands = takes.stands in

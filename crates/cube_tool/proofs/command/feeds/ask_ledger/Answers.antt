@@ -19,7 +19,7 @@ schema : (g : Over) (c : In_ok-taken g) → c.in_ok-taken.taken.ledger.schema �
 schema g c = ap (λ (l : LedgerView). l.schema) c.in_ok-taken.ensures.ledger ∙ c.requires.schema
 
 pub answer_on_taken-requires : goal.answer_on_taken-requires
-answer_on_taken-requires g c κs within =
+answer_on_taken-requires g c =
     rw (ap (λ (l : LedgerView). l.schema) c.in_ok-taken.ensures.ledger ∙ c.requires.schema) c.requires.question
 
 pub returns-in_err-taken-clause-err : goal.returns-in_err-taken-clause-err

@@ -22,7 +22,7 @@ schema : (g : Over) (c : In_ok-taken g) → c.in_ok-taken.taken.ledger.schema �
 schema g c = ap (λ (l : LedgerView). l.schema) (takes g c).stands.kept ∙ (takes g c).stands.schema
 
 pub answer_on_taken-requires : goal.answer_on_taken-requires
-answer_on_taken-requires g c κs within =
+answer_on_taken-requires g c =
     rw (schema g (goal.at.answer_on_taken-requires g c).In_ok-taken) c.requires.question
 
 pub returns-in_err-taken-clause-err : goal.returns-in_err-taken-clause-err
@@ -57,7 +57,7 @@ pub returns-clause-ok : goal.returns-clause-ok
 returns-clause-ok g c =
     let at = goal.at.returns-clause-ok g c in
     let taken = takes g at.In_ok-taken in
-    OfFeeds-weaker (λ feeds held. (held.0, held.1, held.2, held.3, c.requires.one, held.4))
+    OfFeeds-weaker (λ feeds held. (held.0, held.1, held.2, held.3, (c.requires.one, held.4)))
     (OfFeeds-where c.args.terms.now (keeps-taken taken)
     (λ n. TakenStandsWhere c.args.schema.now c.args.terms.now.conditions.items n c.in_ok-taken.taken) taken.stands
     (answers g at.In_ok-status))
