@@ -256,7 +256,7 @@ pub record KeepsFeeds (s : Layout) (conditions : List Condition) (sources : Sour
   pub taken : AreTaken s sources arrivals
   pub keeps : KeepsUnder s conditions (length sources) arrivals ledger
 
-first-keeps : (s : Layout) (conditions : List Condition) (sources parts : ℕ) (arrivals : Arrivals)
+pub first-keeps : (s : Layout) (conditions : List Condition) (sources parts : ℕ) (arrivals : Arrivals)
     (builders : List BuilderView) (inlets : List (List (Receiving Parcel))) → 1 ≤ length builders
     → ((d : BuilderView)
     → PartStandsWhere s conditions sources parts 0 arrivals (get_or builders 0 d) (get_or inlets 0 []))

@@ -228,7 +228,7 @@ fn answer_on_taken<T: Threads + Sync, P: Reporter, W: Write>(
     reporter: &P,
     out: &mut W,
 ) -> Result<Status, Failure>
-    requires { Fits taken.now.ledger.schema question.now }
+    requires question { Fits taken.now.ledger.schema question.now }
     ensures ok { IfOk result (λ status. AnswersOn terms.now question.now taken.now.ledger.schema
         (all_facts taken.now.ledger.accounts) (map (λ account. account.refusals) taken.now.ledger.accounts)
         status (W.contents out.old) (W.contents out.new)) }

@@ -18,8 +18,8 @@ kept g c = rw (← c.as_slice-conditions.ensures.value) c.in_ok-taken.ensures.le
 schema : (g : Over) (c : In_ok-taken g) → c.in_ok-taken.taken.ledger.schema ≡ c.args.schema.now
 schema g c = ap (λ (l : LedgerView). l.schema) c.in_ok-taken.ensures.ledger ∙ c.requires.schema
 
-pub answer_on_taken-requires : goal.answer_on_taken-requires
-answer_on_taken-requires g c =
+pub answer_on_taken-requires-clause-question : goal.answer_on_taken-requires-clause-question
+answer_on_taken-requires-clause-question g c κs within =
     rw (ap (λ (l : LedgerView). l.schema) c.in_ok-taken.ensures.ledger ∙ c.requires.schema) c.requires.question
 
 pub returns-in_err-taken-clause-err : goal.returns-in_err-taken-clause-err

@@ -21,9 +21,9 @@ takes g c = rw c.as_slice-conditions.ensures.value at c.in_ok-taken.ensures.ok
 schema : (g : Over) (c : In_ok-taken g) → c.in_ok-taken.taken.ledger.schema ≡ c.args.schema.now
 schema g c = ap (λ (l : LedgerView). l.schema) (takes g c).stands.kept ∙ (takes g c).stands.schema
 
-pub answer_on_taken-requires : goal.answer_on_taken-requires
-answer_on_taken-requires g c =
-    rw (schema g (goal.at.answer_on_taken-requires g c).In_ok-taken) c.requires.question
+pub answer_on_taken-requires-clause-question : goal.answer_on_taken-requires-clause-question
+answer_on_taken-requires-clause-question g c κs within =
+    rw (schema g (goal.at.answer_on_taken-requires-clause-question g c).In_ok-taken) c.requires.question
 
 pub returns-in_err-taken-clause-err : goal.returns-in_err-taken-clause-err
 returns-in_err-taken-clause-err g c =
