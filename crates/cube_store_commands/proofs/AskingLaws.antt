@@ -4,7 +4,7 @@ use Rattle.std.specs.Prelude.{Option, Some, None}
 use Rattle.std.proofs.lemmas.List.{append-nil, take_all}
 use Rattle.sqlite_trees.specs.Tree.{Trees}
 use Rattle.sqlite_trees.specs.View.{View, IsClean}
-use Rattle.cube_core.specs.Arrival.{Arrivals}
+use Rattle.cube_core.specs.Arrival.{Arrivals, of_sources}
 use Rattle.cube_core.specs.Conditions.{of_interest}
 use Rattle.cube_core.specs.Layout.{Layout}
 use Rattle.cube_core.specs.Query.{drill_fault}
@@ -31,11 +31,11 @@ use Rattle.cube_store_commands.specs.declared.session.ResumeFault.{ResumeFault}
 use Rattle.cube_store_commands.specs.declared.session.ResumeFault.TheVariants as resume
 use Rattle.cube_store_commands.specs.Stored.{FailsUnwritten, IfStoreRefused, LeavesUnwritten, failure_of}
 use Rattle.cube_store_commands.proofs.ReplayLaws.{LeadsTo-schema, LeadsTo-stands}
-use Rattle.cube_tool.proofs.RunLaws.{Done-MayAnswer, IsTextOn-Tells, StandsUnder, Wrote-weaker, WroteFirst-weaker}
-use Rattle.cube_tool.proofs.RunLaws.{refused-under}
+use Rattle.cube_tool.proofs.RunLaws.{Done-MayAnswer, HasTooManyCells-stands, IsTextOn-Tells, MayAnswerOver-stands}
+use Rattle.cube_tool.proofs.RunLaws.{StandsUnder, Wrote-weaker, WroteFirst-weaker, refused-under}
 use Rattle.cube_tool.proofs.SessionLaws.{AreWithin-live}
-use Rattle.cube_tool.specs.Answering.{AnswersOn, FailsOn, Fits, IsQueryFault, IsToldOf, MayAnswer, first_refusal}
-use Rattle.cube_tool.specs.Answering.{question_fault}
+use Rattle.cube_tool.specs.Answering.{AnswersOn, FailsOn, Fits, HasTooManyCells, IsQueryFault, IsToldOf, MayAnswerOver}
+use Rattle.cube_tool.specs.Answering.{first_refusal, question_fault}
 use Rattle.cube_tool.specs.Command.{status_after}
 use Rattle.cube_tool.specs.Faults.{fault_of_feeding}
 use Rattle.cube_tool.specs.Run.{OfFeeds, WroteFirst}
