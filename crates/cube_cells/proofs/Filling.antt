@@ -4,6 +4,7 @@ pub mod FinerLaws
 pub mod FilledLaws
 pub mod LevelLaws
 pub mod ShareLaws
+pub mod MergedLaws
 pub mod BottomUpLaws
 pub mod BottomUpCellLaws
 pub mod BottomUpCubeLaws

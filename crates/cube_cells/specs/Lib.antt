@@ -13,6 +13,7 @@ pub mod Fill
 pub mod Count
 pub mod Places
 pub mod Shares
+pub mod Merged
 pub mod BottomUp
 pub mod Ranking
 pub mod WalkParts

@@ -22,6 +22,7 @@ mod finest_cells;
 mod finest_rows;
 mod keyed;
 mod levels;
+mod merged;
 mod ordered;
 mod queries;
 mod ranks;

@@ -164,7 +164,7 @@ AddsIn-new k values old new t none look moved plus holds =
     AddsIn-coded_at k values old new t look (rw none plus) holds (CountMore-new 1 k old new t moved plus.facts)
 
 -- a tally counts the same as itself
-SameTally-refl : (t : Tally) → SameTally t t
+pub SameTally-refl : (t : Tally) → SameTally t t
 SameTally-refl t =
     record { facts = refl; bags = record { same_length = refl; bags = λ m. record { held = λ x. refl } } }
 

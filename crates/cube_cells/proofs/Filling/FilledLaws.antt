@@ -9,10 +9,11 @@ use Rattle.std.specs.List.Sorted.{IsPermutation, IsStrictlySortedBy}
 use Rattle.std.specs.Ordering.{nat_cmp, eq_by_cmp}
 use Rattle.std.proofs.lemmas.Bool.{cases_Bool, and_parts, and_from, or_cases, or_left, or_right, both_ways, eqb-true}
 use Rattle.std.proofs.lemmas.Bool.{eq-eqb, false_from_ne_true, lt-ltb}
-use Rattle.std.proofs.lemmas.List.{length-append, length-map, length-replicate}
-use Rattle.std.proofs.lemmas.List.Elements.{All-head, All-tail, All-nil, All-cons, All-filter, filter-append}
+use Rattle.std.proofs.lemmas.List.{append-nil, length-append, length-map, length-replicate}
+use Rattle.std.proofs.lemmas.List.Elements.{All-append, All-head, All-tail, All-nil, All-cons, All-filter}
+use Rattle.std.proofs.lemmas.List.Elements.{filter-append}
 use Rattle.std.proofs.lemmas.List.Folds.{list_any-append}
-use Rattle.std.proofs.lemmas.List.Sorted.{IsPermutation-sym, length_permutation}
+use Rattle.std.proofs.lemmas.List.Sorted.{All-permutation, IsPermutation-sym, length_permutation}
 use Rattle.std.proofs.lemmas.Map.Keys.{sorted_from_strictly_increasing}
 use Rattle.cube_core.specs.Covers.{covers}
 use Rattle.cube_core.specs.Cube.{is_cell, is_total}
@@ -31,7 +32,7 @@ use Rattle.cube_cells.specs.Codes.{Dictionaries, IsDictionary, are_codes, coord_
 use Rattle.cube_cells.specs.Coded.{CodedCells, IsCoded, IsCodedCell, AreNewCells, same_codes, coded_at, decoded}
 use Rattle.cube_cells.specs.Coded.{is_total_code, lattice_of, total_codes}
 use Rattle.cube_cells.specs.Cube.{IsCubeOf, Lattice, cell_at, count_in, empty_tally, is_kept_for, tally_or_empty}
-use Rattle.cube_cells.specs.Fill.{AreMadeFrom, FillsSet, IsFiner, MergesIn}
+use Rattle.cube_cells.specs.Fill.{AreMadeFrom, FillsSet, IsCubeOfAll, IsFiner, MergesIn}
 use Rattle.cube_cells.specs.Tally.{Tally, IsTallyOf}
 use Rattle.cube_cells.specs.Walk.{AreApart, key_in}
 use Rattle.cube_cells.specs.declared.cube.codes.Codes.{Codes}
@@ -41,7 +42,7 @@ use Rattle.cube_cells.proofs.Cells.CubeLaws.{group_of-is_cell}
 use Rattle.cube_cells.proofs.Filling.FinerLaws.{ancestor_of-within, kept_codes-within}
 use Rattle.cube_cells.proofs.Tallies.GroupLaws.{IsOfSet, cell_key, AreCodesOf-coords_at, cell_key-covering_key}
 use Rattle.cube_cells.proofs.Tallies.GroupLaws.{gathered}
-use Rattle.cube_cells.proofs.Tallies.GroupLaws.{gathered-IsPermutation, one_covers, IsTallyOf-append}
+use Rattle.cube_cells.proofs.Tallies.GroupLaws.{gathered-IsPermutation_from_HasGroupsOf, one_covers, IsTallyOf-append}
 use Rattle.cube_cells.proofs.Codes.GrowthLaws.{AreGrown, All-is_among, count_in-weight_of_cells, set_weight-key_in}
 use Rattle.cube_cells.proofs.Codes.GrowthLaws.{set_weight}
 use Rattle.cube_cells.proofs.Cells.KeptLaws.{IsCodedCell-coded_at_same, All-coded_at}
@@ -696,97 +697,162 @@ one_covers-HaveAll schema dictionaries facts set cells below base filled =
         (or_right (is_total n key) (list_any (covers key) facts) any) in
         one_covers-cell_at dictionaries cells key fact stands (filled.keys key ∙ cell)
 
--- ---- a coarser set
+-- ---- cells of one set
+-- those that have all facts are a cube
+pub IsCubeOfAll-HaveAll : (schema : Layout) (dictionaries : Dictionaries) (facts : List Fact) (set : ℕ)
+    (cells : CodedCells) → IsBase schema dictionaries facts → set < 2 ^ length schema.dimensions
+    → HaveAll schema dictionaries facts (set ∷ []) cells
+    → IsCoded schema (set ∷ []) (length facts) dictionaries cells
+    × IsCubeOfAll facts (lattice_of schema (set ∷ []) (length facts) dictionaries cells)
+IsCubeOfAll-HaveAll schema dictionaries facts set cells base below all = (
+  coded,
+  record {
+    fit = base.fit;
+    cells = record {
+      keys = all.keys;
+      tallies = all.tallies;
+      widths = IsCoded-width schema (set ∷ []) (length facts) dictionaries cells coded;
+    };
+    facts_are = refl;
+  },
+) where
+  coded : IsCoded schema (set ∷ []) (length facts) dictionaries cells
+  coded = record {
+    lattice = record {
+      schema = base.is_schema;
+      sets = All-cons (λ (s : ℕ). s < 2 ^ length schema.dimensions) set [] below
+          (All-nil (λ (s : ℕ). s < 2 ^ length schema.dimensions));
+      ascending = sorted_from_strictly_increasing (set ∷ []) (λ k inside. absurd (omega (arith, inside)));
+      dictionaries = base.width;
+    };
+    texts = base.texts;
+    distinct = all.distinct;
+    each = all.each;
+    total = all.total;
+    counts = all.counts;
+  }
+
+-- facts in another order
+HaveAll-permutation : (schema : Layout) (dictionaries : Dictionaries) (facts moved : List Fact) (set : ℕ)
+    (cells : CodedCells) → IsBase schema dictionaries facts → set < 2 ^ length schema.dimensions
+    → IsPermutation facts moved → HaveAll schema dictionaries facts (set ∷ []) cells
+    → HaveAll schema dictionaries moved (set ∷ []) cells
+HaveAll-permutation schema dictionaries facts moved set cells base below change all = record {
+  distinct = all.distinct;
+  each = all.each;
+  total = all.total;
+  counts = λ s among. all.counts s among ∙ sym (length_permutation facts moved change);
+  keys = cube.keys;
+  tallies = cube.tallies;
+} where
+  lattice : Lattice
+  lattice = lattice_of schema (set ∷ []) (length facts) dictionaries cells
+
+  cube : IsCubeOf lattice moved
+  cube = IsCubeOf-permutation lattice facts moved change
+      (IsCubeOfAll-HaveAll schema dictionaries facts set cells base below all).1.cells
+
+-- the cells of a set into which those of a finer one, or others of its own, are merged have the facts of both
+pub HaveAll-FillsSet : (schema : Layout) (dictionaries : Dictionaries) (facts before : List Fact)
+    (finer set : ℕ) (others start cells : CodedCells) → IsBase schema dictionaries facts
+    → All (λ fact. fits schema fact ≡ true) before
+    → finer < 2 ^ length schema.dimensions → 0 < finer → set < 2 ^ length schema.dimensions
+    → bit_and finer set ≡ set → HaveAll schema dictionaries facts (finer ∷ []) others
+    → HaveAll schema dictionaries before (set ∷ []) start → FillsSet set others start cells
+    → HaveAll schema dictionaries (facts ++ before) (set ∷ []) cells
+HaveAll-FillsSet schema dictionaries facts before finer set others start cells base fit below above small within filled
+    was fills =
+    HaveAll-permutation schema dictionaries all (facts ++ before) set cells
+    (record { is_schema = base.is_schema; width = base.width; texts = base.texts; fit = fit_all }) small
+    (IsPermutation-sym (facts ++ before) all moved) here
+  where
+    frame : IsFrame schema (set ∷ []) dictionaries
+    frame = record {
+      is_schema = base.is_schema;
+      within = All-cons (λ (s : ℕ). s < 2 ^ length schema.dimensions) set [] small
+          (All-nil (λ (s : ℕ). s < 2 ^ length schema.dimensions));
+      width = base.width;
+      texts = base.texts;
+    }
+
+    each : All (IsSetCell schema dictionaries facts finer) others
+    each = IsSetCell-HaveAll schema dictionaries facts finer others base filled
+
+    all : List Fact
+    all = gathered dictionaries facts others before
+
+    moved : IsPermutation (facts ++ before) all
+    moved = gathered-IsPermutation_from_HasGroupsOf dictionaries finer facts others facts before base.texts
+        (λ k d inside. (each k d inside).of_set) filled.distinct (λ k d inside. refl)
+        (one_covers-HaveAll schema dictionaries facts finer others below base filled)
+
+    fit_all : All (λ fact. fits schema fact ≡ true) all
+    fit_all = All-permutation (λ fact. fits schema fact ≡ true) (facts ++ before) all moved
+        (All-append (λ fact. fits schema fact ≡ true) facts before base.fit fit)
+
+    gathered_here : ℕ → List Fact
+    gathered_here = gathered_in dictionaries facts others set (λ _. before)
+
+    done : IsFilled schema (set ∷ []) dictionaries gathered_here cells
+    done = IsFilled-FillsSet schema (set ∷ []) dictionaries facts set others start cells (λ _. before) frame
+        (or_left (set == set) false (eq-eqb set set refl))
+        (λ k d inside. HasFinerGroup-IsSetCell schema dictionaries facts finer set (get_or others k d) base
+        above within (each k d inside)) fills was
+
+    in_set : (s : ℕ) → is_among s (set ∷ []) ≡ true → gathered_here s ≡ all
+    in_set s among = elim (or_cases (set == s) false among) [ inl same ↦ rw same refl | inr never ↦ cc never ]
+
+    here : HaveAll schema dictionaries all (set ∷ []) cells
+    here = record {
+      distinct = done.distinct;
+      each = done.each;
+      total = done.total;
+      counts = λ s among. done.counts s among ∙ ap length (in_set s among);
+      keys = λ key. done.keys key ∙ in_sets key (is_among (mask_of key) (set ∷ [])) refl;
+      tallies = λ key. by_set key (is_among (mask_of key) (set ∷ [])) refl;
+    } where
+      in_sets : (key : Key) (b : Bool) → is_among (mask_of key) (set ∷ []) ≡ b
+          → is_cell (set ∷ []) (length schema.dimensions) (gathered_here (mask_of key)) key
+          ≡ is_cell (set ∷ []) (length schema.dimensions) all key
+      in_sets key true among =
+          ap (λ (fs : List Fact). is_cell (set ∷ []) (length schema.dimensions) fs key) (in_set (mask_of key) among)
+      in_sets key false none = rw none refl
+
+      by_set : (key : Key) (b : Bool) → is_among (mask_of key) (set ∷ []) ≡ b
+          → IfSome (cell_at (decoded dictionaries cells) key) (IsTallyOf (group_of key all))
+      by_set key true among =
+          subst (λ (fs : List Fact). IfSome (cell_at (decoded dictionaries cells) key) (IsTallyOf (group_of key fs)))
+          (in_set (mask_of key) among) (done.tallies key)
+      by_set key false none = absent (cell_at (decoded dictionaries cells) key) (done.keys key ∙ rw none refl) where
+        absent : (o : Option Tally) → is_some o ≡ false → IfSome o (IsTallyOf (group_of key all))
+        absent None is_none = tt
+        absent (Some t) is_none = cc is_none
+
 -- the cells of a grouping set that are made from those of a finer one have all facts
 pub HaveAll-AreMadeFrom : (schema : Layout) (dictionaries : Dictionaries) (facts : List Fact)
     (finer set : ℕ) (others cells : CodedCells) → IsBase schema dictionaries facts
     → finer < 2 ^ length schema.dimensions → IsFiner finer set → HaveAll schema dictionaries facts (finer ∷ []) others
     → AreMadeFrom others set (length schema.measures) cells → HaveAll schema dictionaries facts (set ∷ []) cells
-HaveAll-AreMadeFrom schema dictionaries facts finer set others cells base below within filled made = record {
-  distinct = coded.distinct;
-  each = coded.each;
-  total = coded.total;
-  counts = coded.counts;
-  keys = cube.keys;
-  tallies = cube.tallies;
-} where
-  frame : IsFrame schema (set ∷ []) dictionaries
-  frame = record {
-    is_schema = base.is_schema;
-    within = All-cons (λ (s : ℕ). s < 2 ^ length schema.dimensions) set [] (omega (arith, within.0, below))
-        (All-nil (λ (s : ℕ). s < 2 ^ length schema.dimensions));
-    width = base.width;
-    texts = base.texts;
-  }
+HaveAll-AreMadeFrom schema dictionaries facts finer set others cells base below within filled made =
+    rw (append-nil facts) at (HaveAll-FillsSet schema dictionaries facts [] finer set others made.start cells base
+    (All-nil (λ fact. fits schema fact ≡ true)) below (omega (arith, within.0)) small within.1 filled start made.fills)
+  where
+    small : set < 2 ^ length schema.dimensions
+    small = omega (arith, within.0, below)
 
-  each : All (IsSetCell schema dictionaries facts finer) others
-  each = IsSetCell-HaveAll schema dictionaries facts finer others base filled
-
-  all : List Fact
-  all = gathered dictionaries facts others []
-
-  lattice : Lattice
-  lattice = lattice_of schema (set ∷ []) (length facts) dictionaries cells
-
-  moved : IsPermutation facts all
-  moved = gathered-IsPermutation dictionaries finer facts others base.texts (λ k d inside. (each k d inside).of_set)
-      filled.distinct (one_covers-HaveAll schema dictionaries facts finer others below base filled)
-
-  one : IsStrictlySortedBy nat_cmp (set ∷ [])
-  one = sorted_from_strictly_increasing (set ∷ []) (λ k inside. absurd (omega (arith, inside)))
-
-  start : IsFilled schema (set ∷ []) dictionaries (λ _. []) made.start
-  start = IsFilled-AreNewCells schema (set ∷ []) dictionaries made.start frame one (as_new (set == 0) refl made.new)
-    where
-      as_new : (b : Bool) → (set == 0) ≡ b → AreNewCells b (length schema.measures) made.start
-          → AreNewCells (is_among 0 (set ∷ [])) (length schema.measures) made.start
-      as_new true is new = rw is new
-      as_new false is new = rw is new
-
-  gathered_here : ℕ → List Fact
-  gathered_here = gathered_in dictionaries facts others set (λ _. [])
-
-  done : IsFilled schema (set ∷ []) dictionaries gathered_here cells
-  done = IsFilled-FillsSet schema (set ∷ []) dictionaries facts set others made.start cells (λ _. []) frame
-      (or_left (set == set) false (eq-eqb set set refl))
-      (λ k d inside. HasFinerGroup-IsSetCell schema dictionaries facts finer set (get_or others k d) base
-      (omega (arith, within.0)) within.1 (each k d inside)) made.fills start
-
-  in_set : (s : ℕ) → is_among s (set ∷ []) ≡ true → gathered_here s ≡ all
-  in_set s among = elim (or_cases (set == s) false among) [ inl same ↦ rw same refl | inr never ↦ cc never ]
-
-  coded : IsCoded schema (set ∷ []) (length facts) dictionaries cells
-  coded = record {
-    lattice = record { schema = base.is_schema; sets = frame.within; ascending = one; dictionaries = base.width };
-    texts = base.texts;
-    distinct = done.distinct;
-    each = done.each;
-    total = done.total;
-    counts = λ s among. done.counts s among ∙ ap length (in_set s among) ∙ length_permutation facts all moved;
-  }
-
-  cube_here : IsCubeOf lattice all
-  cube_here = record {
-    keys = λ key. done.keys key ∙ in_sets key (is_among (mask_of key) (set ∷ [])) refl;
-    tallies = λ key. by_set key (is_among (mask_of key) (set ∷ [])) refl;
-    widths = IsCoded-width schema (set ∷ []) (length facts) dictionaries cells coded;
-  } where
-    in_sets : (key : Key) (b : Bool) → is_among (mask_of key) (set ∷ []) ≡ b
-        → is_cell (set ∷ []) (length schema.dimensions) (gathered_here (mask_of key)) key
-        ≡ is_cell (set ∷ []) (length schema.dimensions) all key
-    in_sets key true among =
-        ap (λ (fs : List Fact). is_cell (set ∷ []) (length schema.dimensions) fs key) (in_set (mask_of key) among)
-    in_sets key false none = rw none refl
-
-    by_set : (key : Key) (b : Bool) → is_among (mask_of key) (set ∷ []) ≡ b
-        → IfSome (cell_at (decoded dictionaries cells) key) (IsTallyOf (group_of key all))
-    by_set key true among =
-        subst (λ (fs : List Fact). IfSome (cell_at (decoded dictionaries cells) key) (IsTallyOf (group_of key fs)))
-        (in_set (mask_of key) among) (done.tallies key)
-    by_set key false none = absent (cell_at (decoded dictionaries cells) key) (done.keys key ∙ rw none refl) where
-      absent : (o : Option Tally) → is_some o ≡ false → IfSome o (IsTallyOf (group_of key all))
-      absent None is_none = tt
-      absent (Some t) is_none = cc is_none
-
-  cube : IsCubeOf lattice facts
-  cube = IsCubeOf-permutation lattice all facts (IsPermutation-sym facts all moved) cube_here
+    start : HaveAll schema dictionaries [] (set ∷ []) made.start
+    start = IsFilled-AreNewCells schema (set ∷ []) dictionaries made.start
+        (record {
+          is_schema = base.is_schema;
+          within = All-cons (λ (s : ℕ). s < 2 ^ length schema.dimensions) set [] small
+              (All-nil (λ (s : ℕ). s < 2 ^ length schema.dimensions));
+          width = base.width;
+          texts = base.texts;
+        })
+        (sorted_from_strictly_increasing (set ∷ []) (λ k inside. absurd (omega (arith, inside))))
+        (as_new (set == 0) refl made.new)
+      where
+        as_new : (b : Bool) → (set == 0) ≡ b → AreNewCells b (length schema.measures) made.start
+            → AreNewCells (is_among 0 (set ∷ [])) (length schema.measures) made.start
+        as_new true is new = rw is new
+        as_new false is new = rw is new

@@ -53,9 +53,8 @@ use Rattle.cube_cells.specs.declared.cube.codes.Codes.{Codes}
 use Rattle.cube_cells.specs.declared.cube.levels.Level.{Level}
 use Rattle.cube_cells.specs.declared.cube.shares.CodedFacts.{CodedFacts}
 use Rattle.cube_cells.specs.declared.cube.shares.Column.{Column}
-use Rattle.cube_cells.proofs.Cells.CodedLaws.{IsCoded-width}
 use Rattle.cube_cells.proofs.Cells.CubeLaws.{IsCubeOf-AddsFact, IsCubeOf-permutation, group_of-list_any}
-use Rattle.cube_cells.proofs.Filling.FilledLaws.{HaveAll, IsBase, IsFrame, IsFilled-AreNewCells}
+use Rattle.cube_cells.proofs.Filling.FilledLaws.{HaveAll, IsBase, IsCubeOfAll-HaveAll, IsFrame, IsFilled-AreNewCells}
 use Rattle.cube_cells.proofs.Codes.GrowthLaws.{AreGrown-refl, count_in-weight_of_cells, is_code-append, set_weight}
 use Rattle.cube_cells.proofs.Codes.GrowthLaws.{texts_with-append}
 use Rattle.cube_cells.proofs.Tallies.GroupLaws.{AreCodesOf-coords_at}
@@ -181,12 +180,12 @@ AreMade-push is number made next are holds = record {
 
 -- ---- columns
 -- a code that is valid is that of one coordinate
-IsCodeIn-IsCodeOf : (texts : List (List ℕ)) (value : Option (List ℕ)) (code : ℕ)
+pub IsCodeIn-IsCodeOf : (texts : List (List ℕ)) (value : Option (List ℕ)) (code : ℕ)
     → IsCodeOf texts (coord_of_value value) code → is_code texts code ≡ true → IsCodeIn texts value code
 IsCodeIn-IsCodeOf texts value code of valid = record { valid = valid; stands = (of.alone code valid).1 refl }
 
 -- it stays so where texts are added
-IsCodeIn-more : (old new more : List (List ℕ)) (value : Option (List ℕ)) (code : ℕ) → new ≡ old ++ more
+pub IsCodeIn-more : (old new more : List (List ℕ)) (value : Option (List ℕ)) (code : ℕ) → new ≡ old ++ more
     → IsDictionary new → IsCodeIn old value code → IsCodeIn new value code
 IsCodeIn-more old new more value code is dictionary before =
     let same = is_code-append old more new code is dictionary before.valid in
@@ -376,12 +375,13 @@ HaveAll-AreFinestCells coded facts cells finest = record {
   tallies = finest.cube.cells.tallies;
 }
 
+pub finest_set-below : (n : ℕ) → 1 ≤ n → (0 < finest_set n) × (finest_set n < 2 ^ n)
+finest_set-below zero some = absurd (omega (arith, some))
+finest_set-below (suc n) some = (omega (arith, pow-succ' 2 n, pow_pos n), omega (arith, pow-succ' 2 n, pow_pos n))
+
 set_of-below : (coded : CodedFacts) → AreCoded coded
     → (0 < set_of coded) × (set_of coded < 2 ^ length coded.schema.dimensions)
-set_of-below coded are = below (length coded.schema.dimensions) are.is_schema.some_dimension where
-  below : (n : ℕ) → 1 ≤ n → (0 < 2 ^ n - 1) × (2 ^ n - 1 < 2 ^ n)
-  below zero some = absurd (omega (arith, some))
-  below (suc n) some = (omega (arith, pow-succ' 2 n, pow_pos n), omega (arith, pow-succ' 2 n, pow_pos n))
+set_of-below coded are = finest_set-below (length coded.schema.dimensions) are.is_schema.some_dimension
 
 IsBase-AreCoded : (coded : CodedFacts) (facts : List Fact) → AreCoded coded
     → All (λ fact. fits coded.schema fact ≡ true) facts
@@ -397,37 +397,10 @@ AreFinestCells-HaveAll : (coded : CodedFacts) (facts : List Fact) (cells : Coded
     → All (λ fact. fits coded.schema fact ≡ true) facts
     → HaveAll coded.schema (dictionaries_of coded.columns.items) facts (set_of coded ∷ []) cells
     → AreFinestCells coded facts cells
-AreFinestCells-HaveAll coded facts cells are fit all = record {
-  are = here;
-  cube = record {
-    fit = fit;
-    cells = record {
-      keys = all.keys;
-      tallies = all.tallies;
-      widths = IsCoded-width coded.schema (set_of coded ∷ []) (length facts)
-          (dictionaries_of coded.columns.items) cells here;
-    };
-    facts_are = refl;
-  };
-} where
-  base : IsBase coded.schema (dictionaries_of coded.columns.items) facts
-  base = IsBase-AreCoded coded facts are fit
-
-  here : IsCoded coded.schema (set_of coded ∷ []) (length facts) (dictionaries_of coded.columns.items) cells
-  here = record {
-    lattice = record {
-      schema = are.is_schema;
-      sets = All-cons (λ set. set < 2 ^ length coded.schema.dimensions) (set_of coded) [] (set_of-below coded are).1
-          (All-nil (λ set. set < 2 ^ length coded.schema.dimensions));
-      ascending = IsStrictlySortedBy-one (set_of coded);
-      dictionaries = base.width;
-    };
-    texts = base.texts;
-    distinct = all.distinct;
-    each = all.each;
-    total = all.total;
-    counts = all.counts;
-  }
+AreFinestCells-HaveAll coded facts cells are fit all =
+    let cube = IsCubeOfAll-HaveAll coded.schema (dictionaries_of coded.columns.items) facts (set_of coded) cells
+    (IsBase-AreCoded coded facts are fit) (set_of-below coded are).1 all in
+    record { are = cube.0; cube = cube.1 }
 
 -- the same facts in another order
 AreFinestCells-permutation : (coded : CodedFacts) (facts moved : List Fact) (cells : CodedCells) → AreCoded coded

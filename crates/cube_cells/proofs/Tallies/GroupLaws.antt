@@ -155,12 +155,12 @@ abbrev pub one_covers : Dictionaries → CodedCells → Fact → Bool
 one_covers dictionaries cells fact = list_any (λ cell. covers (cell_key dictionaries cell) fact) cells
 
 -- what is left of facts has the same groups as all of them
-abbrev HasGroupsOf : Dictionaries → List Fact → List Fact → Codes × Tally → Type 0
+abbrev pub HasGroupsOf : Dictionaries → List Fact → List Fact → Codes × Tally → Type 0
 HasGroupsOf dictionaries facts left cell =
     group_of (cell_key dictionaries cell) facts ≡ group_of (cell_key dictionaries cell) left
 
 -- the groups of cells whose keys cover each fact that is left have these facts
-gathered-IsPermutation_from_HasGroupsOf : (dictionaries : Dictionaries) (set : ℕ)
+pub gathered-IsPermutation_from_HasGroupsOf : (dictionaries : Dictionaries) (set : ℕ)
     (facts : List Fact) (cells : CodedCells) (left done : List Fact)
     → All IsDictionary dictionaries → All (IsOfSet dictionaries set) cells → IsDistinct same_codes (keys_of cells)
     → All (HasGroupsOf dictionaries facts left) cells → All (λ fact. one_covers dictionaries cells fact ≡ true) left

@@ -27,8 +27,8 @@ pub struct Column {
 }
 
 impl Column {
-    // Puts the code of a value or of null at the end.
-    fn push(&mut self, alloc: Global, value: Option<&str>) -> Result<(), AllocError>
+    /// Puts the code of a value or of null at the end.
+    pub fn push(&mut self, alloc: Global, value: Option<&str>) -> Result<(), AllocError>
         ensures { OnOk result (PutsCode (option_map (λ text. text.now) value.entry) self.old self.new) }
     {
         let code = self.dictionary.code_with(alloc, value)?;
@@ -204,8 +204,8 @@ fn column_of(
     Ok(column)
 }
 
-// The texts of each dimension.
-fn dictionaries_of(alloc: Global, columns: Vec<Column>) -> Result<Vec<Dictionary>, AllocError>
+/// The texts of each dimension.
+pub fn dictionaries_of(alloc: Global, columns: Vec<Column>) -> Result<Vec<Dictionary>, AllocError>
     ensures { IfOk result (λ dictionaries. dictionaries.items ≡ dictionaries_of columns.items) }
 {
     let mut dictionaries = Vec::with_capacity(alloc, columns.len())?;
