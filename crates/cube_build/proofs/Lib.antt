@@ -11,4 +11,5 @@ mod ShareLaws
 mod InterestLaws
 mod SameLaws
 mod CountingLaws
+mod CounterShareLaws
 mod TakenLaws

@@ -1,5 +1,5 @@
 -- The ledgers of shares, put together.
-use Rattle.std.proofs.Common.{◌≡◌, ℕ, List, [], ◌∷◌, ◌++◌, length, refl, ap, subst, sym}
+use Rattle.std.proofs.Common.{◌≡◌, ◌-◌, ◌/◌, ℕ, List, [], ◌∷◌, ◌++◌, length, refl, ap, subst, sym}
 use Rattle.std.proofs.Common.{◌∙◌, arith, flat_map, replicate, sum_by}
 use Rattle.std.specs.Global.{Vec}
 use Rattle.std.specs.List.{All, AllZip}
@@ -20,6 +20,10 @@ use Rattle.cube_rings.specs.Shares.{StandAtShares, StandInShares}
 use Rattle.cube_rings.specs.declared.gatherer.Gatherer.{Gatherer}
 use Rattle.cube_build.specs.Drafts.{DraftView, StandsFrom, IsDrafted}
 use Rattle.cube_build.specs.Shares.{AreNewLedgers, TakenInParts}
+
+-- the last share takes all that is left
+pub all-left : (left n : ℕ) → n ≡ 1 → left - left / n ≡ 0
+all-left left n is = rw is (omega arith)
 
 -- how many sources a ledger has
 abbrev pub sources_of : LedgerView → ℕ

@@ -9,4 +9,5 @@ pub mod Shares
 pub mod Interest
 pub mod Counting
 pub mod CountedRun
+pub mod CounterShares
 pub mod Taken

@@ -104,7 +104,8 @@ pub fn build<T: Threads + Wait + Sync, R: Read + Drop + Send, G: Gate + Sync>(
 /// hold. Refusals and faults are the same whatever the conditions; with no condition nothing is looked at.
 ///
 /// Where the feeds need no book, since each record is an insert under its number, one builder counts each fact as it is
-/// taken, on the caller's thread, and nothing is kept of it.
+/// taken, in as many shares of consecutive sources as there are threads, 8 at most, the first on the caller's thread, each
+/// other on its own. What the shares counted is put together once the feeds have ended, and nothing else is kept of a fact.
 pub fn build_where<T: Threads + Wait + Sync, R: Read + Drop + Send, G: Gate + Sync>(
     rt: &T,
     alloc: Global,

@@ -1,10 +1,11 @@
 //! What takes feeds that need no book.
-ghost use Rattle.std.specs.Prelude.{◌≡◌, ◌≤◌, ◌<◌, ◌∷◌, [], Ok, Err, true, false, length, IfOk, OnOk, OnErr};
+ghost use Rattle.std.specs.Prelude.{◌≡◌, ◌≤◌, ◌<◌, ◌+◌, ◌∷◌, [], Ok, Err, true, false, length, IfOk, OnOk, OnErr};
 ghost use Rattle.cube_core.specs.Conditions.{of_interest};
 ghost use Rattle.cube_core.specs.Refusals.{code_of_fault};
 ghost use Rattle.cube_core.specs.Takes.{fits};
 ghost use Rattle.cube_core.specs.declared.change.Change.TheVariants.{Insert};
 ghost use Rattle.cube_build.specs.Builder.{GainsFacts};
+ghost use Rattle.cube_build.specs.CounterShares.{IsJoined};
 ghost use Rattle.cube_build.specs.Counting.{Admits, AreCountsOf, CountsItem, NotesFault, IsNewCounter, IsOneCounter, weight_of, weight_with};
 
 use crate::counts::Counts;
@@ -165,6 +166,45 @@ impl<'c> Counter<'c> {
                 Err(error)
             }
         }
+    }
+
+    /// Whether memory ran out for it.
+    pub fn is_spent(&self) -> bool
+        ensures { result ≡ self.now.is_spent }
+    {
+        self.is_spent
+    }
+
+    /// The counter that has the sources of another of the same schema and conditions after its own. The only error is that
+    /// memory ran out.
+    pub fn joined(self, more: Counter<'c>) -> Result<Counter<'c>, AllocError>
+        requires unspent { (self.is_spent ≡ false) × (more.is_spent ≡ false) }
+        requires schema { more.ledger.schema ≡ self.ledger.schema }
+        requires conditions { more.conditions ≡ self.conditions }
+        requires most { length self.ledger.accounts + length more.ledger.accounts ≤ 64 }
+        ensures { IfOk result (IsJoined self.entry more.entry) }
+    {
+        let Counter {
+            conditions,
+            mut weights,
+            mut refused,
+            cube,
+            trace,
+            is_spent,
+        } = self;
+        let mut others = more;
+        let cube = cube.merged(others.cube)?;
+        refused.append(others.refused)?;
+        weights.append(&mut others.weights)?;
+        let trace = trace.appending(&others.trace);
+        Ok(Counter {
+            conditions,
+            weights,
+            refused,
+            cube,
+            trace,
+            is_spent,
+        })
     }
 
     /// What was counted, over the finest grouping set alone. The only error is that memory ran out before.

@@ -6,6 +6,7 @@ ghost use Rattle.cube_build.specs.Counting.{AreCountsOf};
 ghost use Rattle.cube_build.specs.Taken.{IsTakenPart};
 
 use crate::counter::{Counter, new_counters};
+use crate::counter_shares::feed_counters;
 use crate::making::MadePart;
 use cube_core::{Condition, Schema};
 use cube_rings::{FeedingFault, Gate, Gatherer, Settings, feed_all};
@@ -23,7 +24,7 @@ pub(crate) fn need_no_book(schema: &Schema) -> bool {
     }
 }
 
-// Feeds all sources to a counter of the facts of interest.
+// Feeds all sources to a counter of the facts of interest, in shares where there are more threads than one.
 fn feed_counter<'c, T: Threads + Wait + Sync, R: Read + Drop + Send, G: Gate + Sync>(
     rt: &T,
     alloc: Global,
@@ -38,6 +39,9 @@ fn feed_counter<'c, T: Threads + Wait + Sync, R: Read + Drop + Send, G: Gate + S
         (CountsFeeds schema.now conditions.now (map R.Read.remaining readers.items)) }
     ensures err { IfErr result (ExplainsFeeding schema.now (map R.Read.remaining readers.items)) }
 {
+    if settings.threads() > 1 {
+        return feed_counters(rt, alloc, schema, readers, settings, gate, conditions);
+    }
     let Ok(counters) = new_counters(alloc, schema, readers.len() as u32, conditions) else {
         return Err(FeedingFault::Memory);
     };

@@ -11,6 +11,7 @@ mod builder;
 mod building;
 mod built;
 mod counter;
+mod counter_shares;
 mod counting;
 mod counts;
 mod draft;

@@ -17,8 +17,8 @@ use std::thread::Threads;
 /// The most shares.
 const MOST_SHARES: u32 = 8;
 
-// How many shares so many sources are cut into: as many as there are threads, but no share of no source.
-fn shares_of(threads: usize, sources: u32) -> u32
+/// How many shares so many sources are cut into: as many as there are threads, but no share of no source.
+pub(crate) fn shares_of(threads: usize, sources: u32) -> u32
     requires { (1 ≤ threads) × (1 ≤ sources) }
     ensures { (1 ≤ result) × (result ≤ 8) }
 {

@@ -3,6 +3,7 @@ ghost use Rattle.std.specs.Prelude.{◌≡◌};
 ghost use Rattle.std.specs.Borrow.{ftrue};
 ghost use Rattle.cube_ledger.specs.Interest.{ledger_of_interest};
 ghost use Rattle.cube_ledger.specs.Ledger.{LedgerView};
+ghost use Rattle.cube_build.specs.CounterShares.{appended};
 ghost use Rattle.cube_build.specs.Counting.{putting, refusing};
 
 use cube_core::{Condition, Fact, Text};
@@ -70,6 +71,13 @@ impl LedgerTrace {
         })
     }
 
+    /// The trace of this ledger with the accounts of another after its own.
+    pub fn appending(&self, other: &LedgerTrace) -> LedgerTrace
+        ensures { result.ledger ≡ appended self.now.ledger other.now.ledger }
+    {
+        LedgerTrace::read(&Appended { old: self, other })
+    }
+
     /// The trace of this ledger with the facts of interest alone.
     pub fn keeping(&self, conditions: &[Condition]) -> LedgerTrace
         ensures { result.ledger ≡ ledger_of_interest conditions.now self.now.ledger }
@@ -112,6 +120,16 @@ struct Put<'a> {
 
 impl<'a> Traced for Put<'a> {
     ghost ledger = { λ x. putting x.old.now.ledger x.source x.id.now x.fact.now };
+}
+
+#[derive(Drop)]
+struct Appended<'a> {
+    old: &'a LedgerTrace,
+    other: &'a LedgerTrace,
+}
+
+impl<'a> Traced for Appended<'a> {
+    ghost ledger = { λ x. appended x.old.now.ledger x.other.now.ledger };
 }
 
 #[derive(Drop)]

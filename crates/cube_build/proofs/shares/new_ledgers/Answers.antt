@@ -1,16 +1,12 @@
-use Rattle.std.proofs.Common.{◌≡◌, ◌+◌, ◌-◌, ◌/◌, ℕ, [], ◌∙◌, ap, length, arith}
+use Rattle.std.proofs.Common.{◌≡◌, ◌+◌, ◌-◌, ◌/◌, [], ◌∙◌, ap, length, arith}
 use Rattle.std.proofs.Math.Nat.{div-le_self}
 use Rattle.std.proofs.lemmas.List.{length-replicate}
 use Rattle.std.proofs.lemmas.List.Elements.{All-push}
 use Rattle.std.proofs.lemmas.List.Sums.{sum_by_push}
 use Rattle.cube_ledger.specs.Ledger.{LedgerStandsAt, new_account}
 use Rattle.cube_rings.proofs.PlaceLaws.{length-one_more}
-use Rattle.cube_build.proofs.ShareLaws.{sources_of}
+use Rattle.cube_build.proofs.ShareLaws.{all-left, sources_of}
 use Rattle.cube_build.proofs.shares.new_ledgers.Goals as goal
-
--- the last share takes all that is left
-all-left : (left n : ℕ) → n ≡ 1 → left - left / n ≡ 0
-all-left left n is = rw is (omega arith)
 
 pub loop-share-preserved : goal.loop-share-preserved
 loop-share-preserved c =
