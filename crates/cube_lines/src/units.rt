@@ -18,16 +18,16 @@ pub fn push_units(
     ensures { OnOk result (text.new.items ≡ text.old.items ++ signed_units_text digits value) }
 {
     if digits == 0 {
-        return text.extend_from_slice(number.format(value).as_bytes());
+        return push_whole(text, number, value);
     }
     if value < 0 {
         text.push(b'-')?;
     }
-    push_pointed(
-        text,
-        usize::from(digits),
-        number.format(value.unsigned_abs()).as_bytes(),
-    )
+    let (digits, size) = (usize::from(digits), value.unsigned_abs());
+    match u64::try_from(size) {
+        Ok(short) => push_pointed(text, digits, number.format(short).as_bytes()),
+        Err(_) => push_pointed(text, digits, number.format(size).as_bytes()),
+    }
 }
 
 /// Puts the text of p/q units of 10^-k, as a fraction of the value itself, at the end of a text, where there are k digits.
@@ -46,7 +46,7 @@ pub fn push_fraction(
         return push_ratio(text, number, p, q);
     }
     let (numerator, denominator) = scaled(digits, p, q);
-    text.extend_from_slice(number.format(numerator).as_bytes())?;
+    push_whole(text, number, numerator)?;
     text.push(b'/')?;
     text.extend_from_slice(number.format(denominator).as_bytes())
 }
@@ -55,9 +55,19 @@ fn push_ratio(text: &mut Vec<u8>, number: &mut Buffer, p: i128, q: u64) -> Resul
     ensures { OnOk result (text.new.items ≡ text.old.items
         ++ (signed_decimal p ++ codes "/" ++ decimal q)) }
 {
-    text.extend_from_slice(number.format(p).as_bytes())?;
+    push_whole(text, number, p)?;
     text.push(b'/')?;
     text.extend_from_slice(number.format(q).as_bytes())
+}
+
+// Puts a number. Most fit 64 bits, and the text of those takes less time.
+fn push_whole(text: &mut Vec<u8>, number: &mut Buffer, value: i128) -> Result<(), AllocError>
+    ensures { OnOk result (text.new.items ≡ text.old.items ++ signed_decimal value) }
+{
+    match i64::try_from(value) {
+        Ok(short) => text.extend_from_slice(number.format(short).as_bytes()),
+        Err(_) => text.extend_from_slice(number.format(value).as_bytes()),
+    }
 }
 
 // Puts digits with a point before the last k of them, and with zeros before those where they are no more than k.
