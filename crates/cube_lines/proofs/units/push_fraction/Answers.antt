@@ -1,7 +1,5 @@
-use Rattle.std.proofs.Common.{◌≡◌, ◌++◌, ◌∷◌, [], ◌∙◌, ap, append_assoc, codes, decimal, rules, sym, FitsSigned, OnOk}
+use Rattle.std.proofs.Common.{◌≡◌, ◌++◌, ◌∷◌, [], ◌∙◌, ap, codes, decimal, rules, OnOk}
 use Rattle.std.specs.Fmt.{signed_decimal}
-use Rattle.std.specs.Int.{w128}
-use Rattle.std.proofs.lemmas.Int.{to_z-of_z}
 use Rattle.std.proofs.lemmas.Result.{on_ok_weaker}
 use Rattle.cube_core.specs.Text.{fraction_text}
 use Rattle.cube_lines.proofs.UnitTextLaws.{three-parts}
@@ -12,16 +10,13 @@ returns c =
     let old = c.args.text.now.items in
     let p = c.scaled-numerator.result.0 in
     let q = c.scaled-numerator.result.1 in
-    let fits : FitsSigned w128 p = search rules in
-    let first : c.extend_from_slice.new.self.items ≡ old ++ c.as_bytes.result.now = search rules in
-    let slash : c.push.new.self.items ≡ c.extend_from_slice.new.self.items ++ 47 ∷ [] = search rules in
-    let p_is : c.as_bytes.result.now ≡ signed_decimal p =
-    c.as_bytes.ensures.value ∙ c.format.ensures.text ∙ ap signed_decimal (to_z-of_z w128 p fits) in
-    let q_is : c.as_bytes-2.result.now ≡ decimal q = c.as_bytes-2.ensures.value ∙ c.format-2.ensures.text in
-    let last : OnOk c.extend_from_slice-2.result
-    (c.extend_from_slice-2.new.self.items ≡ c.push.new.self.items ++ c.as_bytes-2.result.now) = search rules in
-    on_ok_weaker c.extend_from_slice-2.result
+    let first : c.push_whole.new.text.items ≡ old ++ signed_decimal p = search rules in
+    let slash : c.push.new.self.items ≡ c.push_whole.new.text.items ++ 47 ∷ [] = search rules in
+    let q_is : c.as_bytes.result.now ≡ decimal q = c.as_bytes.ensures.value ∙ c.format.ensures.text in
+    let last : OnOk c.extend_from_slice.result
+    (c.extend_from_slice.new.self.items ≡ c.push.new.self.items ++ c.as_bytes.result.now) = search rules in
+    on_ok_weaker c.extend_from_slice.result
     (λ end. three-parts old (signed_decimal p) (decimal q) (fraction_text c.args.digits c.args.p c.args.q) _ _ _
-    (first ∙ ap (λ t. old ++ t) p_is) slash
-    (end ∙ ap (λ t. c.push.new.self.items ++ t) q_is) (search (rules, to_z-of_z)))
+    first slash
+    (end ∙ ap (λ t. c.push.new.self.items ++ t) q_is) (search rules))
     last
