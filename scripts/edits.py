@@ -58,14 +58,17 @@ class Trials:
     def see(self, line):
         """Begins with a crate's edits where a line of `rt ci` says that the crate is proved."""
         proved = PROVED.match(line)
-        for together in rounds_of([it for it in self.edits if proved and crate_of(it) == proved[1]], self.copy):
-            begun = self.pool.submit(self.try_together, together)
-            self.begun.update(dict.fromkeys(together, begun))
+        if own := [it for it in self.edits if proved and crate_of(it) == proved[1]]:
+            self.begun.update(dict.fromkeys(own, self.pool.submit(self.try_rounds, own)))
 
-    def try_together(self, edits):
-        """What comes of edits of different functions of a crate, once there is room for their try."""
-        with self.room:
-            return tried(edits, self.copy, self.is_anew)
+    def try_rounds(self, edits):
+        """What comes of the edits of a crate, each round once there is room for its try."""
+        found = {}
+        for together in rounds_of(edits, self.copy):
+            with self.room:
+                found |= tried(together, self.copy, self.is_anew)
+        shutil.rmtree(checked_in(self.copy, crate_of(edits[0])), ignore_errors=True)
+        return found
 
     def results(self):
         """What came of each edit, once all were tried. The proofs are over by now, so the tries have all processors."""
@@ -147,7 +150,8 @@ def attempt(edits, copy):
         if not all(functions):
             bad = Tried(False, False, f"{label_of(edits[0])}: BAD EDIT: {whys[0] or 'it changes no function'}")
             return {edits[0]: bad} if len(edits) == 1 else {}
-        words = ["nice", *check_of(copy, crate), *(word for name in itertools.chain(*functions) for word in ("--only", name))]
+        words = ["nice", *check_of(copy, crate), "--incremental", checked_in(copy, crate)]
+        words += [word for name in itertools.chain(*functions) for word in ("--only", name)]
         ran = subprocess.run(words, cwd=room, stdin=subprocess.DEVNULL, stdout=subprocess.PIPE, stderr=subprocess.STDOUT, text=True)
     is_over = ran.returncode == 1 and ENDED.search(ran.stdout)
     refusals = [is_over and refusal(ran.stdout, names, len(edits) == 1) for names in functions]
@@ -271,6 +275,11 @@ def place_of(copy, library):
     """The folder in which a library stands built: one of a copy of the repository, or else one of the kit."""
     own = f"{copy}/crates/{library}"
     return f"{own}/out/rlib" if os.path.isdir(own) else f"{kit()}/rlibs"
+
+
+def checked_in(copy, crate):
+    """The folder that keeps what the checks of a crate's edits have proved, for those that follow."""
+    return f"{copy}/crates/{crate}/out/edits"
 
 
 def libraries_of(copy, crate):
