@@ -4,7 +4,7 @@ use Rattle.std.proofs.Common.{append_assoc, decimal, inl, inr}
 use Rattle.std.proofs.lemmas.Bool.{cases_lt, cond-true, cond-false, lt-ltb, le-ltb}
 use Rattle.std.proofs.lemmas.Fmt.{decimal_digit, decimal_step_wide}
 use Rattle.std.proofs.Math.Nat.{pow-suc, one-le-pow, mul-le-mul_right}
-use mathlib.Core.List.{append-nil}
+use Rattle.std.proofs.lemmas.List.{append-nil}
 use Rattle.cube_values.specs.Wide.{last_digits, digits_within, long_decimal}
 
 within_short : (k n : ℕ) → n < 10 → digits_within (suc k) n ≡ (48 + n) ∷ []

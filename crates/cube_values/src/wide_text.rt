@@ -1,5 +1,5 @@
 //! The digits of a number of 256 bits, put at the end of a text in memory.
-ghost use Rattle.std.specs.Prelude.{◌≡◌, ◌++◌, OnOk};
+ghost use Rattle.std.specs.Prelude.{◌≡◌, ◌+◌, ◌<◌, ◌++◌, ◌∷◌, [], OnOk};
 ghost use Rattle.cube_values.specs.Wide.{last_digits, long_decimal};
 
 use crate::wide::Wide;
@@ -27,10 +27,10 @@ fn push_short(text: &mut Vec<u8>, number: u128) -> Result<(), AllocError>
     ensures { OnOk result (text.new.items ≡ text.old.items ++ long_decimal number) }
 {
     if number < 10 {
-        return text.push(b'0' + number as u8);
+        return push_digit(text, number);
     }
     push_short(text, number / 10)?;
-    text.push(b'0' + (number % 10) as u8)
+    push_digit(text, number % 10)
 }
 
 // Puts the last digits of a number, so many of them.
@@ -41,5 +41,13 @@ fn push_places(text: &mut Vec<u8>, number: u128, places: u32) -> Result<(), Allo
         return Ok(());
     }
     push_places(text, number / 10, places - 1)?;
-    text.push(b'0' + (number % 10) as u8)
+    push_digit(text, number % 10)
+}
+
+fn push_digit(text: &mut Vec<u8>, digit: u128) -> Result<(), AllocError>
+    requires { digit < 10 }
+    ensures { OnOk result (text.new.items ≡ text.old.items ++ (48 + digit) ∷ []) }
+{
+    text.push(b'0' + digit as u8)?;
+    Ok(())
 }
