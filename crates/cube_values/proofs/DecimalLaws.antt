@@ -84,3 +84,9 @@ decimal_steps (suc k) n h i =
 
 pub long_decimal_is_decimal : (n : ℕ) → n < 10 ^ 64 → long_decimal n ≡ decimal n
 long_decimal_is_decimal n h = decimal_steps (suc n) n (omega arith) h
+
+-- a text to which two pieces were put in turn
+pub joined_pieces : (old front last whole one both : List ℕ) → one ≡ old ++ front → both ≡ one ++ last
+    → front ++ last ≡ whole → both ≡ old ++ whole
+joined_pieces old front last whole one both e f g =
+    f ∙ ap (λ t. t ++ last) e ∙ append_assoc old front last ∙ ap (λ t. old ++ t) g

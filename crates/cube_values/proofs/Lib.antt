@@ -10,3 +10,4 @@ mod TableLaws
 mod WideLaws
 mod ReducedLaws
 pub mod DecimalLaws
+pub mod VarianceLaws

@@ -4,3 +4,4 @@ pub mod Summary
 pub mod Log
 pub mod Values
 pub mod Wide
+pub mod Variance

@@ -18,6 +18,7 @@ mod single;
 mod summary;
 mod table;
 mod trace;
+mod variance;
 mod wide;
 mod wide_text;
 
@@ -28,5 +29,6 @@ pub use numbers::Numbers;
 pub use repeats::is_repetitive;
 pub use single::Single;
 pub use summary::Summary;
+pub use variance::{variance_from, variance_of};
 pub use wide::{Wide, square_of};
 pub use wide_text::push_decimal;
