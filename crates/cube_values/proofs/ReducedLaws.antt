@@ -23,6 +23,7 @@ pub IsReduced-IsGcd : (n d g : ℕ) → 1 ≤ d → IsGcd n d g → IsReduced n 
 IsReduced-IsGcd n d g some h =
     let positive : 0 < g = pos_of_dvd_of_pos h.1 some in
     record {
+      some = omega arith;
       positive = pos_of_dvd_of_pos (subst (λ k. d / g ∣ k) (div-mul_cancel g h.1) (dvd-mul_right (d / g) g)) some;
       coprime = coprime_quotients n d g positive h;
       equal = omega (

@@ -3,8 +3,9 @@
 use Rattle.std.specs.Prelude.{◌≡◌, ℕ, suc, zero, ◌+◌, ◌*◌, ◌/◌, ◌%◌, ◌<◌, List, [], ◌∷◌, ◌++◌, nat_lt, if◌then◌else◌}
 use Rattle.std.specs.Int.{IsGcd}
 
--- p/q is the quotient of the two numbers, and p and q have no common divisor above 1
+-- p/q is the quotient of the two numbers, of which the second is not 0, and p and q have no common divisor above 1
 pub record IsReduced (numerator denominator p q : ℕ) : Type 0 where
+  pub some : 0 < denominator
   pub positive : 0 < q
   pub coprime : IsGcd p q 1
   pub equal : p * denominator ≡ numerator * q
