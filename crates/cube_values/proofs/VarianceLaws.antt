@@ -22,7 +22,7 @@ own_square z = square_by z (up z) (down z) (omega arith)
 
 gap_square : (x y : ℤ) →
     square (x -ℤ y) + 2 * ((up x + down y) * (down x + up y))
-        ≡ (up x + down y) * (up x + down y) + (down x + up y) * (down x + up y)
+    ≡ (up x + down y) * (up x + down y) + (down x + up y) * (down x + up y)
 gap_square x y = square_by (x -ℤ y) (up x + down y) (down x + up y) (omega (arith, ints))
 
 -- what the numbers of a list have above zero, and below
@@ -40,7 +40,7 @@ total_parts (x ∷ numbers) =
 -- one number beside one
 gap_of_one : (x y : ℤ) →
     square x + square y + 2 * (up x * down y) + 2 * (down x * up y)
-        ≡ 2 * (up x * up y) + 2 * (down x * down y) + square (x -ℤ y)
+    ≡ 2 * (up x * up y) + 2 * (down x * down y) + square (x -ℤ y)
 gap_of_one x y = omega (arith, gap_square x y, own_square x, own_square y)
 
 gaps_step : (n sx q u d p m sy uy dy gap g p' m' q' g' : ℕ) → p' ≡ uy + p → m' ≡ dy + m → q' ≡ sy + q → g' ≡ gap + g
@@ -53,7 +53,7 @@ gaps_step n sx q u d p m sy uy dy gap g p' m' q' g' p_is m_is q_is g_is one othe
 -- one number beside those of a list
 gaps_in_parts : (x : ℤ) (numbers : List ℤ) →
     length numbers * square x + squares_of numbers + 2 * (up x * downs numbers) + 2 * (down x * ups numbers)
-        ≡ 2 * (up x * ups numbers) + 2 * (down x * downs numbers) + gaps x numbers
+    ≡ 2 * (up x * ups numbers) + 2 * (down x * downs numbers) + gaps x numbers
 gaps_in_parts x [] = omega arith
 gaps_in_parts x (y ∷ numbers) =
     gaps_step (length numbers) (square x) (squares_of numbers) (up x) (down x) (ups numbers) (downs numbers)
@@ -70,7 +70,7 @@ spread_step n sx q u d p m g s p' m' q' p_is m_is q_is own one others = rw (p_is
 
 spread_in_parts : (numbers : List ℤ) →
     length numbers * squares_of numbers + 2 * (ups numbers * downs numbers)
-        ≡ ups numbers * ups numbers + downs numbers * downs numbers + spread numbers
+    ≡ ups numbers * ups numbers + downs numbers * downs numbers + spread numbers
 spread_in_parts [] = omega arith
 spread_in_parts (x ∷ numbers) =
     spread_step (length numbers) (square x) (squares_of numbers) (up x) (down x) (ups numbers) (downs numbers)
@@ -90,31 +90,31 @@ squares_and_spread numbers =
 -- ---- deviations
 deviation_square : (n : ℕ) (x z : ℤ) →
     square (pos n *ℤ x -ℤ z) + 2 * ((n * up x + down z) * (n * down x + up z))
-        ≡ (n * up x + down z) * (n * up x + down z) + (n * down x + up z) * (n * down x + up z)
+    ≡ (n * up x + down z) * (n * up x + down z) + (n * down x + up z) * (n * down x + up z)
 deviation_square n x z =
     square_by (pos n *ℤ x -ℤ z) (n * up x + down z) (n * down x + up z) (omega (arith, ints))
 
 deviation_of_one : (n : ℕ) (x z : ℤ) →
-    square (pos n *ℤ x -ℤ z) + 2 * (n * (up x * up z)) + 2 * (n * (down x * down z)) 
-        ≡ n * n * square x + 2 * (n * (up x * down z)) + 2 * (n * (down x * up z)) + square z
+    square (pos n *ℤ x -ℤ z) + 2 * (n * (up x * up z)) + 2 * (n * (down x * down z))
+    ≡ n * n * square x + 2 * (n * (up x * down z)) + 2 * (n * (down x * up z)) + square z
 deviation_of_one n x z =
     omega (arith, deviation_square n x z, ap (λ k. n * n * k) (own_square x), own_square z)
 
 deviations_step : (n uz dz z sx u d deviation p m q rest length p' m' q' rest' : ℕ) → p' ≡ u + p → m' ≡ d + m
     → q' ≡ sx + q → rest' ≡ deviation + rest
     → deviation + 2 * (n * (u * uz)) + 2 * (n * (d * dz))
-        ≡ n * n * sx + 2 * (n * (u * dz)) + 2 * (n * (d * uz)) + z
+    ≡ n * n * sx + 2 * (n * (u * dz)) + 2 * (n * (d * uz)) + z
     → rest + 2 * (n * (p * uz)) + 2 * (n * (m * dz))
-        ≡ n * n * q + 2 * (n * (p * dz)) + 2 * (n * (m * uz)) + length * z
+    ≡ n * n * q + 2 * (n * (p * dz)) + 2 * (n * (m * uz)) + length * z
     → rest' + 2 * (n * (p' * uz)) + 2 * (n * (m' * dz))
-        ≡ n * n * q' + 2 * (n * (p' * dz)) + 2 * (n * (m' * uz)) + suc length * z
+    ≡ n * n * q' + 2 * (n * (p' * dz)) + 2 * (n * (m' * uz)) + suc length * z
 deviations_step n uz dz z sx u d deviation p m q rest length p' m' q' rest' p_is m_is q_is rest_is one others =
     rw (p_is, m_is, q_is, rest_is) (omega arith)
 
 deviations_in_parts : (n : ℕ) (z : ℤ) (numbers : List ℤ) →
     sum_by (λ x. square (pos n *ℤ x -ℤ z)) numbers + 2 * (n * (ups numbers * up z)) + 2 * (n * (downs numbers * down z))
-        ≡ n * n * squares_of numbers + 2 * (n * (ups numbers * down z)) + 2 * (n * (downs numbers * up z))
-        + length numbers * square z
+    ≡ n * n * squares_of numbers + 2 * (n * (ups numbers * down z)) + 2 * (n * (downs numbers * up z))
+    + length numbers * square z
 deviations_in_parts n z [] = omega arith
 deviations_in_parts n z (x ∷ numbers) =
     let f : ℤ → ℕ = λ y. square (pos n *ℤ y -ℤ z) in
@@ -126,7 +126,7 @@ deviations_in_parts n z (x ∷ numbers) =
 deviations_from_parts : (n up_z down_z p m z q d : ℕ) → z + 2 * (up_z * down_z) ≡ up_z * up_z + down_z * down_z
     → up_z + m ≡ down_z + p
     → d + 2 * (n * (p * up_z)) + 2 * (n * (m * down_z))
-        ≡ n * n * q + 2 * (n * (p * down_z)) + 2 * (n * (m * up_z)) + n * z
+    ≡ n * n * q + 2 * (n * (p * down_z)) + 2 * (n * (m * up_z)) + n * z
     → d + n * z ≡ n * (n * q)
 deviations_from_parts n u v p m z q d square balance e =
     omega (
@@ -139,7 +139,7 @@ deviations_from_parts n u v p m z q d square balance e =
 -- the deviations, from the sum and the sum of the squares
 pub deviations_and_square : (numbers : List ℤ) →
     deviations_of numbers + length numbers * square (total_of numbers)
-        ≡ length numbers * (length numbers * squares_of numbers)
+    ≡ length numbers * (length numbers * squares_of numbers)
 deviations_and_square numbers =
     let n : ℕ = length numbers in
     let z : ℤ = total_of numbers in
@@ -218,19 +218,19 @@ more_times (suc n) f h = omega (arith, h)
 -- the fraction of the sums is the variance
 pub IsVariance-sums : (numbers : List ℤ) (is_sample : Bool) (p q : ℕ)
     → IsReduced (length numbers * squares_of numbers - square (total_of numbers))
-        (length numbers * freedom_of is_sample (length numbers)) p q
+    (length numbers * freedom_of is_sample (length numbers)) p q
     → IsVariance numbers is_sample p q
 IsVariance-sums numbers is_sample p q h =
     let n : ℕ = length numbers in
     let f : ℕ = freedom_of is_sample n in
     record {
       fraction = record {
-          some = more_times n f h.some;
-          positive = h.positive;
-          coprime = h.coprime;
-          equal = equal_times n f p q (spread numbers) (deviations_of numbers)
-          (h.equal ∙ ap (λ s. s * q) (spread_is numbers)) (deviations_are_spread numbers);
-        };
+        some = more_times n f h.some;
+        positive = h.positive;
+        coprime = h.coprime;
+        equal = equal_times n f p q (spread numbers) (deviations_of numbers)
+            (h.equal ∙ ap (λ s. s * q) (spread_is numbers)) (deviations_are_spread numbers);
+      };
     }
 
 -- it is 0 exactly where all numbers are equal
@@ -238,8 +238,7 @@ pub variance_zero : (numbers : List ℤ) (m p q : ℕ)
     → IsReduced (length numbers * squares_of numbers - square (total_of numbers)) m p q
     → (p ≡ 0) ↔ AreEqual numbers
 variance_zero numbers m p q h =
-    let e : p * m ≡ spread numbers * q = h.equal ∙ ap (λ s. s * q) (spread_is numbers) in
-    (
+    let e : p * m ≡ spread numbers * q = h.equal ∙ ap (λ s. s * q) (spread_is numbers) in (
       λ none. equal_from_spread numbers (zero_from (spread numbers) q p m h.positive (sym e) none),
       λ equal. zero_from p m (spread numbers) q h.some e (spread_of_equal numbers equal),
     )

@@ -41,7 +41,11 @@ pub fn variance_from(count: u64, sum: i128, squares: Wide, is_sample: bool) -> O
 fn freedom_of(count: u64, is_sample: bool) -> u64
     ensures { result ≡ freedom_of is_sample count }
 {
-    if is_sample { count.saturating_sub(1) } else { count }
+    if is_sample {
+        count.saturating_sub(1)
+    } else {
+        count
+    }
 }
 
 fn spread_of(count: u64, sum: i128, squares: Wide) -> Wide

@@ -28,8 +28,8 @@ impl Model for Wide {
     ghost use Rattle.std.proofs.lemmas.Nat.{div-mul-add, mod-mul-add};
 
     ghost inverse_ok = { λ w h i. record {
-        high = div-mul-add w.high (2 ^ 128) w.low h i;
-        low = mod-mul-add w.high (2 ^ 128) w.low h i;
+      high = div-mul-add w.high (2 ^ 128) w.low h i;
+      low = mod-mul-add w.high (2 ^ 128) w.low h i;
     } };
 }
 
@@ -200,5 +200,9 @@ fn divide_bit(rest: u128, bit: u128, divisor: u128) -> (u128, u128)
     ensures digit { result.0 ≤ 1 }
 {
     let (more, gap) = (rest + bit, divisor - rest);
-    if more >= gap { (1, more - gap) } else { (0, more + rest) }
+    if more >= gap {
+        (1, more - gap)
+    } else {
+        (0, more + rest)
+    }
 }

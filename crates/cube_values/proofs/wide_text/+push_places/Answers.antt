@@ -9,9 +9,9 @@ pub returns-then-places-eq0 : goal.returns-then-places-eq0
 returns-then-places-eq0 t c =
     let old = c.args.text.now.items in
     sym (
-      ap (λ k. old ++ last_digits k c.args.number) c.if-places-eq0.true
-      ∙ ap (λ digits. old ++ digits) (last_digits_none c.args.number)
-      ∙ append-nil old
+    ap (λ k. old ++ last_digits k c.args.number) c.if-places-eq0.true
+    ∙ ap (λ digits. old ++ digits) (last_digits_none c.args.number)
+    ∙ append-nil old
     )
 
 pub returns : goal.returns
