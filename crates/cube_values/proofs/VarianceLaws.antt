@@ -194,10 +194,6 @@ spread_of_equal [] h = refl
 spread_of_equal (x ∷ numbers) h =
     omega (arith, gaps_of_same x numbers h, spread_of_equal numbers (equal_from_same x numbers h))
 
--- n times the sum of the squares, less the square of the sum, is 0 exactly where all numbers are equal
-pub spread_zero : (numbers : List ℤ) → (spread numbers ≡ 0) ↔ AreEqual numbers
-spread_zero numbers = (equal_from_spread numbers, spread_of_equal numbers)
-
 -- ---- the fraction
 zero_from : (p m s q : ℕ) → 0 < m → p * m ≡ s * q → s ≡ 0 → p ≡ 0
 zero_from zero m s q some e none = refl
