@@ -7,3 +7,7 @@ pub mod GrownLaws
 mod LogLaws
 mod OwedLaws
 mod TableLaws
+mod WideLaws
+mod ReducedLaws
+pub mod DecimalLaws
+pub mod VarianceLaws

@@ -3,3 +3,5 @@ pub mod Narrow
 pub mod Summary
 pub mod Log
 pub mod Values
+pub mod Wide
+pub mod Variance

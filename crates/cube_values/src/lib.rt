@@ -8,6 +8,7 @@
 
 mod counted;
 mod counted_numbers;
+mod fraction;
 mod log;
 mod narrow;
 mod numbers;
@@ -17,10 +18,17 @@ mod single;
 mod summary;
 mod table;
 mod trace;
+mod variance;
+mod wide;
+mod wide_text;
 
 pub use counted::Counted;
+pub use fraction::reduced;
 pub use narrow::Narrow;
 pub use numbers::Numbers;
 pub use repeats::is_repetitive;
 pub use single::Single;
 pub use summary::Summary;
+pub use variance::{variance_from, variance_of};
+pub use wide::{Wide, square_of};
+pub use wide_text::push_decimal;
