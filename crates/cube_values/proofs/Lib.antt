@@ -7,3 +7,4 @@ pub mod GrownLaws
 mod LogLaws
 mod OwedLaws
 mod TableLaws
+pub mod StatisticsLaws

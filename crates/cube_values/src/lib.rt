@@ -8,6 +8,7 @@
 
 mod counted;
 mod counted_numbers;
+pub mod laws;
 mod log;
 mod narrow;
 mod numbers;
@@ -17,6 +18,7 @@ mod single;
 mod summary;
 mod table;
 mod trace;
+mod up_to;
 
 pub use counted::Counted;
 pub use narrow::Narrow;
