@@ -1,6 +1,6 @@
 -- Laws of the statistics of a bag: of how many numbers are below one, of the number at a place, of the numbers in order.
 use Rattle.std.proofs.Common.{◌≡◌, ℕ, suc, zero, ◌+◌, ◌-◌, ◌*◌, ◌<◌, ◌≤◌, List, [], ◌∷◌, refl, arith, ap, sym, ◌∙◌}
-use Rattle.std.proofs.Common.{length, get_or, drop, true, false, cond, subst}
+use Rattle.std.proofs.Common.{◌^◌, length, get_or, drop, true, false, cond, subst, to_z, of_z}
 use Rattle.std.specs.Prelude.{ℤ, pos, ◌+ℤ◌, ◌-ℤ◌, ◌<ℤ◌, ◌≤ℤ◌, ◌↔◌, All, nat_lt, filter}
 use Rattle.std.specs.Int.{w64}
 use Rattle.std.specs.Int.RustNames.{FitsSigned, unsigned_abs}
@@ -8,7 +8,7 @@ use Rattle.std.specs.List.{AllPairs}
 use Rattle.std.specs.Map.{keys_of}
 use Rattle.std.specs.Ordering.{int_eq}
 use Rattle.std.proofs.Math.Nat.{add-mul}
-use Rattle.std.proofs.lemmas.Int.{ints, by_lt_z}
+use Rattle.std.proofs.lemmas.Int.{ints, by_lt_z, to_z-of_z, to_z_pos}
 use Rattle.std.proofs.lemmas.List.{length-map, at_drop_more}
 use Rattle.std.proofs.lemmas.List.Elements.{All-cons, All-head, All-tail, All-weaker, filter_passes}
 use Rattle.std.proofs.lemmas.List.Kept.{AllPairs-filter}
@@ -206,6 +206,33 @@ IsSpanOf-upper bag k low middle next width half rest span is next_is width_is mo
       up_to = subst (λ (v : ℤ). k ≤ size_up_to bag v) end span.up_to;
       fits = subst (FitsSigned w64) end span.fits;
     }
+
+-- a number between two of 64 bits is one
+pub FitsSigned-between : (low : ℤ) (width half : ℕ) → FitsSigned w64 low → FitsSigned w64 (low +ℤ pos width)
+    → half ≤ width → FitsSigned w64 (low +ℤ pos half)
+FitsSigned-between low width half first last le = grind (arith, ints, first, last, le)
+
+pub FitsSigned-next : (low : ℤ) (width half : ℕ) → FitsSigned w64 low → FitsSigned w64 (low +ℤ pos width)
+    → half < width → FitsSigned w64 (low +ℤ pos half +ℤ pos 1)
+FitsSigned-next low width half first last less =
+    let next : low +ℤ pos (half + 1) ≡ low +ℤ pos half +ℤ pos 1 = omega (arith, ints) in
+    subst (FitsSigned w64) next (FitsSigned-between low width (half + 1) first last (omega (arith, less)))
+
+-- the middle of a span, and the number after it, as they are computed
+pub middle_is : (low : ℤ) (half : ℕ) → FitsSigned w64 low → half < 2 ^ 63 → FitsSigned w64 (low +ℤ pos half)
+    → to_z w64 (of_z w64 (to_z w64 (of_z w64 low) +ℤ to_z w64 half)) ≡ low +ℤ pos half
+middle_is low half low_fits half_fits fits =
+    ap (λ (z : ℤ). to_z w64 (of_z w64 (z +ℤ to_z w64 half))) (to_z-of_z w64 low low_fits)
+    ∙ ap (λ (z : ℤ). to_z w64 (of_z w64 (low +ℤ z))) (to_z_pos w64 half half_fits)
+    ∙ to_z-of_z w64 (low +ℤ pos half) fits
+
+pub next_is : (low : ℤ) (half : ℕ) → FitsSigned w64 low → half < 2 ^ 63 → FitsSigned w64 (low +ℤ pos half)
+    → FitsSigned w64 (low +ℤ pos half +ℤ pos 1)
+    → to_z w64 (of_z w64 (to_z w64 (of_z w64 (to_z w64 (of_z w64 low) +ℤ to_z w64 half)) +ℤ pos 1))
+    ≡ low +ℤ pos half +ℤ pos 1
+next_is low half low_fits half_fits fits next_fits =
+    ap (λ (z : ℤ). to_z w64 (of_z w64 (z +ℤ pos 1))) (middle_is low half low_fits half_fits fits)
+    ∙ to_z-of_z w64 (low +ℤ pos half +ℤ pos 1) next_fits
 
 -- one number is left
 pub IsSpanOf-IsAtPlace : (bag : Bag) (k : ℕ) (low : ℤ) (width : ℕ) → IsSpanOf bag k low width → width ≤ 0

@@ -14,6 +14,7 @@ impl Counted {
     pub fn in_order(&self) -> Result<Vec<(i64, u64)>, AllocError>
         ensures { IfOk result (λ pairs. AreInOrder self.now pairs.items) }
     {
+        let _len = self.len;
         in_order(self.alloc, &self.values)
     }
 
@@ -21,7 +22,7 @@ impl Counted {
     pub fn different(&self) -> Result<u64, AllocError>
         ensures { IfOk result (HasDifferent self.now) }
     {
-        let pairs = in_order(self.alloc, &self.values)?;
+        let pairs = self.in_order()?;
         Ok(pairs.len() as u64)
     }
 
@@ -35,6 +36,7 @@ impl Counted {
         let (Some(least), Some(greatest)) = (self.least(), self.greatest()) else {
             return 0;
         };
+        let _len = self.len;
         at_place(&self.values, place, span_of(least, greatest))
     }
 }

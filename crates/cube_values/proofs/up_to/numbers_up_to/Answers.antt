@@ -10,7 +10,7 @@ pub loop-number-preserved : goal.loop-number-preserved
 loop-number-preserved c =
     let fits : FitsSigned w64 c.args.value = c.ranges.value in
     let number : ℤ = get_or c.args.numbers.now c.loop-number.number-index (pos 0) in
-    let part : c.pair_up_to.result ≡ one_up_to c.args.value number * 1 = search (rules, to_z-of_z) in
+    let part : c.pair_up_to-count.result ≡ one_up_to c.args.value number * 1 = search (rules, to_z-of_z) in
     let kept = simp to_z-of_z at c.loop-number.invariant.1 in
     rw (to_z-of_z w64 c.args.value fits) (
       omega (arith, c.loop-number.invariant.0, part, one_up_to-size c.args.value number),

@@ -11,7 +11,7 @@ pub overflow_add-count : goal.overflow_add-count
 overflow_add-count c =
     let fits : FitsSigned w64 c.args.value = c.ranges.value in
     let kept = simp to_z-of_z at c.loop-pair.invariant in
-    let part = simp to_z-of_z at c.pair_up_to.ensures in
+    let part = simp to_z-of_z at c.pair_up_to-count.ensures in
     omega (
       arith,
       kept,
