@@ -1,6 +1,7 @@
 """Scripts of calls of the library for crates/cube_calls, with their answers by programs of another kind: sorted lists for multisets, and
 scripts/oracle.py for cubes and builders."""
 import bisect
+import collections
 
 import oracle
 
@@ -77,6 +78,15 @@ class Multiset(Calls):
         it = self.values
         self.call("show", f"{len(it)} from {it[0]} to {it[-1]}" if it else "0, empty")
 
+    def statistics(self):
+        """Asks for the numbers in order, how many are different, and those at the first, the last and two places between."""
+        counts = collections.Counter(self.values)
+        self.call("in_order", " ".join(f"{it}*{counts[it]}" for it in sorted(counts)))
+        self.call("different", f"{len(counts)}")
+        many = len(self.values)
+        for place in sorted({1, many // 3, (many + 1) // 2, many} if many > 2 else range(1, many + 1)):
+            self.call(f"at_place {place}", f"{self.values[place - 1]}")
+
     def shrink(self):
         """Has it give back the room to spare."""
         self.call("shrink")
@@ -103,6 +113,7 @@ def merged(form, other):
     made.form(form)
     made.merge()
     made.show()
+    made.statistics()
     made.add(MANY // 2)
     made.remove(MANY // 3)
     made.show()

@@ -64,7 +64,8 @@ def backwards(values):
 def step_of(rng):
     """A step of a multiset: a call by its name, and the number that it takes, or none."""
     value = rng.choice([rng.randint(0, MANY), rng.randint(-5, 5), oracle.LEAST, oracle.GREATEST, 1 << 40])
-    return rng.choice([("add", value), ("add", value), ("remove", value), ("holds", value), ("show",), ("shrink",), ("swap",), ("merge",)])
+    return rng.choice([("add", value), ("add", value), ("remove", value), ("holds", value), ("show",), ("statistics",), ("shrink",), ("swap",),
+                       ("merge",)])
 
 
 def go_on(made, rng):
@@ -117,6 +118,7 @@ def test_numbers(room, rng, form, what):
     made = Multiset(form)
     go_on(made, rng)
     what(made)
+    made.statistics()
     go_on(made, rng)
     made.drain(rng.choice([list, backwards]))
     made.see(room)
@@ -158,6 +160,8 @@ def test_a_long_run(room, rng):
         else:
             made.add(value)
         made.show()
+        if step % 1000 == 0:
+            made.statistics()
     made.see(room)
 
 

@@ -1,5 +1,5 @@
-//! Calls of two multisets: `add N`, `remove N`, `holds N`, `shrink`, `show`, `merge` (adds the other's numbers) and
-//! `swap` (the other is asked from then on).
+//! Calls of two multisets: `add N`, `remove N`, `holds N`, `shrink`, `show`, `in_order`, `different`, `at_place N`, `merge`
+//! (adds the other's numbers) and `swap` (the other is asked from then on).
 use crate::script::{Printout, words_of};
 use anyhow::{Result, bail, ensure};
 use cube_cells::Counted;
@@ -29,6 +29,7 @@ fn obey_all(
 fn obey(values: &mut Counted, other: &mut Counted, call: &str, out: &mut Printout) -> Result<()> {
     match words_of(call) {
         (verb, "") => obey_verb(values, other, verb, out),
+        ("at_place", place) => answer_at_place(values, place.parse()?, out),
         (verb, value) => obey_with(values, verb, value.parse()?, out),
     }
 }
@@ -54,6 +55,8 @@ fn obey_verb(
     match verb {
         "shrink" => values.shrink_to_fit(),
         "show" => show(values, out)?,
+        "in_order" => show_in_order(values, out)?,
+        "different" => out.answer(values.different()?)?,
         "merge" => merge(values, other)?,
         "swap" => swap(values, other),
         _ => bail!("no call of a multiset"),
@@ -96,4 +99,23 @@ fn show(values: &Counted, out: &mut Printout) -> Result<(), AllocError> {
         write!(out.text, " to {greatest}")?;
     }
     out.answer(if values.is_empty() { ", empty" } else { "" })
+}
+
+// A line with the numbers in order, each with how often it is held, as `-2*1 5*3`.
+fn show_in_order(values: &Counted, out: &mut Printout) -> Result<(), AllocError> {
+    let pairs = values.in_order()?;
+    for place in 0..pairs.len() {
+        let (number, times) = pairs[place];
+        let space = if place > 0 { " " } else { "" };
+        write!(out.text, "{space}{number}*{times}")?;
+    }
+    out.answer("")
+}
+
+// A line with the number at a place, which there is.
+fn answer_at_place(values: &Counted, place: u64, out: &mut Printout) -> Result<()> {
+    ensure!(1 <= place, "no such place");
+    ensure!(place <= values.len(), "no such place");
+    out.answer(values.at_place(place))?;
+    Ok(())
 }

@@ -11,3 +11,4 @@ mod WideLaws
 mod ReducedLaws
 pub mod DecimalLaws
 pub mod VarianceLaws
+pub mod StatisticsLaws

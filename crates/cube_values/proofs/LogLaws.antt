@@ -119,7 +119,7 @@ held_of-only_pair bag v i e within is of others =
       none = omega (arith, sum_by-le (part (one_at v)) 0 (set bag i (e.0, 0)) each)
 
 -- a pair before one of the same number counts nothing
-IsOrdered-count_before : (bag : Bag) → IsOrdered bag → (k p : ℕ) (d : ℤ × ℕ) → k < p → p < length bag
+pub IsOrdered-count_before : (bag : Bag) → IsOrdered bag → (k p : ℕ) (d : ℤ × ℕ) → k < p → p < length bag
     → (get_or bag k d).0 ≡ (get_or bag p d).0 → (get_or bag k d).1 ≡ 0
 IsOrdered-count_before bag ordered k p d before within same =
     let up : (get_or bag k d).0 ≤ℤ (get_or bag (k + 1) d).0 = ordered.rises k (k + 1) d (omega arith) (omega arith) in

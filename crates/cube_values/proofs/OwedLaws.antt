@@ -8,12 +8,14 @@ use Rattle.std.proofs.lemmas.Int.{ints}
 use Rattle.std.specs.Ordering.{int_eq}
 use Rattle.std.proofs.lemmas.List.{drop_all, take_all, take-append-le}
 use Rattle.std.proofs.lemmas.List.Sums.{sum_by-append, sum_by-cons, sum_by_push, sum_by-drop_more}
-use Rattle.cube_values.specs.Bag.{Bag, one_at, held_of, size_of, SameHeld, AddsBag, AddsTimes, AddsOne, HasEnds}
-use Rattle.cube_values.specs.Narrow.{times_in}
+use Rattle.cube_values.specs.Bag.{Bag, weight_of, one_at, held_of, size_of, SameHeld, AddsBag, AddsTimes, AddsOne}
+use Rattle.cube_values.specs.Bag.{HasEnds}
+use Rattle.cube_values.specs.Narrow.{times_in, once_each}
 use Rattle.cube_values.specs.Log.{without_one, without, Covers, TakesAll, Owes, IsOrdered, IsSettled}
 use Rattle.cube_values.proofs.LogLaws.{int_eq-distinct}
 use Rattle.cube_values.proofs.BagLaws.{part, weight_of-cons, one_at-refl, one_at-distinct, int_eq-same, size_of_same}
-use Rattle.cube_values.proofs.BagLaws.{size_of_one}
+use Rattle.cube_values.proofs.BagLaws.{size_of_one, weight_of-bag}
+use Rattle.cube_values.proofs.NarrowLaws.{held_of-once_each}
 
 -- how often a number is held in a bag without one v
 held_of-without_one : (v : ℤ) (bag : Bag) (x : ℤ) → held_of (without_one v bag) x ≡ held_of bag x - one_at x v
@@ -323,3 +325,15 @@ SameHeld-both a b c first second = record { held = λ x. omega (arith, first.hel
 
 pub AddsBag-SameHeld : (old new a b : Bag) → SameHeld a b → AddsBag old new b → AddsBag old new a
 AddsBag-SameHeld old new a b same adds = record { held = λ x. omega (arith, same.held x, adds.held x) }
+
+-- ---- what is owed is beside what is left
+pub AddsBag-owed : (owed : List ℤ) (bag : Bag) → Covers bag owed → AddsBag (without owed bag) bag (once_each owed)
+AddsBag-owed owed bag covers = record {
+  held = λ x. omega (arith, held_of-without owed bag x, held_of-once_each owed x, covers.times x);
+}
+
+-- so each weight of the pairs is that of both
+pub weight_of-owed : (f : ℤ → ℕ) (owed : List ℤ) (bag : Bag) → Covers bag owed
+    → weight_of f bag ≡ weight_of f (without owed bag) + weight_of f (once_each owed)
+weight_of-owed f owed bag covers =
+    weight_of-bag f (without owed bag) bag (once_each owed) (AddsBag-owed owed bag covers)

@@ -5,3 +5,4 @@ pub mod Log
 pub mod Values
 pub mod Wide
 pub mod Variance
+pub mod Statistics

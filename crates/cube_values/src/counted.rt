@@ -5,6 +5,8 @@ ghost use Rattle.cube_values.specs.Bag.{Bag, AddsBag, AddsOne, AddsTimes, SameHe
 ghost use Rattle.cube_values.specs.Narrow.{once_each};
 ghost use Rattle.cube_values.specs.Values.{bag_of, bag_left};
 
+mod statistics;
+
 use crate::log::Log;
 use crate::narrow::Narrow;
 use crate::short::{FEW, Short};

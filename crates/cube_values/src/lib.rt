@@ -1,6 +1,7 @@
 //! Numbers that are kept: the multiset that clauses speak of, and the forms that keep one.
 //!
-//! [`Counted`] is a multiset of numbers, which makes the least and the greatest value right under deletes. It takes one of
+//! [`Counted`] is a multiset of numbers, which makes the least and the greatest value right under deletes, and whose
+//! statistics are exact: its numbers in order, how many are different, and which stands at a place. It takes one of
 //! several forms, two of which are [`Single`], one number however often, and [`Narrow`], a list of numbers of 32 bits.
 //! [`Summary`] keeps how many there are, the least and the greatest, where no number is taken away; [`Numbers`] is what is
 //! asked of either.
@@ -9,6 +10,7 @@
 mod counted;
 mod counted_numbers;
 mod fraction;
+pub mod laws;
 mod log;
 mod narrow;
 mod numbers;
@@ -18,6 +20,7 @@ mod single;
 mod summary;
 mod table;
 mod trace;
+mod up_to;
 mod variance;
 mod wide;
 mod wide_text;

@@ -6,9 +6,11 @@ ghost use Rattle.std.specs.List.{HoldsAt, AllWithin};
 ghost use Rattle.cube_values.specs.Bag.{Bag, AddsBag, AddsOne, AddsTimes, SameHeld, held_of, size_of, HasLeast, HasGreatest, HasEnds};
 ghost use Rattle.cube_values.specs.Log.{Rises, IsJoined, IsOrdered, IsLastOf, IsCut, without, Covers, TakesAll};
 ghost use Rattle.cube_values.specs.Narrow.{times_in, once_each};
+ghost use Rattle.cube_values.specs.Statistics.{AreInOrder, size_up_to};
 
 use crate::repeats::is_repetitive;
 use crate::short::{greatest_number, least_number};
+use crate::up_to::{numbers_up_to, pairs_up_to};
 use std::alloc::{AllocError, Global};
 use std::marker::Model;
 
@@ -152,11 +154,30 @@ impl Log {
     /// A copy of the numbers, each with how often it is held, in order and without what is owed.
     pub fn settled(&self, alloc: Global) -> Result<Vec<(i64, u64)>, AllocError>
         requires { size_of self.now < 2 ^ 64 }
-        ensures { IfOk result (λ pairs. SameHeld self.now pairs.items) }
+        ensures same { IfOk result (λ pairs. SameHeld self.now pairs.items) }
+        ensures ordered { IfOk result (λ pairs. IsOrdered pairs.items) }
     {
         let mut pairs = Vec::from_slice(alloc, &self.pairs)?;
         pay(&mut pairs, &self.taken);
         Ok(pairs)
+    }
+
+    /// The numbers in order, each with how often it is held.
+    pub fn in_order(&self, alloc: Global) -> Result<Vec<(i64, u64)>, AllocError>
+        requires { size_of self.now < 2 ^ 64 }
+        ensures { IfOk result (λ pairs. AreInOrder self.now pairs.items) }
+    {
+        let mut pairs = self.settled(alloc)?;
+        drop_uncounted(&mut pairs);
+        Ok(pairs)
+    }
+
+    /// How many numbers are at most `value`; it looks at each pair, and at each number that is owed.
+    pub fn up_to(&self, value: i64) -> u64
+        requires { size_of self.now < 2 ^ 64 }
+        ensures { result ≡ size_up_to self.now value }
+    {
+        pairs_up_to(&self.pairs, value) - numbers_up_to(&self.taken, value)
     }
 
     /// Adds `value` `times` times, and answers whether it did: not where the pairs are in order, nor where a table of
@@ -319,8 +340,8 @@ impl Log {
     }
 }
 
-// The pairs of numbers that are each held once, with room for more.
-fn pairs_of(alloc: Global, numbers: &[i32]) -> Result<Vec<(i64, u64)>, AllocError>
+/// The pairs of numbers that are each held once, with room for more.
+pub fn pairs_of(alloc: Global, numbers: &[i32]) -> Result<Vec<(i64, u64)>, AllocError>
     ensures { IfOk result (λ pairs. pairs.items ≡ once_each numbers.now) }
 {
     let mut pairs = Vec::with_capacity(alloc, numbers.len().saturating_add(ROOM))?;
@@ -508,9 +529,20 @@ fn ends_in_order(pairs: &[(i64, u64)]) -> Option<Ends>
 }
 
 fn drop_uncounted(pairs: &mut Vec<(i64, u64)>)
-    ensures { SameHeld pairs.old.items pairs.new.items }
+    ensures same { SameHeld pairs.old.items pairs.new.items }
+    ensures ordered { IsOrdered pairs.old.items → AreInOrder pairs.old.items pairs.new.items }
 {
     pairs.retain(|pair| pair.1 > 0);
+}
+
+/// The numbers of pairs in order, each with how often it is held.
+pub fn put_in_order(mut pairs: Vec<(i64, u64)>) -> Vec<(i64, u64)>
+    requires { size_of pairs.items < 2 ^ 64 }
+    ensures { AreInOrder pairs.items result.items }
+{
+    bring_in_order(&mut pairs);
+    drop_uncounted(&mut pairs);
+    pairs
 }
 
 // Sorts the pairs by number, and counts each number in the last of its pairs.

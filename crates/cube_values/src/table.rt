@@ -7,7 +7,9 @@ ghost use Rattle.std.specs.List.Sorted.{IsPermutation};
 ghost use Rattle.std.specs.Ordering.{int_cmp, int_eq};
 ghost use Rattle.cube_values.specs.Bag.{Bag, AddsOne, AddsTimes, SameHeld, held_of, size_of, HasLeast, HasGreatest};
 ghost use Rattle.cube_values.specs.Narrow.{once_each};
+ghost use Rattle.cube_values.specs.Statistics.{size_up_to};
 
+use crate::up_to::pair_up_to;
 use std::alloc::{AllocError, Global};
 use std::collections::BTreeMap;
 use std::marker::Model;
@@ -80,6 +82,21 @@ impl Table {
         &self.counts
     }
 
+    /// A copy of the numbers, each with how often it is held.
+    pub fn pairs(&self, alloc: Global) -> Result<Vec<(i64, u64)>, AllocError>
+        ensures { IfOk result (λ pairs. pairs.items ≡ self.now) }
+    {
+        pairs_of(alloc, &self.counts)
+    }
+
+    /// How many numbers are at most `value`; it looks at each.
+    pub fn up_to(&self, value: i64) -> u64
+        requires { size_of self.now < 2 ^ 64 }
+        ensures { result ≡ size_up_to self.now value }
+    {
+        entries_up_to(&self.counts, value)
+    }
+
     /// Adds `value` `times` times.
     #[tactic(auto, using(crate::proofs::BagLaws::count_found, crate::proofs::BagLaws::adds_found, crate::proofs::BagLaws::adds_entry, crate::proofs::BagLaws::some_put, crate::proofs::BagLaws::some_set))]
     pub fn add(&mut self, value: i64, times: u64) -> Result<(), AllocError>
@@ -139,6 +156,29 @@ impl Table {
     {
         greatest_number(&self.counts)
     }
+}
+
+// The entries as pairs.
+fn pairs_of(alloc: Global, counts: &BTreeMap<i64, u64>) -> Result<Vec<(i64, u64)>, AllocError>
+    ensures { IfOk result (λ pairs. pairs.items ≡ counts.now.entries) }
+{
+    let mut pairs = Vec::with_capacity(alloc, counts.len())?;
+    for (number, count) in counts {
+        pairs.push((*number, *count))?;
+    }
+    Ok(pairs)
+}
+
+// How many numbers of entries are at most `value`.
+fn entries_up_to(counts: &BTreeMap<i64, u64>, value: i64) -> u64
+    requires { size_of counts.now.entries < 2 ^ 64 }
+    ensures { result ≡ size_up_to counts.now.entries value }
+{
+    let mut total = 0;
+    for (number, count) in counts {
+        total += pair_up_to((*number, *count), value);
+    }
+    total
 }
 
 // Sets the count of a number that is there.

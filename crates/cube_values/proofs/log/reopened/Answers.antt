@@ -7,4 +7,4 @@ returns-clause-ends c =
     let ends : HasEnds c.args.pairs.now.items c.in_ok-ends.ends.least c.in_ok-ends.ends.greatest =
     rw c.deref.ensures.value at c.in_ok-ends.ensures in
     HasEnds-SameHeld c.args.pairs.now.items c.drop_uncounted.new.pairs.items c.in_ok-ends.ends.least
-    c.in_ok-ends.ends.greatest c.drop_uncounted.ensures ends
+    c.in_ok-ends.ends.greatest c.drop_uncounted.ensures.same ends

@@ -1,0 +1,46 @@
+//! How many numbers are at most a value.
+ghost use Rattle.std.specs.Prelude.{◌≡◌, ◌<◌, ◌*◌, ◌^◌};
+ghost use Rattle.cube_values.specs.Bag.{size_of};
+ghost use Rattle.cube_values.specs.Narrow.{once_each};
+ghost use Rattle.cube_values.specs.Statistics.{one_up_to, size_up_to};
+
+/// How often the number of a pair is held where it is at most `value`, and else 0.
+pub fn pair_up_to(pair: (i64, u64), value: i64) -> u64
+    ensures { result ≡ one_up_to value pair.0 * pair.1 }
+{
+    if pair.0 <= value { pair.1 } else { 0 }
+}
+
+/// How many numbers of pairs are at most `value`.
+pub fn pairs_up_to(pairs: &[(i64, u64)], value: i64) -> u64
+    requires { size_of pairs.now < 2 ^ 64 }
+    ensures { result ≡ size_up_to pairs.now value }
+{
+    let mut count = 0;
+    for pair in pairs {
+        count += pair_up_to(*pair, value);
+    }
+    count
+}
+
+/// How many numbers of a list are at most `value`.
+pub fn numbers_up_to(numbers: &[i64], value: i64) -> u64
+    ensures { result ≡ size_up_to (once_each numbers.now) value }
+{
+    let mut count = 0;
+    for number in numbers {
+        count += pair_up_to((*number, 1), value);
+    }
+    count
+}
+
+/// How many numbers of a list of 32 bits are at most `value`.
+pub fn narrow_up_to(numbers: &[i32], value: i64) -> u64
+    ensures { result ≡ size_up_to (once_each numbers.now) value }
+{
+    let mut count = 0;
+    for number in numbers {
+        count += pair_up_to((i64::from(*number), 1), value);
+    }
+    count
+}
