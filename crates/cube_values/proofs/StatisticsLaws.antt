@@ -1,7 +1,7 @@
 -- Laws of the statistics of a bag: of how many numbers are below one, of the number at a place, of the numbers in order.
 use Rattle.std.proofs.Common.{◌≡◌, ℕ, suc, zero, ◌+◌, ◌-◌, ◌*◌, ◌<◌, ◌≤◌, List, [], ◌∷◌, refl, arith, ap, sym, ◌∙◌}
 use Rattle.std.proofs.Common.{◌^◌, length, get_or, drop, true, false, cond, subst, to_z, of_z}
-use Rattle.std.specs.Prelude.{ℤ, pos, ◌+ℤ◌, ◌-ℤ◌, ◌<ℤ◌, ◌≤ℤ◌, ◌↔◌, All, nat_lt, filter}
+use Rattle.std.specs.Prelude.{ℤ, pos, ◌+ℤ◌, ◌-ℤ◌, ◌<ℤ◌, ◌≤ℤ◌, All, nat_lt, filter}
 use Rattle.std.specs.Int.{w64}
 use Rattle.std.specs.Int.RustNames.{FitsSigned, unsigned_abs}
 use Rattle.std.specs.List.{AllPairs}
@@ -17,9 +17,9 @@ use Rattle.cube_values.specs.Bag.{Bag, weight_of, one_at, held_of, size_of, Same
 use Rattle.cube_values.specs.Log.{IsOrdered}
 use Rattle.cube_values.specs.Narrow.{times_in, once_each}
 use Rattle.cube_values.specs.Statistics.{one_below, one_up_to, size_below, size_up_to, IsAtPlace, AreInOrder}
-use Rattle.cube_values.specs.Statistics.{AreDifferent, HasDifferent, IsSpanOf}
+use Rattle.cube_values.specs.Statistics.{HasDifferent, IsSpanOf}
 use Rattle.cube_values.proofs.BagLaws.{weight_of-cons, one_at-refl, one_at-distinct, int_eq-same, held_of-absent}
-use Rattle.cube_values.proofs.BagLaws.{held_le_size, size_of_same}
+use Rattle.cube_values.proofs.BagLaws.{size_of_same}
 use Rattle.cube_values.proofs.LogLaws.{int_eq-distinct, IsOrdered-count_before, SameHeld-filter}
 use Rattle.cube_values.proofs.NarrowLaws.{held_of-once_each, size_of-once_each}
 

@@ -1,4 +1,4 @@
-use Rattle.std.proofs.Common.{rules, ◌≡◌, ◌∙◌}
+use Rattle.std.proofs.Common.{rules, ◌∙◌}
 use Rattle.cube_values.specs.Bag.{Bag, SameHeld}
 use Rattle.cube_values.proofs.OwedLaws.{written_back}
 use Rattle.cube_values.proofs.StatisticsLaws.{AreInOrder-SameHeld}

@@ -1,4 +1,4 @@
-use Rattle.std.proofs.Common.{ap, arith, pos, rules, FitsSigned, w64}
+use Rattle.std.proofs.Common.{ap, arith, pos, FitsSigned, w64}
 use Rattle.std.proofs.lemmas.Int.{to_z-of_z}
 use Rattle.std.proofs.lemmas.List.{drop_all}
 use Rattle.cube_values.specs.Bag.{Bag}

@@ -1,4 +1,4 @@
-use Rattle.std.proofs.Common.{◌<◌, ◌^◌, sym, subst, arith, rules, FitsSigned, w64}
+use Rattle.std.proofs.Common.{sym, subst, rules, FitsSigned, w64}
 use Rattle.std.proofs.lemmas.Int.{to_z-of_z}
 use Rattle.cube_values.specs.Bag.{Bag, HasLeast, HasGreatest}
 use Rattle.cube_values.specs.Statistics.{IsSpanOf}

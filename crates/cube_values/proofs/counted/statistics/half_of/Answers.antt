@@ -1,4 +1,4 @@
-use Rattle.std.proofs.Common.{ℤ, ℕ, pos, ◌≡◌, ◌<◌, ◌≤◌, ◌^◌, ◌+◌, ◌-◌, ◌/◌, ◌+ℤ◌, refl, ap, ◌∙◌, sym, subst, arith, rules, FitsSigned, w64}
+use Rattle.std.proofs.Common.{ℤ, ℕ, pos, ◌≡◌, ◌<◌, ◌^◌, ◌-◌, ◌/◌, ◌+ℤ◌, refl, ap, ◌∙◌, arith, rules, FitsSigned, w64}
 use Rattle.std.proofs.lemmas.Int.{to_z-of_z}
 use Rattle.cube_values.specs.Bag.{Bag}
 use Rattle.cube_values.specs.Statistics.{size_up_to}
