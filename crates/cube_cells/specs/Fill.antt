@@ -1,14 +1,12 @@
 -- Filling a cube at once: the cells of each grouping set are made from those of a finer one (Gray et al. 1997;
 -- which finer one is this project's choice).
 use Rattle.std.specs.Prelude.{◌≡◌, ◌-◌, ◌<◌, ◌==◌, ◌^◌, ◌++◌, ℕ, Bool, true, false, bit_and, List, [], ◌∷◌}
-use Rattle.std.specs.Prelude.{length, map, get_or, Result, Ok, Option, Some, IfOk, IfSome, All, Contains, if◌then◌else◌}
-use Rattle.std.specs.List.Sorted.{IsPermutation}
+use Rattle.std.specs.Prelude.{length, get_or, reverse, Result, Option, Some, IfOk, IfSome, All, Contains, if◌then◌else◌}
 use Rattle.std.specs.declared.alloc.AllocError.{AllocError}
 use Rattle.cube_core.specs.Takes.{fits}
 use Rattle.cube_core.specs.declared.fact.Fact.{Fact}
 use Rattle.cube_cells.specs.Coded.{CodedCells, AreNewCells, same_codes, coded_at}
 use Rattle.cube_cells.specs.Cube.{Lattice, IsCubeOf, tally_or_empty}
-use Rattle.cube_cells.specs.Levels.{sets_of}
 use Rattle.cube_cells.specs.Tally.{Tally, PlusTally}
 use Rattle.cube_cells.specs.Walk.{AreApart, CountMore, key_in}
 use Rattle.cube_cells.specs.declared.cube.codes.Codes.{Codes}
@@ -67,13 +65,6 @@ MakesLevels {N} measures finest (set ∷ sets) old new =
     × AreMadeFrom finer.cells.entries set measures level.cells.entries
     × MakesLevels measures finest sets (old ++ level ∷ []) new
 
--- levels of these sets are made, in some order of them
-pub record MakesLevelsOf {N : Type 0} (measures : ℕ) (finest : Level N) (sets : List ℕ)
-    (levels : List (Level N)) : Type 0 where
-  pub order : List ℕ
-  pub moved : IsPermutation sets order
-  pub makes : MakesLevels measures finest order [] levels
-
 -- the level of a set is made from the finest or one that is there
 pub record IsMadeLevel {N : Type 0} (measures : ℕ) (finest : Level N) (levels : List (Level N)) (set : ℕ)
     (level : Level N) : Type 0 where
@@ -89,26 +80,13 @@ pub record AreMade {X : Type 0} (is : ℕ → X → Type 0) (number : ℕ) (made
   pub long : length made ≡ number
   pub each : (i : ℕ) (unused : Result X AllocError) → i < number → IfOk (get_or made i unused) (is i)
 
--- for each set of a layer a result: its level
-abbrev pub AreMadeLevels : {N : Type 0} → ℕ → Level N → List (Level N) → List ℕ → List
-    (Result (Level N) AllocError) → Type 0
-AreMadeLevels measures finest levels layer =
-    AreMade (λ i. IsMadeLevel measures finest levels (get_or layer i 0)) (length layer)
-
--- each of these results is a level, and they were put behind others
-pub record ArePushed {N : Type 0} (results : List (Result (Level N) AllocError))
-    (old new : List (Level N)) : Type 0 where
-  pub levels : List (Level N)
-  pub are : map Ok levels ≡ results
-  pub pushed : new ≡ old ++ levels
-
--- these are the levels of the sets, in their order: the finest one where it is kept, and those made from it
+-- these are the levels of the sets, in their order: those that are made from the last set to the first, and the finest one
+-- behind them where it is kept
 pub record AreFilled {N : Type 0} (finest : Level N) (sets : List ℕ) (measures : ℕ)
     (levels : List (Level N)) : Type 0 where
   pub keeps_finest : Bool
   pub coarser : List ℕ
   pub made : List (Level N)
   pub coarser_are : sets ≡ coarser ++ (if keeps_finest then finest.set ∷ [] else [])
-  pub makes : MakesLevelsOf measures finest coarser made
-  pub moved : IsPermutation (made ++ (if keeps_finest then finest ∷ [] else [])) levels
-  pub sets_are : sets_of levels ≡ sets
+  pub makes : MakesLevels measures finest (reverse coarser) [] (reverse made)
+  pub levels_are : levels ≡ made ++ (if keeps_finest then finest ∷ [] else [])

@@ -31,7 +31,6 @@ mod shares;
 mod sorted_texts;
 mod walk;
 mod walk_parts;
-mod workers;
 
 use crate::cell::Cell;
 pub use bottom_up::TakesCells;
@@ -57,7 +56,7 @@ pub use walk_parts::{RaisedCells, WalkPart};
 /// Each kept set has a table of its own, in which each of its cells is found in one hashed look-up. A text gets a code
 /// at the first `add` of a fact that has it, and keeps it. Where an `add` finds no memory, the cells count what they
 /// counted. How the numbers of cells are kept is the parameter's: [`Counted`] keeps each, so that facts can be removed;
-/// [`Summary`](crate::Summary) keeps what the answers need alone, and cubes of it are filled and sorted by several threads.
+/// [`Summary`](crate::Summary) keeps what the answers need alone.
 #[derive(Drop)]
 pub struct Cube<N: Numbers = Counted> {
     schema: Schema,

@@ -115,12 +115,6 @@ sorted-parts {K} R (x ∷ a) b both =
       All-cons (λ (z : K). All (λ y. R z y ≡ Less) b) x a parts.1 rest.2,
     )
 
--- what is true of each of two lists together
-All-both : {X Y : Type 0} (P : X → Type 0) (Q : Y → Type 0) (R : X → Y → Type 0) (xs : List X) (ys : List Y)
-    → ((x : X) (y : Y) → P x → Q y → R x y) → All P xs → All Q ys → All (λ x. All (R x) ys) xs
-All-both P Q R xs ys both of_xs of_ys =
-    λ k d inside j e within. both (get_or xs k d) (get_or ys j e) (of_xs k d inside) (of_ys j e within)
-
 -- ---- prefixes
 -- one dimension more
 HavePrefix-more : (from : ℕ) (prefix : List ℕ) (code : ℕ) (cells : CodedCells) → from < 8
@@ -793,13 +787,6 @@ pub IsWalkable-one : (measures left from : ℕ) (item : Codes × Tally) → IsWa
 IsWalkable-one measures left from item walkable =
     IsWalkable-run measures left from (item ∷ []) 0 1 walkable (IsRun-one from item)
 
-pub AreRunsOf-one : (is_kept : Codes → Bool) (measures left from : ℕ) (item : Codes × Tally) (cells : CodedCells)
-    → IsWalkable measures (suc left) from (item ∷ []) → IsWalkOf is_kept left (from + 1) (item ∷ []) cells
-    → AreRunsOf is_kept left from (item ∷ []) cells
-AreRunsOf-one is_kept measures left from item cells walkable walk =
-    AreRunsOf-run is_kept measures left from (item ∷ []) 0 1 [] cells walkable
-    (λ k before inside. absurd (omega (arith, before))) (IsRun-one from item) (AreRunsOf-nil is_kept left from) walk
-
 pub AreRaised-one : (from : ℕ) (item : Codes × Tally) → AreRaised from (item ∷ []) ((all_at from item.0, item.1) ∷ [])
 unfolding IsStrictlySortedBy
 AreRaised-one from item = record {
@@ -821,10 +808,6 @@ pub TakesAll-append : {S : Type 0} (takes : S → Codes → Tally → S → Type
 TakesAll-append takes [] b old mid new first second = subst (λ (s : _). TakesAll takes s b new) first second
 TakesAll-append takes (cell ∷ a) b old mid new first second =
     (first.0, first.1, TakesAll-append takes a b first.0 mid new first.2 second)
-
-pub TakesAll-one : {S : Type 0} (takes : S → Codes → Tally → S → Type 0) (cell : Codes × Tally) (old new : S)
-    → takes old cell.0 cell.1 new → TakesAll takes old (cell ∷ []) new
-TakesAll-one takes cell old new takes_it = (new, takes_it, refl)
 
 -- ---- the cells of items, as they lie
 -- the code of an item in a dimension
@@ -1107,11 +1090,6 @@ take_kept-more takes kept items i item old mid new is inside before here =
     (TakesAll-append takes (filter P cells) (filter P ((item.codes, item.cell) ∷ [])) old mid new before here)
 
 -- ---- one item
--- a list of one element
-pub one-element : {X : Type 0} (xs : List X) (d : X) → length xs ≡ 1 → xs ≡ get_or xs 0 d ∷ []
-one-element [] d one = absurd (omega (arith, one))
-one-element (x ∷ []) d one = refl
-one-element (x ∷ y ∷ xs) d one = absurd (omega (arith, one))
 
 pub CanWalk-one : (dimensions from : ℕ) (item : Codes × Tally) → CanWalk dimensions from (item ∷ [])
     → from < dimensions → CanWalk dimensions (from + 1) (item ∷ [])

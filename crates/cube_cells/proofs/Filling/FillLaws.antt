@@ -1,22 +1,18 @@
 -- Laws of cells into which others are merged: what one merge says of each look-up and of each count,
 -- and how sets are filled one after another.
-use Rattle.std.proofs.Common.{◌≡◌, ℕ, ◌+◌, ◌==◌, List, [], ◌∷◌, ◌++◌, Bool, true, false, cond, suc, take, get_or}
-use Rattle.std.proofs.Common.{append_assoc, refl, sym, ap, ◌∙◌, subst, arith, inl, inr, length, Option, Some, None}
-use Rattle.std.specs.Prelude.{◌<◌, All, IfSome, IsSome, Result, Ok}
+use Rattle.std.proofs.Common.{◌≡◌, ℕ, ◌+◌, ◌==◌, List, [], ◌∷◌, ◌++◌, Bool, true, false, cond, take, get_or, reverse}
+use Rattle.std.proofs.Common.{refl, sym, ap, ◌∙◌, subst, arith, inl, inr, length, Option, Some, None}
+use Rattle.std.specs.Prelude.{◌<◌, All, IfSome, IsSome}
 use Rattle.std.specs.List.{IsDistinct}
 use Rattle.std.specs.List.Sorted.{IsPermutation}
 use Rattle.std.specs.Map.{set_value}
-use Rattle.std.specs.declared.alloc.AllocError.{AllocError}
-use Rattle.std.proofs.lemmas.Bool.{cases_Bool, cases_lt, cond-true, cond-false}
-use Rattle.std.proofs.lemmas.List.{length-replicate, length-append, append-nil, map-append, get_or_append_left}
-use Rattle.std.proofs.lemmas.List.{take_more}
-use Rattle.std.proofs.Math.Seq.{get_or-append_seam}
-use Rattle.std.proofs.lemmas.List.Elements.{All-head, All-tail, All-push, Contains-append_left}
+use Rattle.std.proofs.lemmas.Bool.{cases_Bool, cond-true, cond-false}
+use Rattle.std.proofs.lemmas.List.{length-replicate, reverse-append, take_more}
+use Rattle.std.proofs.lemmas.List.Elements.{All-head, All-tail, All-push}
 use Rattle.cube_values.specs.Bag.{Bag, held_of}
 use Rattle.cube_cells.specs.Coded.{CodedCells, AreNewCells, same_codes, coded_at, total_codes}
 use Rattle.cube_cells.specs.Cube.{empty_tally, tally_or_empty}
-use Rattle.cube_cells.specs.Fill.{AreMadeFrom, AreMadeLevels, ArePushed, FillsSet, IsFiner, IsMadeLevel, MakesLevels}
-use Rattle.cube_cells.specs.Fill.{MergesIn}
+use Rattle.cube_cells.specs.Fill.{AreMadeFrom, FillsSet, IsFiner, IsMadeLevel, MakesLevels, MergesIn}
 use Rattle.cube_cells.specs.Tally.{Tally, PlusTally, SameTally}
 use Rattle.cube_cells.specs.Walk.{AreApart, CountMore, key_in}
 use Rattle.cube_cells.specs.declared.cube.codes.Codes.{Codes}
@@ -166,108 +162,22 @@ pub record IsMakingLevels {N : Type 0} (measures : ℕ) (finest : Level N) (orde
   pub makes : (end : List (Level N)) → MakesLevels measures finest left now end → MakesLevels measures finest order
       [] end
 
--- a level more, which was made from one of those that were there before
-IsMakingLevels-more : {N : Type 0} (measures : ℕ) (finest : Level N) (order left : List ℕ)
-    (old before : List (Level N)) (set : ℕ)
-    (level : Level N)
-    → IsMakingLevels measures finest order (set ∷ left) (old ++ before) → IsMadeLevel measures finest old set level
-    → IsMakingLevels measures finest order left ((old ++ before) ++ level ∷ [])
-IsMakingLevels-more {N} measures finest order left old before set level making is = record {
-  finer = All-tail (IsFiner finest.set) set left making.finer;
-  first = making.first;
-  widths = All-push (λ (level : Level N). All (λ cell. length cell.1.bags ≡ measures) level.cells.entries)
-      (old ++ before) level making.widths is.width;
-  makes = λ end rest. making.makes end (
-    is.finer,
-    level,
-    Contains-append_left (finest ∷ old) before is.finer is.there,
-    is.is_finer,
-    is.set_is,
-    is.made,
-    rest,
-  );
-}
-
--- the levels of a layer more
-pub IsMakingLevels-layer : {N : Type 0} (measures : ℕ) (finest : Level N) (order layer left : List ℕ)
-    (old before more : List (Level N))
-    → IsMakingLevels measures finest order (layer ++ left) (old ++ before) → length more ≡ length layer
-    → ((i : ℕ) (unused : Level N) → i < length layer
-    → IsMadeLevel measures finest old (get_or layer i 0) (get_or more i unused))
-    → IsMakingLevels measures finest order left ((old ++ before) ++ more)
-IsMakingLevels-layer measures finest order [] left old before [] making long each =
-    rw (append-nil (old ++ before)) making
-IsMakingLevels-layer measures finest order [] left old before (level ∷ more) making long each =
-    absurd (omega (arith, long))
-IsMakingLevels-layer measures finest order (set ∷ layer) left old before [] making long each =
-    absurd (omega (arith, long))
-IsMakingLevels-layer measures finest order (set ∷ layer) left old before (level ∷ more) making long each =
-    let is = each 0 level (omega arith) in
-    let next = rw (append_assoc old before (level ∷ [])) at
-    (IsMakingLevels-more measures finest order (layer ++ left) old before set level making is) in
-    let all = IsMakingLevels-layer measures finest order layer left old (before ++ level ∷ []) more next
-    (omega (arith, long)) (λ i unused inside. each (suc i) unused (omega (arith, inside))) in
-    rw (← append_assoc old before (level ∷ []), append_assoc (old ++ before) (level ∷ []) more) at all
-
--- the same, where all that were there before are those that the layer was made from
-pub IsMakingLevels-next : {N : Type 0} (measures : ℕ) (finest : Level N) (order layer left : List ℕ)
-    (old more : List (Level N))
-    → IsMakingLevels measures finest order (layer ++ left) old → length more ≡ length layer
-    → ((i : ℕ) (unused : Level N) → i < length layer
-    → IsMadeLevel measures finest old (get_or layer i 0) (get_or more i unused))
-    → IsMakingLevels measures finest order left (old ++ more)
-IsMakingLevels-next {N} measures finest order layer left old more making long each =
-    subst (λ (now : List (Level N)). IsMakingLevels measures finest order left (now ++ more)) (append-nil old)
-    (IsMakingLevels-layer measures finest order layer left old [] more
-    (subst (λ (now : List (Level N)). IsMakingLevels measures finest order (layer ++ left) now)
-    (sym (append-nil old)) making) long each)
-
--- no set, no result
-pub AreMadeLevels-none : {N : Type 0} (measures : ℕ) (finest : Level N) (levels : List (Level N))
-    → AreMadeLevels measures finest levels [] []
-AreMadeLevels-none measures finest levels =
-    record { long = refl; each = λ i unused inside. absurd (omega (arith, inside)) }
-
--- the level of one set more
-AreMadeLevels-push : {N : Type 0} (measures : ℕ) (finest : Level N) (levels : List (Level N)) (layer : List ℕ)
-    (made : List (Result (Level N) AllocError)) (set : ℕ) (level : Level N)
-    → AreMadeLevels measures finest levels layer made → IsMadeLevel measures finest levels set level
-    → AreMadeLevels measures finest levels (layer ++ set ∷ []) (made ++ Ok level ∷ [])
-AreMadeLevels-push measures finest levels layer made set level are is = record {
-  long = omega (arith, length-append made (Ok level ∷ []), length-append layer (set ∷ []), are.long);
-  each = λ k unused inside. elim (cases_lt k (length layer)) [
-    | inl before ↦
-        rw (
-          get_or_append_left made (Ok level ∷ []) unused k (omega (arith, before, are.long)),
-          get_or_append_left layer (set ∷ []) 0 k before,
-        ) (are.each k unused before)
-    | inr after ↦
-        let here : k ≡ length layer = omega (arith, inside, after, length-append layer (set ∷ [])) in
-        let first : get_or (made ++ Ok level ∷ []) k unused ≡ Ok level =
-        ap (λ (n : ℕ). get_or (made ++ Ok level ∷ []) n unused) (here ∙ sym are.long)
-        ∙ get_or-append_seam made (Ok level) [] unused in
-        let second : get_or (layer ++ set ∷ []) k 0 ≡ set =
-        ap (λ (n : ℕ). get_or (layer ++ set ∷ []) n 0) here ∙ get_or-append_seam layer set [] 0 in
-        rw (first, second) is
-  ];
-}
-
-pub AreMadeLevels-more : {N : Type 0} (measures : ℕ) (finest : Level N) (levels : List (Level N)) (layer : List ℕ)
-    (made : List (Result (Level N) AllocError)) (i : ℕ) (level : Level N) → i < length layer
-    → AreMadeLevels measures finest levels (take i layer) made
-    → IsMadeLevel measures finest levels (get_or layer i 0) level
-    → AreMadeLevels measures finest levels (take (i + 1) layer) (made ++ Ok level ∷ [])
-AreMadeLevels-more measures finest levels layer made i level inside are is =
-    rw (take_more layer i 0 inside)
-    (AreMadeLevels-push measures finest levels (take i layer) made (get_or layer i 0) level are is)
-
--- one result more is a level and was put behind the others
-pub ArePushed-more : {N : Type 0} (results : List (Result (Level N) AllocError)) (old now : List (Level N))
-    (level : Level N)
-    → ArePushed results old now → ArePushed (results ++ Ok level ∷ []) old (now ++ level ∷ [])
-ArePushed-more {N} results old now level are = record {
-  levels = are.levels ++ level ∷ [];
-  are = map-append Ok are.levels (level ∷ []) ∙ ap
-      (λ (l : List (Result (Level N) AllocError)). l ++ Ok level ∷ []) are.are;
-  pushed = ap (λ (l : List (Level N)). l ++ level ∷ []) are.pushed ∙ append_assoc old are.levels (level ∷ []);
-}
+-- a level more, of the last set of those that are left in their reverse order
+pub IsMakingLevels-more : {N : Type 0} (measures : ℕ) (finest : Level N) (order sets : List ℕ) (now : List (Level N))
+    (i unused : ℕ) (level : Level N) → i < length sets
+    → IsMakingLevels measures finest order (reverse (take (i + 1) sets)) now
+    → IsMadeLevel measures finest now (get_or sets i unused) level
+    → IsMakingLevels measures finest order (reverse (take i sets)) (now ++ level ∷ [])
+IsMakingLevels-more {N} measures finest order sets now i unused level inside before is =
+    let set = get_or sets i unused in
+    let left = reverse (take i sets) in
+    let first : reverse (take (i + 1) sets) ≡ set ∷ left =
+    ap (λ (xs : List ℕ). reverse xs) (take_more sets i unused inside) ∙ reverse-append (take i sets) (set ∷ []) in
+    let making = rw first at before in
+    record {
+      finer = All-tail (IsFiner finest.set) set left making.finer;
+      first = making.first;
+      widths = All-push (λ (level : Level N). All (λ cell. length cell.1.bags ≡ measures) level.cells.entries)
+          now level making.widths is.width;
+      makes = λ end rest. making.makes end (is.finer, level, is.there, is.is_finer, is.set_is, is.made, rest);
+    }

@@ -1,22 +1,18 @@
 -- Laws of levels: each that is made has all facts, and so have the cells of all of them together.
 use Rattle.std.proofs.Common.{◌≡◌, ℕ, ◌+◌, ◌*◌, ◌^◌, ◌<◌, ◌≤◌, ◌==◌, ◌⊎◌, List, [], ◌∷◌, ◌++◌, Bool, true, false, ◌&&◌}
-use Rattle.std.proofs.Common.{◌||◌, refl, sym, ap, ◌∙◌, subst, arith, inl, inr, length, get_or, append_assoc, Option}
+use Rattle.std.proofs.Common.{◌||◌, refl, sym, ap, ◌∙◌, subst, arith, inl, inr, length, reverse, append_assoc, Option}
 use Rattle.std.proofs.Common.{Some, None, if◌then◌else◌}
 use Rattle.std.specs.Prelude.{All, IfSome, IsSome, is_some, bit_and}
-use Rattle.std.specs.List.{AllByRecursion, IsDistinct, list_any}
-use Rattle.std.specs.List.Sorted.{IsNonDecreasingBy, IsPermutation, IsStrictlySortedBy}
+use Rattle.std.specs.List.{list_any}
+use Rattle.std.specs.List.Sorted.{IsStrictlySortedBy}
 use Rattle.std.specs.Ordering.{nat_cmp}
-use Rattle.std.proofs.lemmas.Bool.{cases_Bool, cases_lt, cases_order, and_parts, or_cases, both_ways, eqb-true, eq-eqb}
-use Rattle.std.proofs.lemmas.Bool.{ne_eqb, false_from_ne_true}
-use Rattle.std.proofs.lemmas.List.{append-nil, get_or-map, length-map, map-append}
+use Rattle.std.proofs.lemmas.Bool.{cases_Bool, cases_lt, and_parts, or_cases, both_ways, eqb-true}
+use Rattle.std.proofs.lemmas.Bool.{false_from_ne_true}
+use Rattle.std.proofs.lemmas.List.{append-nil, map-append, reverse-append, reverse-reverse}
 use Rattle.std.proofs.lemmas.List.Elements.{All-head, All-tail, All-nil, All-cons, All-append, All-contains, All-push}
-use Rattle.std.proofs.lemmas.List.Elements.{All-weaker, Contains-push, recursion_from_All}
-use Rattle.std.proofs.lemmas.List.Sorted.{All-permutation, IsPermutation-append_left, IsPermutation-map}
-use Rattle.std.proofs.lemmas.List.Sorted.{IsPermutation-trans, list_any-IsPermutation}
+use Rattle.std.proofs.lemmas.List.Elements.{All-weaker, Contains-push}
+use Rattle.std.proofs.lemmas.List.Sorted.{All-permutation, IsPermutation-reverse}
 use Rattle.std.proofs.lemmas.List.Sums.{sum_by-append, sum_by-cons}
-use Rattle.std.proofs.lemmas.Cmp.{nat_cmp_total, nat_eq_equiv}
-use Rattle.std.proofs.lemmas.Map.Keys.{IsDistinct-IsPermutation, apart_from_distinct, sorted_from_all_adjacent}
-use Rattle.std.proofs.lemmas.Map.Keys.{sorted_from_strictly_increasing}
 use Rattle.std.proofs.lemmas.Nat.{and_comm, and_le_l, and_mask}
 use Rattle.std.proofs.Math.Nat.{mod-eq_of_lt}
 use Rattle.cube_core.specs.Cube.{is_cell, is_total}
@@ -29,7 +25,7 @@ use Rattle.cube_core.specs.declared.key.Key.{Key}
 use Rattle.cube_cells.specs.Codes.{Dictionaries, key_at}
 use Rattle.cube_cells.specs.Coded.{CodedCells, IsCoded, IsCodedCell, coded_at, decoded, lattice_of, total_codes}
 use Rattle.cube_cells.specs.Cube.{IsCubeOf, cell_at, count_in}
-use Rattle.cube_cells.specs.Fill.{AreFilled, IsCubeOfAll, IsFiner, MakesLevels, MakesLevelsOf, finest_set}
+use Rattle.cube_cells.specs.Fill.{AreFilled, IsCubeOfAll, IsFiner, MakesLevels, finest_set}
 use Rattle.cube_cells.specs.Levels.{IsLeveled, IsOfOneSet, cells_of, mask_of_codes, sets_of}
 use Rattle.cube_cells.specs.Tally.{Tally, IsTallyOf}
 use Rattle.cube_cells.specs.Walk.{weight_of_cells}
@@ -43,7 +39,6 @@ use Rattle.cube_cells.proofs.Cells.JoinLaws.{AreApart-append, AreApart-nil, cell
 use Rattle.cube_cells.proofs.Cells.JoinLaws.{is_some-either}
 use Rattle.cube_cells.proofs.Cells.KeptLaws.{All-coded_at}
 use Rattle.cube_cells.proofs.Codes.KeyLaws.{IsCodedCell-coded_at}
-use Rattle.cube_cells.proofs.Codes.RankLaws.{nat_cmp-Less}
 use Rattle.cube_cells.proofs.Cells.TableLaws.{mask_of_coords-mask_of_codes}
 
 -- ---- cells of other sets
@@ -214,126 +209,35 @@ sets_of-MakesLevels {N} measures finest (set ∷ sets) old new makes =
     ∙ append_assoc (sets_of old) (makes.1.set ∷ []) sets
     ∙ ap (λ (s : ℕ). sets_of old ++ s ∷ sets) makes.4
 
--- ---- sets that differ
-abbrev is_same_set : ℕ → ℕ → Bool
-is_same_set set other = other == set
+-- the sets of levels the other way round
+sets_of-reverse : {N : Type 0} (levels : List (Level N)) → sets_of (reverse levels) ≡ reverse (sets_of levels)
+sets_of-reverse [] = refl
+sets_of-reverse {N} (level ∷ levels) =
+    ap sets_of (reverse-append (level ∷ []) levels)
+    ∙ map-append (λ (l : Level N). l.set) (reverse levels) (level ∷ [])
+    ∙ ap (λ (sets : List ℕ). sets ++ level.set ∷ []) (sets_of-reverse levels)
+    ∙ sym (reverse-append (level.set ∷ []) (sets_of levels))
 
-is_among-is_same_set : (set : ℕ) (sets : List ℕ) → AllByRecursion (λ other. is_same_set set other ≡ false) sets
-    → is_among set sets ≡ false
-is_among-is_same_set set [] apart = refl
-is_among-is_same_set set (other ∷ sets) apart = rw apart.0 (is_among-is_same_set set sets apart.1)
+-- the sets of all levels
+sets_of-AreFilled : {N : Type 0} (finest : Level N) (sets : List ℕ) (measures : ℕ) (levels : List (Level N))
+    → AreFilled finest sets measures levels → sets_of levels ≡ sets
+sets_of-AreFilled {N} finest sets measures levels filled =
+    ap sets_of filled.levels_are
+    ∙ map-append (λ (l : Level N). l.set) filled.made (if filled.keeps_finest then finest ∷ [] else [])
+    ∙ ap (λ (xs : List ℕ). xs ++ sets_of (if filled.keeps_finest then finest ∷ [] else [])) made
+    ∙ ap (λ (xs : List ℕ). filled.coarser ++ xs) (kept filled.keeps_finest)
+    ∙ sym filled.coarser_are
+  where
+    kept : (b : Bool) → sets_of (if b then finest ∷ [] else []) ≡ (if b then finest.set ∷ [] else [])
+    kept true = refl
+    kept false = refl
 
-is_same_set-IsDistinct : (sets : List ℕ) → IsStrictlySortedBy nat_cmp sets → IsDistinct is_same_set sets
-unfolding IsDistinct
-is_same_set-IsDistinct [] ascending = tt
-is_same_set-IsDistinct (set ∷ sets) ascending = (
-  recursion_from_All (λ other. is_same_set set other ≡ false) sets
-      (All-weaker (λ other. set < other) (λ other. is_same_set set other ≡ false)
-      (λ other above. ne_eqb other set (λ same. absurd (omega (arith, same, above)))) sets
-      (IsStrictlySortedBy-head set sets ascending)),
-  is_same_set-IsDistinct sets (IsStrictlySortedBy-tail set sets ascending),
-)
-
-is_same_set-sym : (a b : ℕ) → is_same_set a b ≡ is_same_set b a
-is_same_set-sym a b = nat_eq_equiv.symm b a
-
--- what is in order of all of them is these sets
-same_sets : (xs ys : List ℕ) → IsStrictlySortedBy nat_cmp xs → IsStrictlySortedBy nat_cmp ys
-    → ((set : ℕ) → is_among set xs ≡ is_among set ys) → xs ≡ ys
-same_sets [] [] up_x up_y same = refl
-same_sets [] (y ∷ ys) up_x up_y same = cc (same y ∙ ap (λ (b : Bool). b || is_among y ys) (eq-eqb y y refl))
-same_sets (x ∷ xs) [] up_x up_y same = cc (sym (same x) ∙ ap (λ (b : Bool). b || is_among x xs) (eq-eqb x x refl))
-same_sets (x ∷ xs) (y ∷ ys) up_x up_y same = elim (cases_order x y) [
-  | inl is ↦
-      let none_x : is_among x xs ≡ false = is_among-below x xs (IsStrictlySortedBy-head x xs up_x) in
-      let none_y : is_among x ys ≡ false =
-      subst (λ (s : ℕ). is_among s ys ≡ false) (sym is) (is_among-below y ys (IsStrictlySortedBy-head y ys up_y)) in
-      let rest : xs ≡ ys = same_sets xs ys (IsStrictlySortedBy-tail x xs up_x)
-      (IsStrictlySortedBy-tail y ys up_y) (λ set. elim (cases_Bool (x == set)) [
-        | inl here ↦
-            let at : x ≡ set = eqb-true x set here in
-            rw (← at, none_x, none_y) refl
-        | inr other ↦ rw (other, rw is at other) at (same set)
-      ]) in
-      rw (is, rest) refl
-  | inr rest ↦ elim rest [
-    | inl less ↦
-        cc (sym (apart x y ys less up_y) ∙ sym (same x) ∙ ap (λ (b : Bool). b || is_among x xs) (eq-eqb x x refl))
-    | inr more ↦ cc (sym (apart y x xs more up_x) ∙ same y ∙ ap (λ (b : Bool). b || is_among y ys) (eq-eqb y y refl))
-  ]
-] where
-  apart : (s t : ℕ) (ts : List ℕ) → s < t → IsStrictlySortedBy nat_cmp (t ∷ ts) → is_among s (t ∷ ts) ≡ false
-  apart s t ts less up = is_among-below s (t ∷ ts) (All-cons (λ other. s < other) t ts less
-      (All-weaker (λ other. t < other) (λ other. s < other) (λ other more. omega (arith, less, more)) ts
-      (IsStrictlySortedBy-head t ts up)))
-
--- levels in the order of their sets
-IsStrictlySortedBy-sets_of : {N : Type 0} (levels : List (Level N)) → IsDistinct is_same_set (sets_of levels)
-    → IsNonDecreasingBy (λ level. level.set) levels → IsStrictlySortedBy nat_cmp (sets_of levels)
-IsStrictlySortedBy-sets_of {N} [] distinct up =
-    sorted_from_strictly_increasing [] (λ k inside. absurd (omega (arith, inside)))
-IsStrictlySortedBy-sets_of {N} (first ∷ levels) distinct up = sorted_from_all_adjacent nat_cmp_total sets 0 (λ k inside.
-    let more : k + 1 < length all = omega (arith, inside, length-map all (λ (l : Level N). l.set)) in
-    let least : (get_or all k first).set ≤ (get_or all (k + 1) first).set = up k (k + 1) first (omega arith) more in
-    let here : get_or sets k 0 ≡ (get_or all k first).set =
-    get_or-map (λ (l : Level N). l.set) all k first 0 (omega (arith, more)) in
-    let next : get_or sets (k + 1) 0 ≡ (get_or all (k + 1) first).set =
-    get_or-map (λ (l : Level N). l.set) all (k + 1) first 0 more in
-    let apart : is_same_set (get_or sets k 0) (get_or sets (k + 1) 0) ≡ false =
-    apart_from_distinct is_same_set sets k (k + 1) 0 distinct (omega arith) inside in
-    let other : get_or sets (k + 1) 0 ≡ get_or sets k 0 → ⊥ =
-    λ same. both_ways (is_same_set (get_or sets k 0) (get_or sets (k + 1) 0)) apart
-    (eq-eqb (get_or sets (k + 1) 0) (get_or sets k 0) same) in
-    nat_cmp-Less (get_or sets k 0) (get_or sets (k + 1) 0)
-    (below (cases_lt (get_or sets k 0) (get_or sets (k + 1) 0)) other (omega (arith, least, here, next)))) where
-      all : List (Level N)
-      all = first ∷ levels
-
-      sets : List ℕ
-      sets = sets_of (first ∷ levels)
-
-      below : {x y : ℕ} → (x < y) ⊎ (y ≤ x) → (y ≡ x → ⊥) → x ≤ y → x < y
-      below (inl less) other least = less
-      below (inr past) other least = absurd (other (omega (arith, past, least)))
-
--- levels that are made, put in order
-pub AreFilled-in_order : {N : Type 0} (finest : Level N) (sets coarser : List ℕ) (measures : ℕ) (keeps_finest : Bool)
-    (made levels : List (Level N)) → IsStrictlySortedBy nat_cmp sets
-    → sets ≡ coarser ++ (if keeps_finest then finest.set ∷ [] else []) → MakesLevelsOf measures finest coarser made
-    → IsPermutation (made ++ (if keeps_finest then finest ∷ [] else [])) levels
-    → IsNonDecreasingBy (λ level. level.set) levels → AreFilled finest sets measures levels
-AreFilled-in_order {N} finest sets coarser measures keeps_finest made levels ascending are makes moved up = record {
-  keeps_finest = keeps_finest;
-  coarser = coarser;
-  made = made;
-  coarser_are = are;
-  makes = makes;
-  moved = moved;
-  sets_are = same_sets (sets_of levels) sets (IsStrictlySortedBy-sets_of levels distinct up) ascending
-      (λ set. sym (list_any-IsPermutation (λ (other : ℕ). other == set) sets (sets_of levels) turned));
-} where
-  kept : (b : Bool) → sets_of (if b then finest ∷ [] else []) ≡ (if b then finest.set ∷ [] else [])
-  kept true = refl
-  kept false = refl
-
-  names : sets_of (made ++ (if keeps_finest then finest ∷ [] else []))
-      ≡ makes.order ++ (if keeps_finest then finest.set ∷ [] else [])
-  names =
-      map-append (λ (level : Level N). level.set) made (if keeps_finest then finest ∷ [] else [])
-      ∙ ap (λ (xs : List ℕ). xs ++ sets_of (if keeps_finest then finest ∷ [] else []))
-      (sets_of-MakesLevels measures finest makes.order [] made makes.makes)
-      ∙ ap (λ (xs : List ℕ). makes.order ++ xs) (kept keeps_finest)
-
-  turned : IsPermutation sets (sets_of levels)
-  turned =
-      let first : IsPermutation sets (sets_of (made ++ (if keeps_finest then finest ∷ [] else []))) = rw (names, are)
-      (IsPermutation-append_left (if keeps_finest then finest.set ∷ [] else []) coarser makes.order makes.moved) in
-      IsPermutation-trans _ _ _ first (IsPermutation-map (λ (level : Level N). level.set)
-      (made ++ (if keeps_finest then finest ∷ [] else [])) levels moved)
-
-  distinct : IsDistinct is_same_set (sets_of levels)
-  distinct = IsDistinct-IsPermutation is_same_set is_same_set-sym sets (sets_of levels) turned
-      (is_same_set-IsDistinct sets ascending)
+    made : sets_of filled.made ≡ filled.coarser
+    made =
+        sym (reverse-reverse (sets_of filled.made))
+        ∙ ap (λ (xs : List ℕ). reverse xs) (sym (sets_of-reverse filled.made)
+        ∙ sets_of-MakesLevels measures finest (reverse filled.coarser) [] (reverse filled.made) filled.makes)
+        ∙ reverse-reverse filled.coarser
 
 -- ---- all levels together
 HaveAll-nil : (schema : Layout) (dictionaries : Dictionaries) (facts : List Fact)
@@ -386,7 +290,7 @@ IsCubeOf-AreFilled : {N : Type 0} (schema : Layout) (sets : List ℕ) (number : 
     → IsLeveled schema sets number dictionaries levels
     × IsCubeOf (lattice_of schema sets number dictionaries (cells_of levels)) facts
 IsCubeOf-AreFilled {N} schema sets number dictionaries finest levels facts within ascending base first count filled = (
-  record { coded = coded; tables = record { sets_are = filled.sets_are; each = each } },
+  record { coded = coded; tables = record { sets_are = sets_are; each = each } },
   record {
     keys = all.keys;
     tallies = all.tallies;
@@ -401,19 +305,24 @@ IsCubeOf-AreFilled {N} schema sets number dictionaries finest levels facts withi
   kept false = All-nil P
 
   made : All P filled.made
-  made = IsLevel-MakesLevels schema dictionaries facts finest filled.makes.order [] filled.made base first
-      filled.makes.makes (All-nil P)
+  made = All-permutation P (reverse filled.made) filled.made
+      (rw (reverse-reverse filled.made) at (IsPermutation-reverse (reverse filled.made)))
+      (IsLevel-MakesLevels schema dictionaries facts finest (reverse filled.coarser) [] (reverse filled.made) base first
+      filled.makes (All-nil P))
 
   are : All P levels
-  are = All-permutation P (filled.made ++ (if filled.keeps_finest then finest ∷ [] else [])) levels filled.moved
+  are = rw filled.levels_are
       (All-append P filled.made (if filled.keeps_finest then finest ∷ [] else []) made (kept filled.keeps_finest))
+
+  sets_are : sets_of levels ≡ sets
+  sets_are = sets_of-AreFilled finest sets (length schema.measures) levels filled
 
   each : All IsOfOneSet levels
   each = All-weaker P IsOfOneSet (λ level is. IsOfOneSet-IsLevel schema dictionaries facts level base is) levels are
 
   all : HaveAll schema dictionaries facts sets (cells_of levels)
   all =
-      rw filled.sets_are at (HaveAll-cells_of schema dictionaries facts levels base are (rw filled.sets_are ascending))
+      rw sets_are at (HaveAll-cells_of schema dictionaries facts levels base are (rw sets_are ascending))
 
   coded : IsCoded schema sets number dictionaries (cells_of levels)
   coded = record {

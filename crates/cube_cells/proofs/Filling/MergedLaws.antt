@@ -1,6 +1,6 @@
 -- Laws of cubes over the finest grouping set that are merged: cells under the codes of other dictionaries are the cells
 -- of the same keys, and those into which they are merged have the facts of both.
-use Rattle.std.proofs.Common.{◌≡◌, ℕ, zero, suc, ◌+◌, ◌-◌, ◌*◌, ◌^◌, ◌<◌, ◌≤◌, ◌==◌, ◌%◌, ◌/◌, List, [], ◌∷◌, ◌++◌}
+use Rattle.std.proofs.Common.{◌≡◌, ℕ, zero, suc, ◌+◌, ◌-◌, ◌*◌, ◌^◌, ◌<◌, ◌==◌, ◌%◌, ◌/◌, List, [], ◌∷◌, ◌++◌}
 use Rattle.std.proofs.Common.{true, false, refl, sym, ap, ◌∙◌, subst, arith, inl, inr, length, get_or, set, take}
 use Rattle.std.proofs.Common.{append_assoc, nat_lt, Some}
 use Rattle.std.specs.Int.Bits.{and_self}
@@ -9,7 +9,7 @@ use Rattle.std.specs.List.{AllByRecursion, list_all}
 use Rattle.std.specs.Map.{keys_of}
 use Rattle.std.proofs.lemmas.Bool.{cases_lt, and_from, and_parts, both_ways, eq-eqb, eqb-true, false_from_ne_true}
 use Rattle.std.proofs.lemmas.Bool.{ne_eqb, or_cases, or_left, or_right}
-use Rattle.std.proofs.lemmas.List.{append-nil, get_or_append_left, get_or_past, length-append, length-map, take_all}
+use Rattle.std.proofs.lemmas.List.{append-nil, get_or_append_left, get_or_past, length-append, length-map}
 use Rattle.std.proofs.lemmas.List.{take_more}
 use Rattle.std.proofs.lemmas.List.Elements.{All-append, All-cons, All-head, All-nil, All-tail, All-weaker}
 use Rattle.std.proofs.lemmas.Grind.{get_or_default_zero}
@@ -247,14 +247,6 @@ key_in-recoded dictionaries measures cells all = λ k d inside.
     ap make (kept_codes-are_codes dictionaries (get_or cells k d).0.codes (all k d inside).codes)
 
 -- ---- columns
-pub IsRecoded-none : (old : List (List ℕ)) (column : Column) → IsDictionary column.dictionary → column.dictionary ≡ old
-    → column.codes.items ≡ [] → IsRecoded old [] column
-IsRecoded-none old column is same none = record {
-  dictionary = is;
-  grown = ([], same ∙ sym (append-nil old));
-  long = ap length none;
-  each = λ place inside. absurd (omega (arith, inside));
-}
 
 -- a text more has its code
 IsRecoded-push : (old some : List (List ℕ)) (text : List ℕ) (was new : Column) → IsRecoded old some was
@@ -301,11 +293,6 @@ pub IsRecoded-more : (old texts : List (List ℕ)) (place : ℕ) (was new : Colu
     → IsRecoded old (take (place + 1) texts) new
 IsRecoded-more old texts place was new inside is puts =
     rw (take_more texts place [] inside) (IsRecoded-push old (take place texts) (get_or texts place []) was new is puts)
-
-pub IsRecoded-all : (old texts : List (List ℕ)) (place : ℕ) (column : Column) → length texts ≤ place
-    → IsRecoded old (take place texts) column → IsRecoded old texts column
-IsRecoded-all old texts place column past is =
-    subst (λ (more : List (List ℕ)). IsRecoded old more column) (take_all place texts past) is
 
 pub AreRecoded-none : (more : Dictionaries) → AreRecoded [] more []
 AreRecoded-none more = record { long = refl; each = λ d unused inside. absurd (omega (arith, inside)) }

@@ -78,11 +78,6 @@ CanWalk-at dimensions items lists (suc k) over within =
     (CanWalk-at dimensions items lists k over (omega (arith, within))) (omega (arith, within, over.few))
     (over.each k (omega (arith, within))))
 
-pub AreRaisedOver-nil : (dimensions : ℕ) (items : CodedCells) → CanWalk dimensions 0 items
-    → AreRaisedOver dimensions items []
-AreRaisedOver-nil dimensions items can =
-    record { can = can; few = omega arith; each = λ k inside. absurd (omega (arith, inside)) }
-
 pub AreRaisedOver-more : (dimensions : ℕ) (items raised : CodedCells) (lists : List CodedCells)
     → AreRaisedOver dimensions items lists → length lists < dimensions
     → AreRaised (length lists) (get_or (items ∷ lists) (length lists) []) raised
@@ -204,16 +199,6 @@ pub CanWalkPart-whole : (kept : List Bool) (dimensions from : ℕ) (items : Code
     → from ≤ dimensions → CanWalkPart (part_of kept dimensions from true items)
 CanWalkPart-whole kept dimensions from items can within =
     record { within = within; below = λ never. absurd (both_ways true never refl); can = can }
-
-pub PutsLast-whole : (kept : List Bool) (dimensions from : ℕ) (items : CodedCells) (old new : List PartOfWalk)
-    → new ≡ old ++ part_of kept dimensions from true items ∷ [] → PutsLast kept dimensions from items old new
-PutsLast-whole kept dimensions from items old new pushed = record {
-  more = part_of kept dimensions from true items ∷ [];
-  put = pushed;
-  give = λ lists all.
-      let one = together-one (part_of kept dimensions from true items) lists all in
-      subst (IsWalkOf (is_kept_by kept) (dimensions - from) from items) one.all (one.are.whole refl);
-}
 
 pub PutsLast-runs : (kept : List Bool) (dimensions from : ℕ) (items : CodedCells) (old new : List PartOfWalk)
     (first : Codes × Tally) → CanWalk dimensions from items → from < dimensions

@@ -3,7 +3,7 @@ use Rattle.std.proofs.Common.{◌≡◌, ℕ, zero, suc, ◌+◌, ◌-◌, ◌*�
 use Rattle.std.proofs.Common.{Bool, true, false, ◌&&◌, ◌||◌, refl, sym, ap, ◌∙◌, subst, arith, inl, inr, length, map}
 use Rattle.std.proofs.Common.{get_or, take, replicate, set, append_assoc, Option, Some, None, if◌then◌else◌, nat_lt}
 use Rattle.std.proofs.Common.{not}
-use Rattle.std.specs.Prelude.{All, sum_by, IfOk, IfSome, Result, Ok, is_some}
+use Rattle.std.specs.Prelude.{All, IfOk, IfSome, Result, Ok, is_some}
 use Rattle.std.specs.declared.alloc.AllocError.{AllocError}
 use Rattle.std.specs.List.{AllByRecursion, list_all, list_any}
 use Rattle.std.specs.Map.{keys_of}
@@ -14,7 +14,7 @@ use Rattle.std.proofs.lemmas.List.{append-nil, length-append, length-map, length
 use Rattle.std.proofs.lemmas.List.{get_or_append_left, take_all}
 use Rattle.std.proofs.lemmas.List.Elements.{All-append, All-cons, All-contains, All-head, All-nil, All-tail, All-take}
 use Rattle.std.proofs.lemmas.List.Elements.{All-weaker, filter-append}
-use Rattle.std.proofs.lemmas.List.Folds.{list_any-append, sum_by-replicate}
+use Rattle.std.proofs.lemmas.List.Folds.{list_any-append}
 use Rattle.std.proofs.lemmas.List.Sorted.{All-permutation, Contains-permutation, IsPermutation-append_comm}
 use Rattle.std.proofs.lemmas.List.Sorted.{IsPermutation-append_left, IsPermutation-append_right, IsPermutation-cons}
 use Rattle.std.proofs.lemmas.List.Sorted.{IsPermutation-map, IsPermutation-middle, IsPermutation-refl}
@@ -36,7 +36,6 @@ use Rattle.cube_core.specs.declared.fact.Fact.{Fact}
 use Rattle.cube_core.specs.declared.key.Coord.{Coord}
 use Rattle.cube_core.specs.declared.key.Key.{Key}
 use Rattle.cube_core.proofs.CellKeyLaws.{fits-length}
-use Rattle.cube_core.proofs.ListLaws.{sum_by-map}
 use Rattle.cube_cells.specs.Codes.{AreCodesOf, Dictionaries, IsCodeOf, IsDictionary, all_code, are_codes}
 use Rattle.cube_cells.specs.Codes.{coord_of_value, coords_at, is_code, kept_codes, texts_with}
 use Rattle.cube_cells.specs.Coded.{AreNewCells, CodedCells, IsCoded, IsCodedCell, coded_at, decoded, lattice_of}
@@ -235,16 +234,6 @@ codes-set xs d code long inside =
     ∙ ap (λ (k : ℕ). set (xs ++ all_code ∷ rest) k code) (sym long)
     ∙ set-append_seam xs all_code rest code
     ∙ sym (append_assoc xs (code ∷ []) rest)
-
--- the codes of a place added up
-pub sum-codes_at : (columns : List Column) (place : ℕ) → sum_by (λ code. code) (codes_at columns place).codes
-    ≡ sum_by (λ column. get_or column.codes.items place 0) columns + (8 - length columns) * all_code
-sum-codes_at columns place =
-    let code_in : Column → ℕ = λ column. get_or column.codes.items place 0 in
-    let rest : List ℕ = replicate (8 - length columns) all_code in
-    sum_by-append (λ code. code) (map code_in columns) rest
-    ∙ ap (λ (n : ℕ). n + sum_by (λ code. code) rest) (sum_by-map code_in (λ code. code) columns)
-    ∙ ap (λ (n : ℕ). sum_by code_in columns + n) (sum_by-replicate (λ code. code) (8 - length columns) all_code)
 
 kept_codes-none : (n : ℕ) → kept_codes 0 (replicate n all_code) ≡ replicate n all_code
 kept_codes-none zero = refl

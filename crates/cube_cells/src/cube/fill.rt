@@ -1,23 +1,21 @@
 //! Filling a cube at once: facts go into the cells of the finest grouping set alone, and the cells of each other kept
 //! set are then made from those of a finer one (Gray et al. 1997).
-ghost use Rattle.std.specs.Prelude.{◌≡◌, ◌+◌, ◌-◌, ◌≤◌, ◌^◌, ◌↔◌, ◌∷◌, [], None, ◌<◌, List, length, bit_and, All, Contains, IsTrue, IfOk, IfSome, OnOk, OnErr};
-ghost use Rattle.std.specs.List.Sorted.{IsNonDecreasingBy, IsPermutation, IsStrictlySortedBy};
+ghost use Rattle.std.specs.Prelude.{◌≡◌, ◌+◌, ◌-◌, ◌≤◌, ◌^◌, ◌↔◌, ◌∷◌, [], None, ◌<◌, List, length, reverse, bit_and, All, Contains, IsTrue, IfOk, IfSome, OnOk, OnErr};
+ghost use Rattle.std.specs.List.Sorted.{IsStrictlySortedBy};
 ghost use Rattle.std.specs.Ordering.{nat_cmp};
 ghost use Rattle.cube_core.specs.declared.fact.Fact.{Fact};
 ghost use Rattle.cube_cells.specs.Coded.{coded_at};
 ghost use Rattle.cube_cells.specs.Cube.{IsCubeOf, IsNewLattice, SameSets};
-ghost use Rattle.cube_cells.specs.Fill.{AreFilled, AreMadeFrom, ArePushed, FillsSet, HaveOneWidth, IsCubeOfAll, IsFiner, IsMadeLevel, MakesLevelsOf, MergesIn, finest_set};
+ghost use Rattle.cube_cells.specs.Fill.{AreFilled, AreMadeFrom, FillsSet, HaveOneWidth, IsCubeOfAll, IsFiner, IsMadeLevel, MakesLevels, MergesIn, finest_set};
 ghost use Rattle.cube_cells.specs.Tally.{PlusTally};
 ghost use Rattle.cube_cells.specs.Walk.{AreApart};
 
 use super::Cube;
 use super::codes::Codes;
 use super::levels::{Cells, Level, new_cells};
-use super::workers::{Alone, Several, Workers};
 use crate::cell::Cell;
-use cube_values::{Numbers, Summary};
+use cube_values::Numbers;
 use std::alloc::{AllocError, Global};
-use std::thread::Threads;
 
 impl<N: Numbers> Cube<N> {
     /// The cube of no fact over the finest grouping set alone, that of all dimensions, with the same schema. The
@@ -46,21 +44,6 @@ impl<N: Numbers> Cube<N> {
             ((facts : List Fact) → IsCubeOfAll facts finest → IsCubeOfAll facts self.new) }
         ensures err { OnErr result (self.new ≡ self.old) }
     {
-        self.fill_by(&Alone, finest)
-    }
-
-    // Fills the cube by these workers.
-    fn fill_by<W: Workers<N>>(&mut self, workers: &W, finest: Cube<N>) -> Result<(), AllocError>
-        requires shared { W.is_shared workers.now }
-        requires schema { finest.schema ≡ self.old.schema }
-        requires sets { finest.sets ≡ finest_set (length finest.schema.dimensions) ∷ [] }
-        requires facts { (facts : List Fact) × IsCubeOfAll facts finest }
-        ensures same { OnOk result (SameSets self.old self.new) }
-        ensures texts { OnOk result (self.new.dictionaries ≡ finest.dictionaries) }
-        ensures facts { OnOk result
-            ((facts : List Fact) → IsCubeOfAll facts finest → IsCubeOfAll facts self.new) }
-        ensures err { OnErr result (self.new ≡ self.old) }
-    {
         let measures = self.schema.measures().len();
         let Cube {
             facts,
@@ -70,35 +53,10 @@ impl<N: Numbers> Cube<N> {
         } = finest;
         let mut finest = levels.remove(0);
         shrink_cells(&mut finest.cells);
-        self.levels = filled_levels(workers, self.alloc, finest, &self.sets, measures)?;
+        self.levels = filled_levels(self.alloc, finest, &self.sets, measures)?;
         self.facts = facts;
         self.dictionaries = dictionaries;
         Ok(())
-    }
-}
-
-impl Cube<Summary> {
-    /// Fills the cube as [`Cube::fill`] does, by as many threads as this says: sets of as many dimensions are made side
-    /// by side. With one thread, or none, no thread is started.
-    pub fn fill_with<T: Threads + Sync>(
-        &mut self,
-        rt: &T,
-        threads: usize,
-        finest: Cube<Summary>,
-    ) -> Result<(), AllocError>
-        requires schema { finest.schema ≡ self.old.schema }
-        requires sets { finest.sets ≡ finest_set (length finest.schema.dimensions) ∷ [] }
-        requires facts { (facts : List Fact) × IsCubeOfAll facts finest }
-        ensures same { OnOk result (SameSets self.old self.new) }
-        ensures texts { OnOk result (self.new.dictionaries ≡ finest.dictionaries) }
-        ensures facts { OnOk result
-            ((facts : List Fact) → IsCubeOfAll facts finest → IsCubeOfAll facts self.new) }
-        ensures err { OnErr result (self.new ≡ self.old) }
-    {
-        if threads < 2 {
-            return self.fill(finest);
-        }
-        self.fill_by(&Several { rt, threads }, finest)
     }
 }
 
@@ -110,15 +68,13 @@ pub(super) fn finest_of(dimensions: usize) -> u8
     ((1u16 << dimensions) - 1) as u8
 }
 
-// The levels of the sets, made from the finest one.
-fn filled_levels<W: Workers<N>, N: Numbers>(
-    workers: &W,
+// The levels of the sets, in their order, made from the finest one.
+fn filled_levels<N: Numbers>(
     alloc: Global,
     finest: Level<N>,
     sets: &[u8],
     measures: usize,
 ) -> Result<Vec<Level<N>>, AllocError>
-    requires shared { W.is_shared workers.now }
     requires width { All (λ cell. length cell.1.bags ≡ measures) finest.cells.entries }
     requires within { All (λ set. bit_and finest.set set ≡ set) sets.now }
     requires ascending { IsStrictlySortedBy nat_cmp sets.now }
@@ -126,81 +82,38 @@ fn filled_levels<W: Workers<N>, N: Numbers>(
 {
     match sets.split_last() {
         Some((last, coarser)) if *last == finest.set => {
-            let mut levels = levels_from(workers, alloc, &finest, coarser, measures)?;
+            let mut levels = levels_from(alloc, &finest, coarser, measures)?;
             levels.push(finest)?;
-            Ok(in_order(levels))
+            Ok(levels)
         }
-        _ => {
-            let levels = levels_from(workers, alloc, &finest, sets, measures)?;
-            Ok(in_order(levels))
-        }
+        _ => levels_from(alloc, &finest, sets, measures),
     }
 }
 
-// The levels in the order of their sets.
-fn in_order<N: Numbers>(levels: Vec<Level<N>>) -> Vec<Level<N>>
-    ensures same { IsPermutation levels.items result.items }
-    ensures order { IsNonDecreasingBy (λ level. level.set) result.items }
-{
-    let mut levels = levels;
-    levels.sort_unstable_by_key(|level| level.set);
-    levels
-}
-
-// The levels of grouping sets that the finest one is finer than, layer after layer: those of a layer have the same
-// number of dimensions, and are made from those of the layers before.
-fn levels_from<W: Workers<N>, N: Numbers>(
-    workers: &W,
+// The levels of grouping sets that the finest one is finer than, in their order. They are made from the last set to the
+// first: a finer set is a greater number, so that each level can be made from any finer one.
+fn levels_from<N: Numbers>(
     alloc: Global,
     finest: &Level<N>,
     sets: &[u8],
     measures: usize,
 ) -> Result<Vec<Level<N>>, AllocError>
-    requires shared { W.is_shared workers.now }
     requires width { All (λ cell. length cell.1.bags ≡ measures) finest.now.cells.entries }
     requires finer { All (IsFiner finest.now.set) sets.now }
     ensures { IfOk result (λ levels.
-        MakesLevelsOf measures finest.now sets.now levels.items) }
+        MakesLevels measures finest.now (reverse sets.now) [] (reverse levels.items)) }
 {
-    let order = in_layers(alloc, sets)?;
     let mut levels = Vec::with_capacity(alloc, sets.len())?;
-    let mut done = 0;
-    while done < order.len() {
-        let end = end_of_layer(&order, done);
-        let layer = &order[done..end];
-        let made = workers.levels_of_layer(alloc, finest, &levels, layer, measures)?;
-        push_levels(&mut levels, made)?;
-        done = end;
+    for place in (0..sets.len()).rev() {
+        let level = level_from(alloc, finest, &levels, sets[place], measures)?;
+        levels.push(level)?;
     }
+    levels.reverse();
     Ok(levels)
 }
 
-// The sets, those of more dimensions first. Those of a layer are mixed, since each thread takes some that stand together,
-// and those of the last dimensions may all be large.
-fn in_layers(alloc: Global, sets: &[u8]) -> Result<Vec<u8>, AllocError>
-    ensures { IfOk result (λ order. IsPermutation sets.now order.items) }
-{
-    let mut order = Vec::with_capacity(alloc, sets.len())?;
-    order.extend_from_slice(sets)?;
-    order.sort_by_key(|set| (8 - set.count_ones().min(8), set.wrapping_mul(151)))?;
-    Ok(order)
-}
-
-// Where the sets end that have as many dimensions as the one at a place.
-fn end_of_layer(order: &[u8], from: usize) -> usize
-    requires { from < length order.now }
-    ensures after { from < result }
-    ensures within { result ≤ length order.now }
-{
-    let mut end = from + 1;
-    while end < order.len() && order[end].count_ones() == order[from].count_ones() {
-        end += 1;
-    }
-    end
-}
-
-/// The level of a set, made from one of those that are finer.
-pub fn level_from<N: Numbers>(
+// The level of a set, made from one of those that are finer.
+fn level_from<N: Numbers>(
     alloc: Global,
     finest: &Level<N>,
     levels: &[Level<N>],
@@ -215,19 +128,6 @@ pub fn level_from<N: Numbers>(
     let finer = smallest_finer(finest, levels, set);
     let cells = cells_from(alloc, &finer.cells, set, measures)?;
     Ok(Level { set, cells })
-}
-
-// Puts the levels at the end, if each of them was made.
-fn push_levels<N: Numbers>(
-    levels: &mut Vec<Level<N>>,
-    made: Vec<Result<Level<N>, AllocError>>,
-) -> Result<(), AllocError>
-    ensures { OnOk result (ArePushed made.items levels.old.items levels.new.items) }
-{
-    for level in made {
-        levels.push(level?)?;
-    }
-    Ok(())
 }
 
 // One of the levels that are finer than a set; which one is a matter of speed alone.

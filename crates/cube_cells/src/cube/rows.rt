@@ -22,12 +22,10 @@ use super::dictionary::{Dictionary, compare_keys};
 use super::levels::{Cells, Level};
 use super::ordered::{OrderedCells, Place};
 use super::ranks::{Ranks, ranks_of, ranks_of_all};
-use super::workers::{Alone, Several, Workers};
 use crate::cell::Cell;
 use cube_core::Row;
-use cube_values::{Numbers, Summary};
+use cube_values::Numbers;
 use std::alloc::{AllocError, Global};
-use std::thread::Threads;
 
 /// What is wanted of the code of a dimension.
 #[derive(Clone, Copy)]
@@ -60,25 +58,7 @@ impl<N: Numbers> Cube<N> {
         ensures aggregates { IfOk result (λ ordered.
             ordered.aggregates ≡ self.now.schema.aggregates) }
     {
-        self.ordered_by(&Alone)
-    }
-
-    // The cells in the order of their keys, sorted by these workers.
-    fn ordered_by<'c, W: Workers<N>>(
-        &'c self,
-        workers: &W,
-    ) -> Result<OrderedCells<'c, N>, AllocError>
-        requires shared { W.is_shared workers.now }
-        ensures rows { IfOk result (λ ordered. (rows : List Row) → AreRowsInOrder ordered rows →
-            AreRowsOf (λ key. true) self.now.schema.aggregates self.now.cells rows) }
-        ensures cube { IfOk result (λ ordered. (rows : List Row) → AreRowsInOrder ordered rows →
-            (facts : List Fact) → IsCubeOf self.now facts →
-            AreRowsOver self.now.sets (length self.now.schema.dimensions)
-            self.now.schema.aggregates facts rows) }
-        ensures aggregates { IfOk result (λ ordered.
-            ordered.aggregates ≡ self.now.schema.aggregates) }
-    {
-        self.ordered_where(workers, &[])
+        self.ordered_where(&[])
     }
 
     /// The rows of the cells whose codes are wanted, where these are few: no text is looked at but theirs.
@@ -98,16 +78,11 @@ impl<N: Numbers> Cube<N> {
             AreWantsOf self.now.dictionaries test wants.now →
             AreRowsOf test self.now.schema.aggregates self.now.cells rows.items) }
     {
-        self.ordered_where(&Alone, wants)?.rows()
+        self.ordered_where(wants)?.rows()
     }
 
-    // The cells whose codes are wanted, sorted by these workers.
-    fn ordered_where<'c, W: Workers<N>>(
-        &'c self,
-        workers: &W,
-        wants: &[Want],
-    ) -> Result<OrderedCells<'c, N>, AllocError>
-        requires shared { W.is_shared workers.now }
+    // The cells whose codes are wanted, in the order of their keys.
+    fn ordered_where(&self, wants: &[Want]) -> Result<OrderedCells<'_, N>, AllocError>
         ensures rows { IfOk result (λ ordered. (test : Key → Bool) →
             AreWantsOf self.now.dictionaries test wants.now →
             (rows : List Row) → AreRowsInOrder ordered rows →
@@ -116,36 +91,13 @@ impl<N: Numbers> Cube<N> {
             ordered.aggregates ≡ self.now.schema.aggregates) }
     {
         let ranks = ranks_of_all(self.alloc, &self.dictionaries)?;
-        let places = places_in_order(workers, self.alloc, &ranks, &self.levels, wants)?;
+        let places = places_in_order(self.alloc, &ranks, &self.levels, wants)?;
         OrderedCells::of(
             self.alloc,
             self.schema.aggregates(),
             &self.dictionaries,
             &places,
         )
-    }
-}
-
-impl Cube<Summary> {
-    /// The same as [`Cube::ordered`], sorted by several threads. With one thread, or none, no thread is started.
-    pub fn ordered_with<T: Threads + Sync>(
-        &self,
-        rt: &T,
-        threads: usize,
-    ) -> Result<OrderedCells<'_, Summary>, AllocError>
-        ensures rows { IfOk result (λ ordered. (rows : List Row) → AreRowsInOrder ordered rows →
-            AreRowsOf (λ key. true) self.now.schema.aggregates self.now.cells rows) }
-        ensures cube { IfOk result (λ ordered. (rows : List Row) → AreRowsInOrder ordered rows →
-            (facts : List Fact) → IsCubeOf self.now facts →
-            AreRowsOver self.now.sets (length self.now.schema.dimensions)
-            self.now.schema.aggregates facts rows) }
-        ensures aggregates { IfOk result (λ ordered.
-            ordered.aggregates ≡ self.now.schema.aggregates) }
-    {
-        if threads < 2 {
-            return self.ordered();
-        }
-        self.ordered_by(&Several { rt, threads })
     }
 }
 
@@ -171,14 +123,12 @@ fn few_places_in_order<'c, N: Numbers>(
 }
 
 // The cells whose codes are wanted, by the ranks of their keys.
-fn places_in_order<'c, W: Workers<N>, N: Numbers>(
-    workers: &W,
+fn places_in_order<'c, N: Numbers>(
     alloc: Global,
     ranks: &[Ranks],
     levels: &'c [Level<N>],
     wants: &[Want],
 ) -> Result<Vec<Place<'c, N>>, AllocError>
-    requires shared { W.is_shared workers.now }
     requires ranks { length ranks.now ≤ 8 }
     ensures cells { IfOk result (λ places. IsPermutation
         (filter (λ cell. are_wanted_codes wants.now cell.0.codes) (cells_of levels.now))
@@ -188,13 +138,13 @@ fn places_in_order<'c, W: Workers<N>, N: Numbers>(
     ensures order { IfOk result (λ places.
         IsSortedBy (λ a b. is_lt (slice_cmp nat_cmp a.ranks b.ranks)) places.items) }
 {
-    let mut places = workers.places(alloc, ranks, levels, wants)?;
-    workers.sort_places(alloc, &mut places)?;
+    let mut places = places_of(alloc, ranks, levels, wants)?;
+    places.sort_unstable_by(|a, b| a.ranks.cmp(&b.ranks));
     Ok(places)
 }
 
-/// The cells whose codes are wanted.
-pub fn places_of<'c, N: Numbers>(
+// The cells whose codes are wanted.
+fn places_of<'c, N: Numbers>(
     alloc: Global,
     ranks: &[Ranks],
     levels: &'c [Level<N>],

@@ -7,8 +7,8 @@ use Rattle.cube_cells.specs.Rows.{IsRowOf}
 use Rattle.cube_cells.proofs.Rows.RowLaws.{AreRowsOf-ranks_of, is_aggregate_of-IsPermutation}
 use Rattle.cube_cells.proofs.cube.Cube.ordered_where.Goals as goal
 
-pub places_in_order-requires-clause-ranks : goal.places_in_order-requires-clause-ranks
-places_in_order-requires-clause-ranks g c =
+pub places_in_order-requires : goal.places_in_order-requires
+places_in_order-requires g c =
     let dictionaries = c.self.inside.dictionaries.items in
     let long =
     AllZip-long AreRanks dictionaries c.in_ok-ranks.ranks.items (rw c.deref.ensures.value at c.in_ok-ranks.ensures) in

@@ -1,7 +1,7 @@
 use Rattle.std.proofs.Common.{refl, true}
 use Rattle.std.proofs.lemmas.Result.{IfOk-weaker}
 use Rattle.cube_cells.proofs.Rows.RowLaws.{AreRowsOver-IsCubeOf}
-use Rattle.cube_cells.proofs.cube.Cube.ordered_by.Goals as goal
+use Rattle.cube_cells.proofs.cube.Cube.ordered.Goals as goal
 
 pub returns-clause-rows : goal.returns-clause-rows
 returns-clause-rows g c = IfOk-weaker c.ordered_where.result _ _

@@ -8,8 +8,8 @@ use Rattle.cube_cells.specs.Levels.{IsLeveled, cells_of}
 use Rattle.cube_cells.specs.declared.cube.levels.Level.{Level}
 use Rattle.cube_cells.proofs.Filling.LevelLaws.{IsCubeOfAll-AreFilled, bit_and-finest_set}
 use Rattle.cube_cells.proofs.Cells.LeveledLaws.{sole_level}
-use Rattle.cube_cells.proofs.cube.Cube.fill_by.Goals.{In_ok-self-inside}
-use Rattle.cube_cells.proofs.cube.Cube.fill_by.Goals as goal
+use Rattle.cube_cells.proofs.cube.Cube.fill.Goals.{In_ok-self-inside}
+use Rattle.cube_cells.proofs.cube.Cube.fill.Goals as goal
 
 pub filled_levels-requires-clause-width : goal.filled_levels-requires-clause-width
 filled_levels-requires-clause-width g c =
