@@ -1,6 +1,6 @@
 -- Filling the cells of the finest grouping set in shares:
 -- each dimension is coded by itself, and each share has the facts whose codes are its own (this project's choice).
-use Rattle.std.specs.Prelude.{◌≡◌, ◌<◌, ◌-◌, ◌%◌, ◌==◌, ◌++◌, ℕ, suc, Bool, true, List, [], ◌∷◌, length, map}
+use Rattle.std.specs.Prelude.{◌≡◌, ◌<◌, ◌+◌, ◌-◌, ◌*◌, ◌%◌, ◌==◌, ◌++◌, ℕ, suc, Bool, true, List, [], ◌∷◌, length, map}
 use Rattle.std.specs.Prelude.{get_or, replicate, sum_by, Option, None, All, if◌then◌else◌}
 use Rattle.std.specs.List.{fold}
 use Rattle.std.specs.List.Sorted.{IsPermutation}
@@ -76,6 +76,10 @@ codes_at columns place = record {
 -- the share of codes, of so many: the sum of the eight modulo their number
 abbrev pub share_of : ℕ → Codes → ℕ
 share_of of codes = sum_by (λ code. code) codes.codes % of
+
+-- the share of codes of which the first so many leave a remainder together, and the others are ALL
+abbrev pub share_with : ℕ → ℕ → ℕ → ℕ
+share_with of dimensions remainder = (remainder + (8 - dimensions) * all_code) % of
 
 -- the finest grouping set of coded facts
 abbrev pub set_of : CodedFacts → ℕ

@@ -1,8 +1,9 @@
 //! The values of one measure in a cell.
-ghost use Rattle.std.specs.Prelude.{◌≡◌, ◌<◌, ◌+◌, ◌+ℤ◌, ◌-ℤ◌, ◌^◌, List, IfNone, IfSome, OnOk, OnErr, ℤ, FitsSigned};
+ghost use Rattle.std.specs.Prelude.{◌≡◌, ◌<◌, ◌≤◌, ◌+◌, ◌+ℤ◌, ◌-ℤ◌, ◌^◌, List, IfNone, IfSome, OnOk, OnErr, ℤ, FitsSigned};
 ghost use Rattle.std.specs.Int.{w128};
 ghost use Rattle.std.specs.Option.{ForSome};
 ghost use Rattle.cube_core.specs.Answer.{IsSum, IsLeast, IsGreatest, IsMean};
+ghost use Rattle.cube_core.specs.Fraction.{IsInLowestTerms};
 ghost use Rattle.cube_core.specs.declared.aggregate.Answer.TheVariants.{Null, Whole};
 ghost use Rattle.cube_values.specs.Bag.{AddsBag, size_of, held_of};
 ghost use Rattle.cube_cells.specs.Tally.{AddsValue, IsBagOf, holds_value};
@@ -115,7 +116,7 @@ impl<N: Numbers> Measure<N> {
         if self.values.is_empty() {
             return Answer::Null;
         }
-        let (p, q) = reduced(self.sum, self.values.len());
+        let (p, q) = lowest_terms(self.sum, self.values.len());
         Answer::Ratio { p, q }
     }
 }
@@ -141,6 +142,17 @@ impl Measure {
             None => self.values.len() < facts,
         }
     }
+}
+
+// A sum by a count in lowest terms. Most cells of many have one value, and by 1 nothing is divided.
+fn lowest_terms(sum: i128, count: u64) -> (i128, u64)
+    requires { 1 ≤ count }
+    ensures { IsInLowestTerms sum count result.0 result.1 }
+{
+    if count == 1 {
+        return (sum, 1);
+    }
+    reduced(sum, count)
 }
 
 fn answer_of(number: Option<i64>) -> Answer

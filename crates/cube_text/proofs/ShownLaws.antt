@@ -1,14 +1,14 @@
 -- Laws of what rows show of texts.
-use Rattle.std.proofs.Common.{◌≡◌, ◌∙◌, ◌++◌, ◌+◌, ◌<◌, ◌∷◌, [], ℕ, List, length, get_or, sym, ap, subst, arith, inl, inr}
-use Rattle.std.proofs.Common.{length-append}
+use Rattle.std.proofs.Common.{◌≡◌, ◌≢◌, ◌==◌, ◌∙◌, ◌++◌, ◌+◌, ◌<◌, ◌≤◌, ◌∷◌, [], ℕ, zero, suc, List, length, get_or, sym, ap}
+use Rattle.std.proofs.Common.{refl, subst, arith, inl, inr, length-append}
 use Rattle.std.specs.Global.{Vec}
 use Rattle.std.proofs.Math.Seq.{get_or-append_seam}
-use Rattle.std.proofs.lemmas.Bool.{cases_lt}
+use Rattle.std.proofs.lemmas.Bool.{cases_Bool, cases_lt, ne_eqb}
 use Rattle.std.proofs.lemmas.List.{get_or_append_left}
-use Rattle.cube_core.specs.Text.{coord_text}
+use Rattle.cube_core.specs.Text.{coord_text, grouping_text}
 use Rattle.cube_core.specs.declared.key.Coord.{Coord}
 use Rattle.cube_core.specs.declared.key.Coord.TheVariants as coord
-use Rattle.cube_cells.specs.Codes.{Dictionaries, coord_at, coords_at, null_code}
+use Rattle.cube_cells.specs.Codes.{Dictionaries, all_code, coord_at, coords_at, null_code}
 use Rattle.cube_cells.proofs.Codes.DictionaryLaws.{coord_at-place}
 use Rattle.cube_cells.proofs.Codes.KeyLaws.{get_or-coords_at}
 use Rattle.cube_lines.specs.Parts.{part}
@@ -82,3 +82,26 @@ part_at-AreShown dictionaries shown codes d code one found are inside within cod
     ∙ coord_at-place texts code low in
     ap (λ (v : Vec ℕ). v.items) found_is ∙ is.each code found below
     ∙ ap (λ (c : Coord). part (coord_text c)) (sym coord_is)
+
+-- ---- what GROUPING columns show of codes
+-- past the codes each coordinate is ALL
+pub coords_at-past : (dictionaries : Dictionaries) (codes : List ℕ) (d : ℕ) → length codes ≤ d
+    → get_or (coords_at dictionaries codes) d coord.All ≡ coord.All
+coords_at-past [] codes d past = refl
+coords_at-past (texts ∷ dictionaries) [] zero past = refl
+coords_at-past (texts ∷ dictionaries) [] (suc d) past = coords_at-past dictionaries [] d (omega arith)
+coords_at-past (texts ∷ dictionaries) (code ∷ codes) zero past = absurd (omega (arith, past))
+coords_at-past (texts ∷ dictionaries) (code ∷ codes) (suc d) past =
+    coords_at-past dictionaries codes d (omega (arith, past))
+
+-- the code of ALL alone shows 1
+pub grouping_text-all : (texts : List (List ℕ)) (code : ℕ) → code ≡ all_code
+    → grouping_text (coord_at texts code) ≡ grouping_text coord.All
+grouping_text-all texts code is = rw is refl
+
+pub grouping_text-other : (texts : List (List ℕ)) (code : ℕ) → code ≢ all_code
+    → grouping_text (coord_at texts code) ≡ grouping_text coord.Null
+grouping_text-other texts code other = rw (ne_eqb code all_code other) (elim (cases_Bool (code == null_code)) [
+  | inl is ↦ rw is refl
+  | inr is ↦ rw is refl
+])

@@ -1,10 +1,11 @@
 //! The text of a cube, made in a walk over its finest cells: no other cell is kept, and none is sorted.
 ghost use Rattle.std.specs.Prelude.{◌≡◌, ◌<◌, ◌≤◌, ◌∷◌, [], ℕ, List, get_or, length, map, All, IfOk, OnOk};
 ghost use Rattle.cube_core.specs.Printed.{IsPrinted};
+ghost use Rattle.cube_core.specs.Referred.{referred_coord};
 ghost use Rattle.cube_core.specs.Text.{coord_text, digits_of_answers, grouping_text};
 ghost use Rattle.cube_core.specs.declared.fact.Fact.{Fact};
 ghost use Rattle.cube_core.specs.declared.key.Coord.TheVariants as coord;
-ghost use Rattle.cube_cells.specs.Codes.{key_at};
+ghost use Rattle.cube_cells.specs.Codes.{Dictionaries, coords_at, key_at};
 ghost use Rattle.cube_cells.specs.Fill.{IsCubeOfAll};
 ghost use Rattle.cube_lines.specs.Parts.{AddsParts};
 ghost use Rattle.cube_text.specs.Rows.{AddsRow};
@@ -15,11 +16,14 @@ ghost use Rattle.cube_text.specs.Walked.{AddsAnswers, IsTextOfPart};
 use crate::fields::{close_line, push_coord, push_grouping};
 use crate::print::text_of_header;
 use crate::shown::{Shown, all_shown, part_at};
-use cube_cells::{Cell, FinestCells, KeyCodes, Numbers, Summary, TakesCells, WalkPart};
+use cube_cells::{Cell, CoordRef, FinestCells, KeyCodes, Numbers, Summary, TakesCells, WalkPart};
 use cube_lines::{Pieces, push_answer};
 use itoa::Buffer;
 use std::alloc::{AllocError, Global};
 use std::thread::{Threads, map_indices};
+
+// The code of ALL.
+const ALL: u32 = 4_294_967_295;
 
 // How many parts there are for each thread of the walk over the finest cells, so that none waits long for another.
 const PARTS: usize = 4;
@@ -195,9 +199,24 @@ fn put_groupings_of<N: Numbers>(
         text.old.items text.new.items) }
 {
     for dimension in 0..cells.dimensions() {
-        push_grouping(text, cells.coord(codes, dimension))?;
+        push_grouping(text, grouping_at(codes, dimension))?;
     }
     Ok(())
+}
+
+// What the GROUPING column of a dimension is shown of: ALL, or null in place of any value, which no text is looked up for.
+fn grouping_at<'c>(codes: &'c KeyCodes, dimension: usize) -> CoordRef<'c>
+    ensures { (dictionaries : Dictionaries) → dimension < length dictionaries →
+        grouping_text (referred_coord result)
+        ≡ grouping_text (get_or (coords_at dictionaries codes.now.codes) dimension coord.All) }
+{
+    if dimension >= codes.codes.len() {
+        return CoordRef::All;
+    }
+    if codes.codes[dimension] == ALL {
+        return CoordRef::All;
+    }
+    CoordRef::Null
 }
 
 fn put_answers_of<N: Numbers>(

@@ -1,6 +1,6 @@
 -- Laws of the tables of a cube: what is found in the cells of all levels is found in the level of its set,
 -- and what is done in each level is done in all of them.
-use Rattle.std.proofs.Common.{◌≡◌, ℕ, zero, suc, ◌+◌, ◌*◌, ◌^◌, ◌<◌, ◌≤◌, ◌==◌, ◌%◌, ◌/◌, List, [], ◌∷◌, ◌++◌, Bool}
+use Rattle.std.proofs.Common.{◌≡◌, ℕ, zero, suc, ◌+◌, ◌*◌, ◌^◌, ◌<◌, ◌==◌, ◌%◌, ◌/◌, List, [], ◌∷◌, ◌++◌, Bool}
 use Rattle.std.proofs.Common.{true, false, refl, sym, ap, ◌∙◌, subst, arith, inl, inr, ◌⊎◌, length, map, get_or, set}
 use Rattle.std.proofs.Common.{take, append_assoc, Option, Some, None, if◌then◌else◌}
 use Rattle.std.specs.Prelude.{ℤ, All}
@@ -42,23 +42,40 @@ mask_of_codes-all (code ∷ codes) all =
     let parts = and_parts (code == all_code) (list_all (λ c. c == all_code) codes) all in
     rw (parts.0, mask_of_codes-all codes parts.1) refl
 
-pub mask_of_codes-below : (codes : List ℕ) (n : ℕ) → length codes ≤ n → mask_of_codes codes < 2 ^ n
-mask_of_codes-below [] zero room = omega arith
-mask_of_codes-below [] (suc n) room = omega (arith, mask_of_codes-below [] n (omega arith), pow-succ' 2 n)
-mask_of_codes-below (code ∷ codes) zero room = absurd (omega (arith, room))
-mask_of_codes-below (code ∷ codes) (suc n) room =
-    first (code == all_code) (mask_of_codes-below codes n (omega (arith, room)))
-  where
-    first : (b : Bool) → mask_of_codes codes < 2 ^ n → (if b then 0 else 1) + 2 * mask_of_codes codes < 2 ^ suc n
-    first true rest = omega (arith, rest, pow-succ' 2 n)
-    first false rest = omega (arith, rest, pow-succ' 2 n)
-
 abbrev bit_of : ℕ → ℕ
 bit_of code = if code == all_code then 0 else 1
 
-pub if_bit : (b : Bool) → (if b then 0 else 1) ≤ 1
-if_bit true = omega arith
-if_bit false = omega arith
+-- the bits of four codes, and of eight, added up
+pub mask_of_codes-four : (first second third fourth a b c d : ℕ) → a ≡ (if first == all_code then 0 else 1)
+    → b ≡ (if second == all_code then 0 else 1) → c ≡ (if third == all_code then 0 else 1)
+    → d ≡ (if fourth == all_code then 0 else 1)
+    → a + 2 * b + 4 * c + 8 * d ≡ mask_of_codes (first ∷ second ∷ third ∷ fourth ∷ [])
+mask_of_codes-four first second third fourth a b c d a_is b_is c_is d_is =
+    rw (a_is, b_is, c_is, d_is) (four (bit_of first) (bit_of second) (bit_of third) (bit_of fourth))
+  where
+    four : (a b c d : ℕ) → a + 2 * b + 4 * c + 8 * d ≡ a + 2 * (b + 2 * (c + 2 * (d + 2 * 0)))
+    four a b c d = omega arith
+
+sum_of_bits : (a b c d e f g h : ℕ)
+    → a + 2 * (b + 2 * (c + 2 * (d + 2 * 0))) + 16 * (e + 2 * (f + 2 * (g + 2 * (h + 2 * 0))))
+    ≡ a + 2 * (b + 2 * (c + 2 * (d + 2 * (e + 2 * (f + 2 * (g + 2 * (h + 2 * 0)))))))
+sum_of_bits a b c d e f g h = omega arith
+
+pub mask_of_codes-eight : (codes : List ℕ) → length codes ≡ 8
+    → mask_of_codes (get_or codes 0 0 ∷ get_or codes 1 0 ∷ get_or codes 2 0 ∷ get_or codes 3 0 ∷ [])
+    + 16 * mask_of_codes (get_or codes 4 0 ∷ get_or codes 5 0 ∷ get_or codes 6 0 ∷ get_or codes 7 0 ∷ [])
+    ≡ mask_of_codes codes
+mask_of_codes-eight [] eight = absurd (omega (arith, eight))
+mask_of_codes-eight (a ∷ []) eight = absurd (omega (arith, eight))
+mask_of_codes-eight (a ∷ b ∷ []) eight = absurd (omega (arith, eight))
+mask_of_codes-eight (a ∷ b ∷ c ∷ []) eight = absurd (omega (arith, eight))
+mask_of_codes-eight (a ∷ b ∷ c ∷ d ∷ []) eight = absurd (omega (arith, eight))
+mask_of_codes-eight (a ∷ b ∷ c ∷ d ∷ e ∷ []) eight = absurd (omega (arith, eight))
+mask_of_codes-eight (a ∷ b ∷ c ∷ d ∷ e ∷ f ∷ []) eight = absurd (omega (arith, eight))
+mask_of_codes-eight (a ∷ b ∷ c ∷ d ∷ e ∷ f ∷ g ∷ []) eight = absurd (omega (arith, eight))
+mask_of_codes-eight (a ∷ b ∷ c ∷ d ∷ e ∷ f ∷ g ∷ h ∷ []) eight =
+    sum_of_bits (bit_of a) (bit_of b) (bit_of c) (bit_of d) (bit_of e) (bit_of f) (bit_of g) (bit_of h)
+mask_of_codes-eight (a ∷ b ∷ c ∷ d ∷ e ∷ f ∷ g ∷ h ∷ i ∷ rest) eight = absurd (omega (arith, eight))
 
 -- the codes of values, kept in a set, are of that set
 pub mask_of_codes-kept_codes : (dictionaries : Dictionaries) (values : List (Option (List ℕ))) (codes : List ℕ)

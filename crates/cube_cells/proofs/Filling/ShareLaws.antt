@@ -3,7 +3,7 @@ use Rattle.std.proofs.Common.{◌≡◌, ℕ, zero, suc, ◌+◌, ◌-◌, ◌*�
 use Rattle.std.proofs.Common.{Bool, true, false, ◌&&◌, ◌||◌, refl, sym, ap, ◌∙◌, subst, arith, inl, inr, length, map}
 use Rattle.std.proofs.Common.{get_or, take, replicate, set, append_assoc, Option, Some, None, if◌then◌else◌, nat_lt}
 use Rattle.std.proofs.Common.{not}
-use Rattle.std.specs.Prelude.{All, IfOk, IfSome, Result, Ok, is_some}
+use Rattle.std.specs.Prelude.{◌↔◌, All, sum_by, IfOk, IfSome, Result, Ok, is_some}
 use Rattle.std.specs.declared.alloc.AllocError.{AllocError}
 use Rattle.std.specs.List.{AllByRecursion, list_all, list_any}
 use Rattle.std.specs.Map.{keys_of}
@@ -23,8 +23,8 @@ use Rattle.std.proofs.lemmas.List.Sorted.{length_permutation, sum_by-IsPermutati
 use Rattle.std.proofs.lemmas.List.Sums.{sum_by-append}
 use Rattle.std.proofs.lemmas.Map.Keys.{IsDistinct-IsPermutation, IsDistinct-head}
 use Rattle.std.proofs.lemmas.Map.Views.{Contains-from_lookup, lookup-from_Contains}
-use Rattle.std.proofs.lemmas.Nat.{pow_pos}
-use Rattle.std.proofs.Math.Nat.{mod-lt, pow-succ'}
+use Rattle.std.proofs.lemmas.Nat.{div-add-mod', mod-mul-add, mod_below, pow_pos, same_from_place}
+use Rattle.std.proofs.Math.Nat.{add-mul, mod-add-mod, mod-lt, pow-succ'}
 use Rattle.std.proofs.Math.Seq.{get_or-append_seam, set-append_seam}
 use Rattle.cube_core.specs.Covers.{covers}
 use Rattle.cube_core.specs.Cube.{is_cell, is_total}
@@ -46,6 +46,7 @@ use Rattle.cube_cells.specs.Levels.{IsLeveled, cells_of}
 use Rattle.cube_cells.specs.Shares.{AreCoded, AreCodedIn, AreFinestCells, HasShare, IsCodeIn, IsShare, AreJoined, Joins}
 use Rattle.cube_cells.specs.Shares.{IsColumnOf, PutsCode}
 use Rattle.cube_cells.specs.Shares.{chosen, codes_at, dictionaries_of, facts_coded, set_of, share_at, share_of}
+use Rattle.cube_cells.specs.Shares.{share_with}
 use Rattle.cube_cells.specs.Tally.{Tally, IsTallyOf}
 use Rattle.cube_cells.specs.Walk.{AddsIn, AreApart, HasRoom, key_in}
 use Rattle.cube_cells.specs.declared.cube.codes.Codes.{Codes}
@@ -234,6 +235,62 @@ codes-set xs d code long inside =
     ∙ ap (λ (k : ℕ). set (xs ++ all_code ∷ rest) k code) (sym long)
     ∙ set-append_seam xs all_code rest code
     ∙ sym (append_assoc xs (code ∷ []) rest)
+
+-- the codes of a place added up
+pub sum-codes_at : (columns : List Column) (place : ℕ) → sum_by (λ code. code) (codes_at columns place).codes
+    ≡ sum_by (λ column. get_or column.codes.items place 0) columns + (8 - length columns) * all_code
+sum-codes_at columns place =
+    let code_in : Column → ℕ = λ column. get_or column.codes.items place 0 in
+    let rest : List ℕ = replicate (8 - length columns) all_code in
+    sum_by-append (λ code. code) (map code_in columns) rest
+    ∙ ap (λ (n : ℕ). n + sum_by (λ code. code) rest) (sum_by-map code_in (λ code. code) columns)
+    ∙ ap (λ (n : ℕ). sum_by code_in columns + n) (sum_by-replicate (λ code. code) (8 - length columns) all_code)
+
+-- where two numbers leave the same with a third put to each, one of them leaves what the other is
+place_of_both : (x y z a b o r s t n : ℕ) → r ≡ s → x * n + r ≡ a + o → y * n + s ≡ b + o → z * n + t ≡ a
+    → x * n + b ≡ (y + z) * n + t
+place_of_both x y z a b o r s t n same one other whole = omega (arith, add-mul y z n)
+
+mod-from_sums : (a b o n : ℕ) → b < n → (a + o) % n ≡ (b + o) % n → a % n ≡ b
+mod-from_sums a b o n below same =
+    let whole = place_of_both ((a + o) / n) ((b + o) / n) (a / n) a b o ((a + o) % n) ((b + o) % n) (a % n) n same
+    (div-add-mod' (a + o) n) (div-add-mod' (b + o) n) (div-add-mod' a n) in
+    let both = same_from_place ((a + o) / n) b ((b + o) / n + a / n) (a % n) n below
+    (mod_below a n (omega (arith, below))) whole in
+    sym both.1
+
+-- a fact is in the share of a remainder where its own codes leave this, without those of ALL
+pub share_of-share_with : (columns : List Column) (place of remainder : ℕ) → remainder < of
+    → (share_of of (codes_at columns place) ≡ share_with of (length columns) remainder)
+    ↔ (sum_by (λ column. get_or column.codes.items place 0) columns % of ≡ remainder)
+share_of-share_with columns place of remainder below =
+    let sum : ℕ = sum_by (λ (column : Column). get_or column.codes.items place 0) columns in
+    let others : ℕ = (8 - length columns) * all_code in
+    let is : share_of of (codes_at columns place) ≡ (sum + others) % of =
+    ap (λ (n : ℕ). n % of) (sum-codes_at columns place) in
+    (
+      λ same. mod-from_sums sum remainder others of below (sym is ∙ same),
+      λ left. is ∙ (sym (mod-add-mod sum of others) ∙ ap (λ (n : ℕ). (n + others) % of) left),
+    )
+
+-- what is left of a share without the others
+pub rest-below : (share of others : ℕ) → share < of → others % of ≤ share
+    → (share - others % of + others) % of ≡ share
+rest-below share of others below small =
+    let split : share - others % of + others ≡ others / of * of + share =
+    omega (arith, div-add-mod' others of, small) in
+    ap (λ (n : ℕ). n % of) split ∙ mod-mul-add (others / of) of share below
+
+pub rest-above : (share of others : ℕ) → share < of → share < others % of
+    → (share + (of - others % of) + others) % of ≡ share
+rest-above share of others below large =
+    let split : share + (of - others % of) + others ≡ (others / of + 1) * of + share = omega (
+      arith,
+      div-add-mod' others of,
+      mod_below others of (omega (arith, below)),
+      add-mul (others / of) 1 of,
+    ) in
+    ap (λ (n : ℕ). n % of) split ∙ mod-mul-add (others / of + 1) of share below
 
 kept_codes-none : (n : ℕ) → kept_codes 0 (replicate n all_code) ≡ replicate n all_code
 kept_codes-none zero = refl

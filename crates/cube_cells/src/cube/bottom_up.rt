@@ -158,7 +158,7 @@ pub fn is_any_kept(kept: &[bool], from: usize, codes: &Codes) -> bool
     ensures { result ≡ false → IsNoneKept (is_kept_by kept.now) from codes.now }
 {
     let step = masks_of(from);
-    let mut mask = usize::from(codes.mask()) % step;
+    let mut mask = usize::from(codes.mask() & finest_of(from));
     while mask < kept.len() {
         if kept[mask] {
             return true;

@@ -1,5 +1,5 @@
 //! The codes of a key: what the cells of a cube are found by.
-ghost use Rattle.std.specs.Prelude.{◌≡◌, ◌≤◌, ◌<◌, ◌+◌, ◌*◌, ◌++◌, ◌%◌, ◌==◌, length, slice_index_or, if◌then◌else◌};
+ghost use Rattle.std.specs.Prelude.{◌≡◌, ◌≤◌, ◌<◌, ◌+◌, ◌*◌, ◌++◌, ◌∷◌, ◌%◌, ◌==◌, [], slice_index_or, if◌then◌else◌};
 ghost use Rattle.cube_cells.specs.Coded.{is_total_code, total_codes};
 ghost use Rattle.std.specs.Hash as fed;
 ghost use Rattle.std.specs.Cmp.Lexicographic.{slice_cmp};
@@ -48,7 +48,10 @@ impl Codes {
     pub fn mask(&self) -> u8
         ensures { result ≡ mask_of_codes self.now.codes }
     {
-        mask_of(&self.codes)
+        let codes = self.codes;
+        let low = mask_of_four(codes[0], codes[1], codes[2], codes[3]);
+        let high = mask_of_four(codes[4], codes[5], codes[6], codes[7]);
+        low + 16 * high
     }
 
     /// These codes with ALL in a dimension.
@@ -82,20 +85,18 @@ impl Codes {
     }
 }
 
-// The mask of codes.
-fn mask_of(codes: &[u32]) -> u8
-    requires { length codes.now ≤ 8 }
-    ensures { result ≡ mask_of_codes codes.now }
+// The mask of four codes.
+fn mask_of_four(first: u32, second: u32, third: u32, fourth: u32) -> u8
+    ensures mask { result ≡ mask_of_codes (first ∷ second ∷ third ∷ fourth ∷ []) }
+    ensures few { result < 16 }
 {
-    let Some((code, others)) = codes.split_first() else {
-        return 0;
-    };
-    mask_bit(*code) + 2 * mask_of(others)
+    mask_bit(first) + 2 * mask_bit(second) + 4 * mask_bit(third) + 8 * mask_bit(fourth)
 }
 
 // 0 for the code of ALL, else 1.
 fn mask_bit(code: u32) -> u8
-    ensures { result ≡ (if code == all_code then 0 else 1) }
+    ensures bit { result ≡ (if code == all_code then 0 else 1) }
+    ensures few { result ≤ 1 }
 {
     if code == ALL { 0 } else { 1 }
 }

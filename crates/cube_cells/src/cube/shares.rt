@@ -1,9 +1,9 @@
 //! The finest cells of many facts at once: each dimension is coded by itself, and the cells are filled in shares.
-ghost use Rattle.std.specs.Prelude.{◌≡◌, ◌<◌, ◌≤◌, ◌∷◌, ◌↔◌, [], true, length, map, option_map, All, IfOk, IsTrue, OnOk, Ok};
+ghost use Rattle.std.specs.Prelude.{◌≡◌, ◌<◌, ◌≤◌, ◌∷◌, ◌↔◌, [], true, get_or, length, map, option_map, sum_by, All, IfOk, IsTrue, OnOk, Ok};
 ghost use Rattle.cube_core.specs.Layout.{IsSchema};
 ghost use Rattle.cube_core.specs.Takes.{fits};
 ghost use Rattle.cube_cells.specs.Fill.{AreMade, IsCubeOfAll, finest_set};
-ghost use Rattle.cube_cells.specs.Shares.{AreCoded, AreFinestCells, AreJoined, IsColumnOf, IsShare, Joins, PutsCode, codes_at, dictionaries_of, facts_coded, share_of, texts_had};
+ghost use Rattle.cube_cells.specs.Shares.{AreCoded, AreFinestCells, AreJoined, IsColumnOf, IsShare, Joins, PutsCode, codes_at, dictionaries_of, facts_coded, share_of, share_with, texts_had};
 
 use super::Cube;
 use super::cell_key::CellKey;
@@ -292,9 +292,10 @@ fn share_cells<N: Numbers>(
 {
     let columns = coded.columns.as_slice();
     let set = finest_of(columns.len());
+    let remainder = remainder_in(columns.len(), share, of);
     let mut cells = HashMap::with_hasher(alloc, CellKey::under(coded.schema.hash_key()));
     for (place, fact) in coded.facts.iter().enumerate() {
-        if is_in_share(columns, place, share, of) {
+        if is_in_share(columns, place, remainder, of) {
             let codes = codes_at(columns, place);
             gather_at(alloc, &mut cells, codes, fact.measures.as_slice())?;
         }
@@ -302,30 +303,42 @@ fn share_cells<N: Numbers>(
     Ok(Level { set, cells })
 }
 
-// Whether the fact at a place is in a share, of so many. Every thread asks this of each fact, and makes the codes of its own
-// facts alone; with one share nothing is asked.
-fn is_in_share(columns: &[Column], place: usize, share: u64, of: u64) -> bool
-    requires share { share < of }
+// Whether the fact at a place is in the share, of so many, whose codes leave this remainder. Every thread asks this of each fact,
+// and makes the codes of its own facts alone; with one share nothing is asked.
+fn is_in_share(columns: &[Column], place: usize, remainder: u64, of: u64) -> bool
+    requires remainder { remainder < of }
     requires few { length columns.now ≤ 8 }
     requires inside { All (λ column. place < length column.codes.items) columns.now }
-    ensures { IsTrue result ↔ (share_of of (codes_at columns.now place) ≡ share) }
+    ensures { IsTrue result ↔ (share_of of (codes_at columns.now place) ≡ share_with of (length columns.now) remainder) }
 {
-    of == 1 || share_at(columns, place, of) == share
+    of == 1 || sum_at(columns, place) % of == remainder
 }
 
-// The share, of so many, that the fact at a place is in.
-fn share_at(columns: &[Column], place: usize, of: u64) -> u64
-    requires some { 0 < of }
+// The sum of the codes of the fact at a place. It has room in 32 bits nearly always, and a remainder of a number of 32 bits
+// takes a third of the time: so the codes of ALL, past the last dimension, aren't added.
+fn sum_at(columns: &[Column], place: usize) -> u64
     requires few { length columns.now ≤ 8 }
     requires inside { All (λ column. place < length column.codes.items) columns.now }
-    ensures { result ≡ share_of of (codes_at columns.now place) }
+    ensures { result ≡ sum_by (λ column. get_or column.codes.items place 0) columns.now }
 {
     let mut sum = 0u64;
     for column in columns {
         sum += u64::from(column.codes[place]);
     }
-    let others = 8 - columns.len() as u64;
-    (sum + others * u64::from(ALL)) % of
+    sum
+}
+
+// What the sum of the codes in so many dimensions leaves modulo so many shares, where all eight codes are in a share: the
+// others are ALL.
+fn remainder_in(dimensions: usize, share: u64, of: u64) -> u64
+    requires share { share < of }
+    requires few { dimensions ≤ 8 }
+    ensures below { result < of }
+    ensures share { share_with of dimensions result ≡ share }
+{
+    let others = 8 - dimensions as u64;
+    let rest = others * u64::from(ALL) % of;
+    if share < rest { share + (of - rest) } else { share - rest }
 }
 
 // The codes of the fact at a place.

@@ -50,7 +50,7 @@ loop-place-preserved g c =
     ≡ key_in (codes_at coded.columns.items place) (set_of coded) =
     rw columns (sym (key_in-codes_at coded place c.requires.coded)) in
     let asked : IsTrue c.is_in_share.result ↔ (share_at coded c.args.of place ≡ c.args.share) =
-    rw columns at c.is_in_share.ensures in
+    rw columns at (rw c.remainder_in-remainder.ensures.share at c.is_in_share.ensures) in
     elim c.if-is_in_share.branch [
       | then-is_in_share+in_ok-gather_at w ↦
           let adds = rw (w.codes_at-codes.ensures ∙ key, w.as_slice.ensures) at w.in_ok-gather_at.ensures.added in

@@ -17,8 +17,8 @@ returns g c = λ values is.
     let bag = g.N.Numbers.bag in
     let fits : FitsSigned w128 c.self.inside.sum = search rules in
     let some : 0 < size_of (bag c.self.inside.values) = grind (arith, nat_tests) in
-    let quotient_fits : FitsSigned w128 c.reduced-p.result.0 = search rules in
-    let lowest = rw c.len.ensures at (simp to_z-of_z at c.reduced-p.ensures) in
+    let quotient_fits : FitsSigned w128 c.lowest_terms-p.result.0 = search rules in
+    let lowest = rw c.len.ensures at (simp to_z-of_z at c.lowest_terms-p.ensures) in
     simp to_z-of_z
-    (IsMean-Ratio values (bag c.self.inside.values) c.self.inside.sum c.reduced-p.result.0 c.reduced-p.result.1
+    (IsMean-Ratio values (bag c.self.inside.values) c.self.inside.sum c.lowest_terms-p.result.0 c.lowest_terms-p.result.1
     (rw c.self.view_is is) c.self.invariant some lowest)

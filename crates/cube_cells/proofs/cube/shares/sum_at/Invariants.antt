@@ -1,6 +1,6 @@
 use Rattle.std.proofs.Common.{◌≡◌, ◌≤◌, ◌*◌, get_or, take}
 use Rattle.std.specs.Prelude.{sum_by}
-use Rattle.cube_cells.proofs.cube.shares.share_at.Given as goal
+use Rattle.cube_cells.proofs.cube.shares.sum_at.Given as goal
 
 abbrev pub invariant-loop-column : goal.invariant-loop-column
 invariant-loop-column l =
