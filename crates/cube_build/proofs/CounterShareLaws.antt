@@ -69,57 +69,57 @@ pub counter-joined : (conditions : List Condition) (refused others next ledger m
     → IsCounter false conditions next (appended ledger more) (weights ++ more_weights) whole
 counter-joined conditions refused others next ledger more weights more_weights cube more_cube whole alike schema
     accounts same joins is is_more = record {
-  noted = record {
-    schema = schema ∙ is.noted.schema;
-    refusals =
-        ap (map (λ (a : AccountView). a.refusals)) accounts
-        ∙ map-append (λ (a : AccountView). a.refusals) refused.accounts others.accounts
-        ∙ (λ i. is.noted.refusals i ++ is_more.noted.refusals i)
-        ∙ sym (map-append (λ (a : AccountView). a.refusals) ledger.accounts more.accounts);
-  };
-  schema = same.schema ∙ is.schema;
-  long = omega (
-    arith,
-    length-append weights more_weights,
-    length-append ledger.accounts more.accounts,
-    is.long,
-    is_more.long,
-  );
-  counted = λ unspent. record {
-    fit = rw facts (All-append Fits first second counted.fit
-        (subst (λ (s : Layout). All (λ fact. fits s fact ≡ true) second) alike more_counted.fit));
-    has = rw facts (HasFacts-permutation (second ++ first) (first ++ second) whole
-        (IsPermutation-append_comm second first) (record { cells = all.cells; facts_are = all.facts_are }));
-    sets =
-        same.sets ∙ counted.sets ∙ ap (λ (s : Layout). finest_set (length s.dimensions) ∷ []) (sym same.schema);
-    weighed = weighed-append weights more_weights ledger.accounts more.accounts is.long counted.weighed
-        more_counted.weighed;
-  };
-} where
-  counted : IsCounted conditions ledger weights cube
-  counted = is.counted refl
+      noted = record {
+        schema = schema ∙ is.noted.schema;
+        refusals =
+            ap (map (λ (a : AccountView). a.refusals)) accounts
+            ∙ map-append (λ (a : AccountView). a.refusals) refused.accounts others.accounts
+            ∙ (λ i. is.noted.refusals i ++ is_more.noted.refusals i)
+            ∙ sym (map-append (λ (a : AccountView). a.refusals) ledger.accounts more.accounts);
+      };
+      schema = same.schema ∙ is.schema;
+      long = omega (
+        arith,
+        length-append weights more_weights,
+        length-append ledger.accounts more.accounts,
+        is.long,
+        is_more.long,
+      );
+      counted = λ unspent. record {
+        fit = rw facts (All-append Fits first second counted.fit
+            (subst (λ (s : Layout). All (λ fact. fits s fact ≡ true) second) alike more_counted.fit));
+        has = rw facts (HasFacts-permutation (second ++ first) (first ++ second) whole
+            (IsPermutation-append_comm second first) (record { cells = all.cells; facts_are = all.facts_are }));
+        sets =
+            same.sets ∙ counted.sets ∙ ap (λ (s : Layout). finest_set (length s.dimensions) ∷ []) (sym same.schema);
+        weighed = weighed-append weights more_weights ledger.accounts more.accounts is.long counted.weighed
+            more_counted.weighed;
+      };
+    } where
+      counted : IsCounted conditions ledger weights cube
+      counted = is.counted refl
 
-  more_counted : IsCounted conditions more more_weights more_cube
-  more_counted = is_more.counted refl
+      more_counted : IsCounted conditions more more_weights more_cube
+      more_counted = is_more.counted refl
 
-  first : List Fact
-  first = of_interest conditions (all_facts ledger.accounts)
+      first : List Fact
+      first = of_interest conditions (all_facts ledger.accounts)
 
-  second : List Fact
-  second = of_interest conditions (all_facts more.accounts)
+      second : List Fact
+      second = of_interest conditions (all_facts more.accounts)
 
-  Fits : Fact → Type 0
-  Fits fact = fits ledger.schema fact ≡ true
+      Fits : Fact → Type 0
+      Fits fact = fits ledger.schema fact ≡ true
 
-  facts : of_interest conditions (all_facts (ledger.accounts ++ more.accounts)) ≡ first ++ second
-  facts =
-      ap (of_interest conditions)
-      (flat_map-append (λ (account : AccountView). facts_of account.book) ledger.accounts more.accounts)
-      ∙ filter-append (hold conditions) (all_facts ledger.accounts) (all_facts more.accounts)
+      facts : of_interest conditions (all_facts (ledger.accounts ++ more.accounts)) ≡ first ++ second
+      facts =
+          ap (of_interest conditions)
+          (flat_map-append (λ (account : AccountView). facts_of account.book) ledger.accounts more.accounts)
+          ∙ filter-append (hold conditions) (all_facts ledger.accounts) (all_facts more.accounts)
 
-  all : IsCubeOfAll (second ++ first) whole
-  all = joins first second (finest-all conditions refused ledger weights cube is)
-      (finest-all conditions others more more_weights more_cube is_more)
+      all : IsCubeOfAll (second ++ first) whole
+      all = joins first second (finest-all conditions refused ledger weights cube is)
+          (finest-all conditions others more more_weights more_cube is_more)
 
 -- ---- several counters
 pub counter-of-one : (counter : CounterView) → counter.is_spent ≡ false → IsCounterOf (counter ∷ []) counter

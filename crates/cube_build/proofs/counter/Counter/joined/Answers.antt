@@ -11,15 +11,15 @@ use Rattle.cube_build.proofs.counter.Counter.joined.Goals as goal
 
 pub merged-requires-clause-schema : goal.merged-requires-clause-schema
 merged-requires-clause-schema c =
-    let alike : c.more.inside.trace.ledger.schema ≡ c.self.inside.trace.ledger.schema =
-    rw (← c.more.view_is, ← c.self.view_is) at c.requires.schema in
-    c.more.invariant.schema ∙ alike ∙ sym c.self.invariant.schema
+    let alike : c.others.inside.trace.ledger.schema ≡ c.self.inside.trace.ledger.schema =
+    rw (← c.others.view_is, ← c.self.view_is) at c.requires.schema in
+    c.others.invariant.schema ∙ alike ∙ sym c.self.invariant.schema
 
 pub merged-requires-clause-sets : goal.merged-requires-clause-sets
 merged-requires-clause-sets c = (c.self.invariant.counted (rw (← c.self.view_is) at c.requires.unspent.0)).sets
 
 pub merged-requires-clause-more_sets : goal.merged-requires-clause-more_sets
-merged-requires-clause-more_sets c = (c.more.invariant.counted (rw (← c.more.view_is) at c.requires.unspent.1)).sets
+merged-requires-clause-more_sets c = (c.others.invariant.counted (rw (← c.others.view_is) at c.requires.unspent.1)).sets
 
 pub merged-requires-clause-facts : goal.merged-requires-clause-facts
 merged-requires-clause-facts c = (
@@ -33,45 +33,45 @@ merged-requires-clause-facts c = (
 
 pub merged-requires-clause-more_facts : goal.merged-requires-clause-more_facts
 merged-requires-clause-more_facts c = (
-  of_interest c.more.inside.conditions.now (all_facts c.more.inside.trace.ledger.accounts),
-  finest-all c.more.inside.conditions.now c.more.inside.refused c.more.inside.trace.ledger
-      c.more.inside.weights.items c.more.inside.cube
-      (counter-unspent c.more.inside.is_spent c.more.inside.conditions.now c.more.inside.refused
-      c.more.inside.trace.ledger c.more.inside.weights.items c.more.inside.cube
-      (rw (← c.more.view_is) at c.requires.unspent.1) c.more.invariant),
+  of_interest c.others.inside.conditions.now (all_facts c.others.inside.trace.ledger.accounts),
+  finest-all c.others.inside.conditions.now c.others.inside.refused c.others.inside.trace.ledger
+      c.others.inside.weights.items c.others.inside.cube
+      (counter-unspent c.others.inside.is_spent c.others.inside.conditions.now c.others.inside.refused
+      c.others.inside.trace.ledger c.others.inside.weights.items c.others.inside.cube
+      (rw (← c.others.view_is) at c.requires.unspent.1) c.others.invariant),
 )
 
 pub append-requires-clause-schema : goal.append-requires-clause-schema
 append-requires-clause-schema c =
-    let alike : c.more.inside.trace.ledger.schema ≡ c.self.inside.trace.ledger.schema =
-    rw (← c.more.view_is, ← c.self.view_is) at c.requires.schema in
-    c.more.invariant.noted.schema ∙ alike ∙ sym c.self.invariant.noted.schema
+    let alike : c.others.inside.trace.ledger.schema ≡ c.self.inside.trace.ledger.schema =
+    rw (← c.others.view_is, ← c.self.view_is) at c.requires.schema in
+    c.others.invariant.noted.schema ∙ alike ∙ sym c.self.invariant.noted.schema
 
 pub append-requires-clause-most : goal.append-requires-clause-most
 append-requires-clause-most c = omega (
   arith,
-  rw (← c.more.view_is, ← c.self.view_is) at c.requires.most,
+  rw (← c.others.view_is, ← c.self.view_is) at c.requires.most,
   long-refused c.self.inside.refused c.self.inside.trace.ledger c.self.invariant.noted,
-  long-refused c.more.inside.refused c.more.inside.trace.ledger c.more.invariant.noted,
+  long-refused c.others.inside.refused c.others.inside.trace.ledger c.others.invariant.noted,
 )
 
 pub invariant_of-result : goal.invariant_of-result
 invariant_of-result c =
     let unspent : c.self.inside.is_spent ≡ false = rw (← c.self.view_is) at c.requires.unspent.0 in
-    let more_unspent : c.more.inside.is_spent ≡ false = rw (← c.more.view_is) at c.requires.unspent.1 in
-    let alike : c.more.inside.trace.ledger.schema ≡ c.self.inside.trace.ledger.schema =
-    rw (← c.more.view_is, ← c.self.view_is) at c.requires.schema in
-    let conditions : c.more.inside.conditions.now ≡ c.self.inside.conditions.now =
-    rw (← c.more.view_is, ← c.self.view_is) at c.requires.conditions in
+    let more_unspent : c.others.inside.is_spent ≡ false = rw (← c.others.view_is) at c.requires.unspent.1 in
+    let alike : c.others.inside.trace.ledger.schema ≡ c.self.inside.trace.ledger.schema =
+    rw (← c.others.view_is, ← c.self.view_is) at c.requires.schema in
+    let conditions : c.others.inside.conditions.now ≡ c.self.inside.conditions.now =
+    rw (← c.others.view_is, ← c.self.view_is) at c.requires.conditions in
     rw (unspent, c.appending-trace.ensures, c.in_ok-append-2.ensures.items) (counter-joined
-    c.self.inside.conditions.now c.self.inside.refused c.more.inside.refused c.append.new.self
-    c.self.inside.trace.ledger c.more.inside.trace.ledger c.self.inside.weights.items c.more.inside.weights.items
-    c.self.inside.cube c.more.inside.cube c.in_ok-cube.cube alike c.append.ensures.schema
+    c.self.inside.conditions.now c.self.inside.refused c.others.inside.refused c.append.new.self
+    c.self.inside.trace.ledger c.others.inside.trace.ledger c.self.inside.weights.items c.others.inside.weights.items
+    c.self.inside.cube c.others.inside.cube c.in_ok-cube.cube alike c.append.ensures.schema
     c.in_ok-append.ensures.accounts c.in_ok-cube.ensures.same c.in_ok-cube.ensures.facts
     (counter-unspent c.self.inside.is_spent c.self.inside.conditions.now c.self.inside.refused
     c.self.inside.trace.ledger c.self.inside.weights.items c.self.inside.cube unspent c.self.invariant)
-    (rw conditions at (counter-unspent c.more.inside.is_spent c.more.inside.conditions.now c.more.inside.refused
-    c.more.inside.trace.ledger c.more.inside.weights.items c.more.inside.cube more_unspent c.more.invariant)))
+    (rw conditions at (counter-unspent c.others.inside.is_spent c.others.inside.conditions.now c.others.inside.refused
+    c.others.inside.trace.ledger c.others.inside.weights.items c.others.inside.cube more_unspent c.others.invariant)))
 
 pub returns : goal.returns
 returns c =
@@ -81,12 +81,12 @@ returns c =
       conditions = c.self.inside.conditions.now;
       ledger = c.self.inside.trace.ledger;
     }) (record {
-      is_spent = c.more.inside.is_spent;
-      conditions = c.more.inside.conditions.now;
-      ledger = c.more.inside.trace.ledger;
+      is_spent = c.others.inside.is_spent;
+      conditions = c.others.inside.conditions.now;
+      ledger = c.others.inside.trace.ledger;
     }) (record {
       is_spent = c.self.inside.is_spent;
       conditions = c.self.inside.conditions.now;
       ledger = c.appending-trace.result.ledger;
     }) = record { conditions = refl; ledger = c.appending-trace.ensures; unspent = unspent } in
-    rw (← c.self.view_is, ← c.more.view_is) joined
+    rw (← c.self.view_is, ← c.others.view_is) joined
