@@ -1,7 +1,7 @@
 -- Filling the cells of the finest grouping set in shares:
 -- each dimension is coded by itself, and each share has the facts whose codes are its own (this project's choice).
-use Rattle.std.specs.Prelude.{◌≡◌, ◌<◌, ◌+◌, ◌-◌, ◌*◌, ◌%◌, ◌==◌, ◌++◌, ℕ, suc, Bool, true, List, [], ◌∷◌, length, map}
-use Rattle.std.specs.Prelude.{get_or, replicate, sum_by, Option, None, All, if◌then◌else◌}
+use Rattle.std.specs.Prelude.{◌≡◌, ◌<◌, ◌≤◌, ◌+◌, ◌-◌, ◌*◌, ◌%◌, ◌==◌, ◌++◌, ℕ, suc, Bool, true, List, [], ◌∷◌, length, map}
+use Rattle.std.specs.Prelude.{get_or, replicate, sum_by, Option, None, All, ℤ, if◌then◌else◌}
 use Rattle.std.specs.List.{fold}
 use Rattle.std.specs.List.Sorted.{IsPermutation}
 use Rattle.cube_core.specs.Layout.{IsSchema}
@@ -105,6 +105,19 @@ pub record AreFinestCells (coded : CodedFacts) (facts : List Fact) (cells : Code
 pub record HasShare (coded : CodedFacts) (of share : ℕ) (facts : List Fact) (cells : CodedCells) : Type 0 where
   pub finest : AreFinestCells coded (chosen (λ other. other == share) (share_at coded of) facts) cells
   pub own : All (λ cell. share_of of cell.0 ≡ share) cells
+
+-- these are the places from one to another, in order, at which the share is the wanted one
+abbrev pub ArePlaces : (ℕ → ℕ) → ℕ → ℕ → List ℕ → ℕ → Type 0
+ArePlaces share_at share start [] end =
+    (start ≤ end) × ((other : ℕ) → start ≤ other → other < end → share_at other ≡ share → ⊥)
+ArePlaces share_at share start (place ∷ places) end =
+    (start ≤ place) × (place < end) × ((other : ℕ) → start ≤ other → other < place → share_at other ≡ share → ⊥)
+    × (share_at place ≡ share) × ArePlaces share_at share (place + 1) places end
+
+-- these are the values of the facts at some places
+abbrev pub AreValuesAt : List Fact → List ℕ → List (List (Option ℤ)) → Type 0
+AreValuesAt facts places values =
+    (unused : Fact) → values ≡ map (λ place. (get_or facts place unused).measures) places
 
 -- a level has the cells of a share
 abbrev pub IsShare : {N : Type 0} → CodedFacts → ℕ → ℕ → Level N → Type 0

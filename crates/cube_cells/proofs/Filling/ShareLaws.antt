@@ -47,7 +47,7 @@ use Rattle.cube_cells.specs.Levels.{IsLeveled, cells_of}
 use Rattle.cube_cells.specs.Shares.{AreCoded, AreCodedIn, AreFinestCells, HasShare, IsCodeIn, IsShare, AreJoined, Joins}
 use Rattle.cube_cells.specs.Shares.{IsColumnOf, PutsCode}
 use Rattle.cube_cells.specs.Shares.{chosen, codes_at, dictionaries_of, facts_coded, set_of, share_at, share_of}
-use Rattle.cube_cells.specs.Shares.{share_with}
+use Rattle.cube_cells.specs.Shares.{ArePlaces, share_with}
 use Rattle.cube_cells.specs.Tally.{Tally, IsTallyOf}
 use Rattle.cube_cells.specs.Walk.{AddsIn, AreApart, HasRoom, key_in}
 use Rattle.cube_cells.specs.declared.cube.codes.Codes.{Codes}
@@ -268,8 +268,7 @@ share_of-share_with columns place of remainder below =
     let sum : ℕ = sum_by (λ (column : Column). get_or column.codes.items place 0) columns in
     let others : ℕ = (8 - length columns) * all_code in
     let is : share_of of (codes_at columns place) ≡ (sum + others) % of =
-    ap (λ (n : ℕ). n % of) (sum-codes_at columns place) in
-    (
+    ap (λ (n : ℕ). n % of) (sum-codes_at columns place) in (
       λ same. mod-from_sums sum remainder others of below (sym is ∙ same),
       λ left. is ∙ (sym (mod-add-mod sum of others) ∙ ap (λ (n : ℕ). (n + others) % of) left),
     )
@@ -623,6 +622,93 @@ pub HasShare-all : (coded : CodedFacts) (of share place : ℕ) (cells : CodedCel
     → HasShare coded of share (take place (facts_coded coded)) cells → HasShare coded of share (facts_coded coded) cells
 HasShare-all coded of share place cells past has =
     subst (λ (facts : List Fact). HasShare coded of share facts cells) (take_all place (facts_coded coded) past) has
+
+-- ---- the places of a share
+pub ArePlaces-push : (share_at : ℕ → ℕ) (share start place : ℕ) (places : List ℕ)
+    → ArePlaces share_at share start places place → share_at place ≡ share
+    → ArePlaces share_at share start (places ++ place ∷ []) (place + 1)
+ArePlaces-push share_at share start place [] are own =
+    (are.0, omega arith, are.1, own, (omega arith, λ other from below same. absurd (omega (arith, from, below))))
+ArePlaces-push share_at share start place (first ∷ places) are own =
+    (are.0, omega (arith, are.1), are.2, are.3, ArePlaces-push share_at share (first + 1) place places are.4 own)
+
+pub ArePlaces-pass : (share_at : ℕ → ℕ) (share start place : ℕ) (places : List ℕ)
+    → ArePlaces share_at share start places place → (share_at place ≡ share → ⊥)
+    → ArePlaces share_at share start places (place + 1)
+ArePlaces-pass share_at share start place [] are passes = (
+  omega (arith, are.0),
+  λ other from below same. elim (cases_lt other place) [
+    | inl before ↦ are.1 other from before same
+    | inr past ↦
+        let last : other ≡ place = omega (arith, below, past) in
+        passes (subst (λ (n : ℕ). share_at n ≡ share) last same)
+  ],
+)
+ArePlaces-pass share_at share start place (first ∷ places) are passes =
+    (are.0, omega (arith, are.1), are.2, are.3, ArePlaces-pass share_at share (first + 1) place places are.4 passes)
+
+pub All-ArePlaces : (share_at : ℕ → ℕ) (share start end : ℕ) (places : List ℕ)
+    → ArePlaces share_at share start places end → All (λ place. place < end) places
+All-ArePlaces share_at share start end [] are = All-nil (λ (place : ℕ). place < end)
+All-ArePlaces share_at share start end (first ∷ places) are =
+    All-cons (λ (place : ℕ). place < end) first places are.1
+    (All-ArePlaces share_at share (first + 1) end places are.4)
+
+some_of : {X : Type 0} (xs : List X) → 0 < length xs → X
+some_of [] some = absurd (omega (arith, some))
+some_of (x ∷ xs) some = x
+
+-- facts of other shares leave it
+HasShare-others : (coded : CodedFacts) (of share from n : ℕ) (cells : CodedCells)
+    → from + n ≤ length (facts_coded coded)
+    → ((other : ℕ) → from ≤ other → other < from + n → share_at coded of other ≡ share → ⊥)
+    → HasShare coded of share (take from (facts_coded coded)) cells
+    → HasShare coded of share (take (from + n) (facts_coded coded)) cells
+HasShare-others coded of share from zero cells inside others has =
+    let same : from ≡ from + 0 = omega arith in
+    subst (λ (k : ℕ). HasShare coded of share (take k (facts_coded coded)) cells) same has
+HasShare-others coded of share from (suc n) cells inside others has =
+    let unused : Fact = some_of (facts_coded coded) (omega (arith, inside)) in
+    let before = HasShare-others coded of share from n cells (omega (arith, inside))
+    (λ other above below. others other above (omega (arith, below))) has in
+    let next : from + n + 1 ≡ from + suc n = omega arith in
+    subst (λ (k : ℕ). HasShare coded of share (take k (facts_coded coded)) cells) next
+    (HasShare-other coded of share (from + n) cells unused (omega (arith, inside))
+    (others (from + n) (omega arith) (omega arith)) before)
+
+HasShare-to : (coded : CodedFacts) (of share from to : ℕ) (cells : CodedCells) → from ≤ to
+    → to ≤ length (facts_coded coded)
+    → ((other : ℕ) → from ≤ other → other < to → share_at coded of other ≡ share → ⊥)
+    → HasShare coded of share (take from (facts_coded coded)) cells
+    → HasShare coded of share (take to (facts_coded coded)) cells
+HasShare-to coded of share from to cells order inside others has =
+    let whole : from + (to - from) ≡ to = omega (arith, order) in
+    subst (λ (k : ℕ). HasShare coded of share (take k (facts_coded coded)) cells) whole
+    (HasShare-others coded of share from (to - from) cells (omega (arith, order, inside))
+    (λ other above below. others other above (omega (arith, order, below))) has)
+
+-- the facts of a share are added as far as the first of some places
+pub record GathersOn (coded : CodedFacts) (of share end : ℕ) (places : List ℕ) (cells : CodedCells) : Type 0 where
+  pub next : ℕ
+  pub are : ArePlaces (share_at coded of) share next places end
+  pub has : HasShare coded of share (take next (facts_coded coded)) cells
+
+pub GathersOn-first : (coded : CodedFacts) (of share end place : ℕ) (places : List ℕ) (cells : CodedCells)
+    → end ≤ length (facts_coded coded) → GathersOn coded of share end (place ∷ places) cells
+    → (place < end) × (share_at coded of place ≡ share) × HasShare coded of share (take place (facts_coded coded)) cells
+    × ArePlaces (share_at coded of) share (place + 1) places end
+GathersOn-first coded of share end place places cells inside on = (
+  on.are.1,
+  on.are.3,
+  HasShare-to coded of share on.next place cells on.are.0 (omega (arith, inside, on.are.1)) on.are.2 on.has,
+  on.are.4,
+)
+
+pub GathersOn-none : (coded : CodedFacts) (of share end : ℕ) (cells : CodedCells)
+    → end ≤ length (facts_coded coded) → GathersOn coded of share end [] cells
+    → HasShare coded of share (take end (facts_coded coded)) cells
+GathersOn-none coded of share end cells inside on =
+    HasShare-to coded of share on.next end cells on.are.0 inside on.are.1 on.has
 
 -- ---- two kinds of facts, of cells that differ
 and-both : (m t x y : Bool) → ((m && (t || x)) || (m && (t || y))) ≡ (m && (t || (x || y)))

@@ -1,9 +1,9 @@
 //! The finest cells of many facts at once: each dimension is coded by itself, and the cells are filled in shares.
-ghost use Rattle.std.specs.Prelude.{◌≡◌, ◌<◌, ◌≤◌, ◌∷◌, ◌↔◌, [], true, get_or, length, map, option_map, sum_by, All, IfOk, IsTrue, OnOk, Ok};
+ghost use Rattle.std.specs.Prelude.{◌≡◌, ◌<◌, ◌≤◌, ◌∷◌, ◌↔◌, [], true, get_or, length, map, option_map, sum_by, take, All, IfOk, IsTrue, OnOk, Ok};
 ghost use Rattle.cube_core.specs.Layout.{IsSchema};
 ghost use Rattle.cube_core.specs.Takes.{fits};
 ghost use Rattle.cube_cells.specs.Fill.{AreMade, IsCubeOfAll, finest_set};
-ghost use Rattle.cube_cells.specs.Shares.{AreCoded, AreFinestCells, AreJoined, IsColumnOf, IsShare, Joins, PutsCode, codes_at, dictionaries_of, facts_coded, share_of, share_with, texts_had};
+ghost use Rattle.cube_cells.specs.Shares.{AreCoded, AreFinestCells, AreJoined, ArePlaces, AreValuesAt, HasShare, IsColumnOf, IsShare, Joins, PutsCode, codes_at, dictionaries_of, facts_coded, share_of, share_with, texts_had};
 
 use super::Cube;
 use super::cell_key::CellKey;
@@ -18,6 +18,9 @@ use cube_values::Numbers;
 use std::alloc::{AllocError, Global};
 use std::collections::HashMap;
 use std::thread::{Threads, map_indices};
+
+// How many facts are looked at for those of a share before these are added to their cells.
+const BLOCK: usize = 256;
 
 /// The codes of the values of facts in a dimension, in the order of the facts, and the texts that have codes.
 #[derive(Drop)]
@@ -290,17 +293,88 @@ fn share_cells<N: Numbers>(
     requires coded { AreCoded coded.now }
     ensures { IfOk result (IsShare coded.now of share) }
 {
-    let columns = coded.columns.as_slice();
-    let set = finest_of(columns.len());
-    let remainder = remainder_in(columns.len(), share, of);
+    let set = finest_of(coded.columns.len());
     let mut cells = HashMap::with_hasher(alloc, CellKey::under(coded.schema.hash_key()));
-    for (place, fact) in coded.facts.iter().enumerate() {
-        if is_in_share(columns, place, remainder, of) {
-            let codes = codes_at(columns, place);
-            gather_at(alloc, &mut cells, codes, fact.measures.as_slice())?;
-        }
+    let mut start = 0;
+    while start < coded.facts.len() {
+        let end = start + BLOCK.min(coded.facts.len() - start);
+        gather_block(alloc, &mut cells, coded, share, of, start, end)?;
+        start = end;
     }
     Ok(Level { set, cells })
+}
+
+// Adds the facts of a share, of so many, between two places to its cells. The values of all of them are looked up before the
+// cell of any: facts lie all over memory, and the processor then fetches those of several at once.
+fn gather_block<N: Numbers>(
+    alloc: Global,
+    cells: &mut Cells<N>,
+    coded: &CodedFacts<'_>,
+    share: u64,
+    of: u64,
+    start: usize,
+    end: usize,
+) -> Result<(), AllocError>
+    requires share { share < of }
+    requires coded { AreCoded coded.now }
+    requires order { start ≤ end }
+    requires within { end ≤ length coded.now.facts.now }
+    requires cells { HasShare coded.now of share (take start (facts_coded coded.now)) cells.old.entries }
+    ensures { OnOk result (HasShare coded.now of share (take end (facts_coded coded.now)) cells.new.entries) }
+{
+    let columns = coded.columns.as_slice();
+    let places = places_in(alloc, columns, share, of, start, end)?;
+    let values = values_at(alloc, coded.facts, &places)?;
+    for which in 0..places.len() {
+        let place = places[which];
+        let found = values[which];
+        gather_at(alloc, cells, codes_at(columns, place), found)?;
+    }
+    Ok(())
+}
+
+// The places of the facts of a share, of so many, between two places.
+fn places_in(
+    alloc: Global,
+    columns: &[Column],
+    share: u64,
+    of: u64,
+    start: usize,
+    end: usize,
+) -> Result<Vec<usize>, AllocError>
+    requires share { share < of }
+    requires few { length columns.now ≤ 8 }
+    requires order { start ≤ end }
+    requires inside { All (λ column. end ≤ length column.codes.items) columns.now }
+    ensures { IfOk result (λ places.
+        ArePlaces (λ place. share_of of (codes_at columns.now place)) share start places.items end) }
+{
+    let remainder = remainder_in(columns.len(), share, of);
+    let mut places = Vec::new(alloc);
+    for place in start..end {
+        if is_in_share(columns, place, remainder, of) {
+            places.push(place)?;
+        }
+    }
+    Ok(places)
+}
+
+// The values of the facts at these places.
+fn values_at<'f>(
+    alloc: Global,
+    facts: &'f [&'f Fact],
+    places: &[usize],
+) -> Result<Vec<&'f [Option<i64>]>, AllocError>
+    requires { All (λ place. place < length facts.now) places.now }
+    ensures { IfOk result (λ values. AreValuesAt (map (λ fact. fact.now) facts.now) places.now
+        (map (λ one. one.now) values.items)) }
+{
+    let mut values = Vec::with_capacity(alloc, places.len())?;
+    for place in places {
+        let fact = facts[*place];
+        values.push(fact.measures.as_slice())?;
+    }
+    Ok(values)
 }
 
 // Whether the fact at a place is in the share, of so many, whose codes leave this remainder. Every thread asks this of each fact,
@@ -338,7 +412,11 @@ fn remainder_in(dimensions: usize, share: u64, of: u64) -> u64
 {
     let others = 8 - dimensions as u64;
     let rest = others * u64::from(ALL) % of;
-    if share < rest { share + (of - rest) } else { share - rest }
+    if share < rest {
+        share + (of - rest)
+    } else {
+        share - rest
+    }
 }
 
 // The codes of the fact at a place.

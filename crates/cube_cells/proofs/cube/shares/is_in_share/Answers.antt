@@ -11,8 +11,7 @@ returns-else-of-eq1 c =
     let both = share_of-share_with c.args.columns.now c.args.place of c.args.remainder c.requires.remainder in
     let left : c.sum_at.result % of
     ≡ sum_by (λ (column : Column). get_or column.codes.items c.args.place 0) c.args.columns.now % of =
-    ap (λ (n : ℕ). n % of) c.sum_at.ensures in
-    (
+    ap (λ (n : ℕ). n % of) c.sum_at.ensures in (
       λ same. both.1 (sym left ∙ eqb-true (c.sum_at.result % of) c.args.remainder same),
       λ share. eq-eqb (c.sum_at.result % of) c.args.remainder (left ∙ both.0 share),
     )
