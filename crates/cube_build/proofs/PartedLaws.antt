@@ -17,7 +17,7 @@ use Rattle.cube_core.specs.declared.fact.Fact.{Fact}
 use Rattle.cube_cells.specs.Cube.{HoldsFact, IsCubeOf, Lattice, SameSets, TakesFact}
 use Rattle.cube_build.specs.Builder.{GainsFacts, HasFacts}
 use Rattle.cube_ledger.specs.Ledger.{AllFit, AtSource, Exchanges, LedgerView, all_facts, with_refusal}
-use Rattle.cube_build.specs.Parted.{AllFill, AllSettle, AreBehind, ArePartsOver, ArePartsWith, IsPartOver, LosesFacts}
+use Rattle.cube_build.specs.Parted.{AllSettle, AreBehind, ArePartsOver, ArePartsWith, IsPartOver, LosesFacts}
 use Rattle.cube_build.specs.Parted.{MaySettle, Settles}
 use Rattle.cube_build.specs.declared.parted.Part.{Part}
 use Rattle.cube_build.proofs.BuilderLaws.{HasFacts-permutation, HasFacts-remove, HoldsFact-HasFacts, SameSets-trans}
@@ -88,21 +88,6 @@ Settles-both come gone old mid new gains loses = record {
 }
 
 -- ---- the cubes of all parts
-
--- a cube that is behind may settle
-pub MaySettle-behind : (ledger : LedgerView) (parts : List Part) (come gone : List Fact) (part : ℕ) (d : Part)
-    → part < length parts → AreBehind ledger parts come gone
-    → MaySettle come gone (get_or parts part d).cube
-MaySettle-behind ledger parts come gone part d below behind =
-    let at = behind.each part d below in
-    record {
-      come_fit = subst (λ (s : Layout). AllFit s come) (sym at.over.schema) behind.come_fit;
-      gone_fit = subst (λ (s : Layout). AllFit s gone) (sym at.over.schema) behind.gone_fit;
-      counted = at.counted;
-      left = all_facts ledger.accounts;
-      has = at.has;
-      owed = at.owed;
-    }
 
 -- when all have settled none is behind
 pub AreBehind-settled : (ledger : LedgerView) (old new : List Part) (come gone : List Fact) → length new ≡ length old
@@ -258,24 +243,6 @@ ArePartsOver-more s count parts next is are part d below = elim (cases_lt part (
       let at : part ≡ length parts = omega (arith, past, below, length-append parts (next ∷ [])) in
       rw (at, get_or-append_seam parts next [] d) is
 ]
-
--- parts over their sets that were filled have the facts
-pub ArePartsWith-filled : (s : Layout) (facts : List Fact) (count : ℕ) (old new : List Part) → 1 ≤ count
-    → length old ≡ count → length new ≡ length old → ArePartsOver s count old → AllFill facts old new
-    → ((part : ℕ) (d : Part) → part < length new → (get_or new part d).is_spent ≡ false) → ArePartsWith s facts new
-ArePartsWith-filled s facts count old new some long same over fill none =
-    let number : length new ≡ count = same ∙ long in
-    record {
-      some = omega (arith, number, some);
-      each = λ part d below.
-          let inside : part < length old = omega (arith, same, below) in
-          let at = over part d inside in
-          let filled = fill part d inside (none part d below) in
-          rw number (record {
-            over = record { schema = filled.same.schema ∙ at.schema; sets = filled.same.sets ∙ at.sets };
-            has = filled.has;
-          });
-    }
 
 -- what is left of facts from a place on
 pub next-fact : (facts : List Fact) (place : ℕ) (fact : Fact) → place < length facts → fact ≡ get_or facts place fact

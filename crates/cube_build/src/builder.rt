@@ -175,8 +175,8 @@ impl Builder {
 }
 
 impl Builder<Summary> {
-    /// The builder of a ledger as [`Builder::of`] makes it, with the cube's cells made by as many threads as this says.
-    /// With one thread, or none, no thread is started.
+    /// The builder of a ledger as [`Builder::of`] makes it, with the cells over the finest grouping set made by as many
+    /// threads as this says. With one thread, or none, no thread is started.
     pub fn of_with<T: Threads + Sync>(
         rt: &T,
         threads: usize,

@@ -125,19 +125,14 @@ pub fn build_where<T: Threads + Wait + Sync, R: Read + Drop + Send, G: Gate + Sy
         return build_kept(rt, alloc, schema, readers, settings, gate, conditions);
     }
     let part = take_part(rt, alloc, schema, readers, settings, gate, conditions)?;
-    match filled(rt, alloc, settings.threads(), part) {
+    match filled(alloc, part) {
         Ok(built) => Ok(built),
         Err(_) => Err(FeedingFault::Full),
     }
 }
 
-// What is built of a part that was taken alone: its cube is filled by so many threads. The only error is that memory ran out.
-fn filled<T: Threads + Sync>(
-    rt: &T,
-    alloc: Global,
-    threads: usize,
-    part: MadePart,
-) -> Result<Built, AllocError>
+// What is built of a part that was taken alone: its cube is filled. The only error is that memory ran out.
+fn filled(alloc: Global, part: MadePart) -> Result<Built, AllocError>
     requires { IsOverFinest part.builder.cube }
     ensures { IfOk result (IsFilledFrom part) }
 {
@@ -145,7 +140,7 @@ fn filled<T: Threads + Sync>(
         builder: finest,
         inlets,
     } = part;
-    let builder = finest.filled(rt, alloc, threads)?;
+    let builder = finest.filled(alloc)?;
     let mut making = Making::with_room(alloc, 1)?;
     making.keep(MadePart { builder, inlets })?;
     Ok(Built::of(making))
@@ -179,8 +174,8 @@ fn build_kept<T: Threads + Wait + Sync, R: Read + Drop + Send, G: Gate + Sync>(
 }
 
 /// Builds the facts in the books of a ledger that took what it takes before: one builder over all grouping sets of its
-/// schema, whose cube is filled by so many threads. No feed was read, so there is no inlet. The only error is that memory
-/// ran out.
+/// schema, with the cells over the finest one made by so many threads. No feed was read, so there is no inlet. The only
+/// error is that memory ran out.
 pub fn build_ledger<T: Threads + Sync>(
     rt: &T,
     alloc: Global,

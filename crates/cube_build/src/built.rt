@@ -8,14 +8,13 @@ ghost use Rattle.cube_cells.specs.Rows.{AreRowsInOrder, GivesUnless};
 ghost use Rattle.cube_build.specs.Parts.{AreParts, AreRowsOfRun, IsRowOfRun, schema_of_run, facts_of_run};
 
 use crate::counts::Counts;
-use crate::joined::{DrillDown, Slice, count_parts, ordered_parts_with, row_above, rows_of_parts};
+use crate::joined::{DrillDown, Slice, count_parts, ordered_parts, row_above, rows_of_parts};
 use crate::making::{Links, Making};
 use cube_cells::{OrderedCells, Summary};
 use cube_core::{Key, Pattern, QueryFault, Row, Schema};
 use cube_rings::{Inlet, Parcel};
 use std::alloc::AllocError;
 use std::marker::Model;
-use std::thread::Threads;
 
 /// What the builders of a run counted, each over the grouping sets of its part, with their inlets, from which all was taken.
 ///
@@ -92,17 +91,12 @@ impl Built {
         count_parts(self.builders())
     }
 
-    /// The cells of all parts in key order, sorted by so many threads, for rows that are made one at a time. The only
-    /// error is that memory ran out.
-    pub fn ordered_with<T: Threads + Sync>(
-        &self,
-        rt: &T,
-        threads: usize,
-    ) -> Result<OrderedCells<'_, Summary>, AllocError>
+    /// The cells of all parts in key order, for rows that are made one at a time. The only error is that memory ran out.
+    pub fn ordered(&self) -> Result<OrderedCells<'_, Summary>, AllocError>
         ensures { IfOk result (λ ordered. (rows : List Row) → AreRowsInOrder ordered rows →
             AreRows (schema_of_run self.now) (facts_of_run self.now) rows) }
     {
-        ordered_parts_with(rt, threads, self.builders())
+        ordered_parts(self.builders())
     }
 
     /// The rows of all parts whose keys a pattern matches, in key order. The only error is that memory ran out.

@@ -11,7 +11,6 @@ use cube_cells::{Cube, Summary};
 use cube_ledger::Ledger;
 use std::alloc::{AllocError, Global};
 use std::marker::Model;
-use std::thread::Threads;
 
 /// What a run counted of its feeds: the refusals of each source, and the cube of a part, over the facts that survive.
 ///
@@ -67,19 +66,14 @@ impl Counts {
         Counts::new(ledger, cube, trace)
     }
 
-    /// The same counts over all grouping sets, whose cells are made by so many threads of those over the finest one. The only
-    /// error is that memory ran out.
-    pub(crate) fn filled<T: Threads + Sync>(
-        self,
-        rt: &T,
-        alloc: Global,
-        threads: usize,
-    ) -> Result<Counts, AllocError>
+    /// The same counts over all grouping sets, whose cells are made of those over the finest one. The only error is that
+    /// memory ran out.
+    pub(crate) fn filled(self, alloc: Global) -> Result<Counts, AllocError>
         requires { IsOverFinest self.cube }
         ensures { IfOk result (AreFilledFrom self) }
     {
         let mut cube = Cube::of_part(alloc, self.refused.schema(), 0, 1)?;
-        cube.fill_with(rt, threads, self.cube)?;
+        cube.fill(self.cube)?;
         Ok(Counts::new(self.refused, cube, self.trace))
     }
 

@@ -124,7 +124,8 @@ impl Draft {
         self.ledger.keep(conditions);
     }
 
-    /// The builder of the ledger, with the cube filled by so many threads. The only error is that memory ran out.
+    /// The builder of the ledger, with the cells over the finest grouping set made by so many threads. The only error is
+    /// that memory ran out.
     pub fn finish<T: Threads + Sync>(
         self,
         rt: &T,

@@ -60,8 +60,8 @@ pub fn add_counted(cube: &mut Cube, fact: &Fact) -> Result<(), AllocError>
     cube.add(fact)
 }
 
-/// Fills a cube as [`fill_cube`] does, with its cells made by as many threads as this says. With one thread, or none, no
-/// thread is started. The only error is that memory ran out.
+/// Fills a cube as [`fill_cube`] does, with the cells over the finest grouping set made by as many threads as this says.
+/// With one thread, or none, no thread is started. The only error is that memory ran out.
 pub fn fill_cube_with<T: Threads + Sync>(
     rt: &T,
     threads: usize,
@@ -72,7 +72,7 @@ pub fn fill_cube_with<T: Threads + Sync>(
     ensures { OnOk result (Fills (all_facts ledger.now.accounts) cube.old cube.new) }
 {
     let finest = finest_with(rt, threads.max(1), cube, ledger)?;
-    cube.fill_with(rt, threads, finest)?;
+    cube.fill(finest)?;
     Ok(())
 }
 

@@ -2,7 +2,6 @@
 ghost use Rattle.std.specs.Prelude.{◌≡◌, ◌<◌, Bool, List, IfOk, OnOk, length};
 ghost use Rattle.std.specs.List.Sorted.{IsPermutation, IsSortedBy};
 ghost use Rattle.std.specs.Ordering.{is_lt};
-ghost use Rattle.std.specs.Thread.{IsSync};
 ghost use Rattle.cube_core.specs.Layout.{Layout};
 ghost use Rattle.cube_core.specs.Order.{key_cmp};
 ghost use Rattle.cube_core.specs.Query.{drills_down, matches, rolled_up};
@@ -10,12 +9,11 @@ ghost use Rattle.cube_core.specs.declared.key.Key.{Key as TheKey};
 ghost use Rattle.cube_core.specs.declared.key.Row.{Row as TheRow};
 ghost use Rattle.cube_cells.specs.Cube.{Lattice};
 ghost use Rattle.cube_cells.specs.Rows.{AreRowsInOrder};
-ghost use Rattle.cube_build.specs.Joined.{AnswersIn, AnswersInWhole, ArePartsOfOne, AreRowsOfWhole, EachSchema, HasCellsOfWhole, IsRowOfWhole, OrdersCells, OrdersFirst};
+ghost use Rattle.cube_build.specs.Joined.{AnswersIn, AnswersInWhole, ArePartsOfOne, AreRowsOfWhole, EachSchema, HasCellsOfWhole, IsRowOfWhole, OrdersFirst};
 
-use cube_cells::{Cube, Numbers, OrderedCells, Summary};
+use cube_cells::{Cube, Numbers, OrderedCells};
 use cube_core::{Key, Pattern, Row};
 use std::alloc::AllocError;
-use std::thread::Threads;
 
 /// What has a cube.
 pub trait HoldsCube<N: Numbers> {
@@ -151,87 +149,16 @@ pub fn ordered_parts<N: Numbers, P: HoldsCube<N>>(
     ensures { IfOk result (λ cells. (rows : List TheRow) → AreRowsInOrder cells rows →
         AreRowsOfWhole P.lattice parts.now rows) }
 {
-    ordered_by(&Alone, parts)
-}
-
-/// The same, with the cells of each part sorted by so many threads.
-pub fn ordered_parts_with<'c, T: Threads + Sync, P: HoldsCube<Summary>>(
-    rt: &T,
-    threads: usize,
-    parts: &'c [P],
-) -> Result<OrderedCells<'c, Summary>, AllocError>
-    requires { ArePartsOfOne P.lattice parts.now }
-    ensures { IfOk result (λ cells. (rows : List TheRow) → AreRowsInOrder cells rows →
-        AreRowsOfWhole P.lattice parts.now rows) }
-{
-    ordered_by(&Several { rt, threads }, parts)
-}
-
-// Who puts the cells of a cube in key order.
-trait Orders<N: Numbers> {
-    // Threads may share what it needs.
-    ghost is_shared: { Self → Type 0 };
-
-    // The cells of a cube in key order.
-    fn ordered<'c>(&self, cube: &'c Cube<N>) -> Result<OrderedCells<'c, N>, AllocError>
-        requires { is_shared self.now }
-        ensures cube { IfOk result (OrdersCells cube.now) }
-        ensures aggregates { IfOk result (λ ordered.
-            ordered.aggregates ≡ cube.now.schema.aggregates) };
-}
-
-// This thread alone.
-#[derive(Drop)]
-struct Alone;
-
-impl<N: Numbers> Orders<N> for Alone {
-    ghost is_shared = { λ _. Unit {0} };
-
-    fn ordered<'c>(&self, cube: &'c Cube<N>) -> Result<OrderedCells<'c, N>, AllocError> {
-        cube.ordered()
-    }
-}
-
-// As many threads as this says, or fewer.
-#[derive(Drop)]
-struct Several<'r, T> {
-    rt: &'r T,
-    threads: usize,
-}
-
-impl<'r, T: Threads + Sync> Orders<Summary> for Several<'r, T> {
-    ghost is_shared = { λ _. IsSync T.row };
-
-    fn ordered<'c>(
-        &self,
-        cube: &'c Cube<Summary>,
-    ) -> Result<OrderedCells<'c, Summary>, AllocError> {
-        cube.ordered_with(self.rt, self.threads)
-    }
-}
-
-// The cells of all parts in key order, those of each part put in order by this one.
-fn ordered_by<'c, N: Numbers, O: Orders<N>, P: HoldsCube<N>>(
-    order: &O,
-    parts: &'c [P],
-) -> Result<OrderedCells<'c, N>, AllocError>
-    requires shared { O.is_shared order.now }
-    requires parts { ArePartsOfOne P.lattice parts.now }
-    ensures { IfOk result (λ cells. (rows : List TheRow) → AreRowsInOrder cells rows →
-        AreRowsOfWhole P.lattice parts.now rows) }
-{
-    let mut cells = order.ordered(parts[0].held())?;
-    join_others(order, parts, &mut cells)?;
+    let mut cells = parts[0].held().ordered()?;
+    join_others(parts, &mut cells)?;
     Ok(cells)
 }
 
 // Puts the cells of the other parts behind those of the first, and all in key order.
-fn join_others<'c, N: Numbers, O: Orders<N>, P: HoldsCube<N>>(
-    order: &O,
+fn join_others<'c, N: Numbers, P: HoldsCube<N>>(
     parts: &'c [P],
     cells: &mut OrderedCells<'c, N>,
 ) -> Result<(), AllocError>
-    requires shared { O.is_shared order.now }
     requires parts { ArePartsOfOne P.lattice parts.now }
     requires first { OrdersFirst P.lattice parts.now cells.old }
     ensures { OnOk result ((rows : List TheRow) → AreRowsInOrder cells.new rows →
@@ -241,7 +168,7 @@ fn join_others<'c, N: Numbers, O: Orders<N>, P: HoldsCube<N>>(
         return Ok(());
     }
     for part in 1..parts.len() {
-        cells.append(order.ordered(parts[part].held())?)?;
+        cells.append(parts[part].held().ordered()?)?;
     }
     cells.sort()
 }

@@ -31,10 +31,7 @@ pub use building::{build, build_ledger, build_where};
 pub use built::Built;
 pub use counts::Counts;
 pub use cube_rings::{FeedingFault, Gate, OpenGate, Parcel, Settings};
-pub use joined::{
-    AsksCube, DrillDown, HoldsCube, Slice, ordered_parts, ordered_parts_with, row_above,
-    rows_of_parts,
-};
+pub use joined::{AsksCube, DrillDown, HoldsCube, Slice, ordered_parts, row_above, rows_of_parts};
 pub use parted::{Part, Parted};
 pub use plain::build_plain;
 pub use taken::{Taken, take_ledger, take_where};

@@ -16,7 +16,7 @@ pub(crate) struct MadePart {
     pub inlets: Vec<Inlet<Parcel>>,
 }
 
-// The builder of a part, filled by so many threads, unless memory runs out.
+// The builder of a part, whose cells over the finest grouping set so many threads make, unless memory runs out.
 fn make<T: Threads + Sync>(rt: &T, threads: usize, gatherer: Gatherer<Draft>) -> Option<MadePart>
     ensures { IfSome result (IsMadePart gatherer) }
 {
@@ -32,7 +32,8 @@ fn make<T: Threads + Sync>(rt: &T, threads: usize, gatherer: Gatherer<Draft>) ->
 }
 
 /// The builder of each part, where memory didn't run out for it. Each is made on a thread of its own, where one can be
-/// started, and fills its cube by its share of so many threads. The only error is that memory ran out.
+/// started, and makes its cells over the finest grouping set by its share of so many threads. The only error is that
+/// memory ran out.
 pub(crate) fn make_all<T: Threads + Sync>(
     rt: &T,
     threads: usize,

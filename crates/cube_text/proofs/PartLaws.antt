@@ -1,20 +1,16 @@
--- How the text of parts of the cells grows, and what the text of all parts is.
-use Rattle.std.proofs.Common.{◌≡◌, ◌∙◌, ℕ, suc, ap, ◌+◌, ◌*◌, ◌-◌, ◌<◌, List, ◌++◌, ◌∷◌, [], length, take, get_or, refl}
-use Rattle.std.proofs.Common.{sym, append_assoc, add-zero, arith}
-use Rattle.std.specs.Prelude.{min}
-use Rattle.std.specs.Global.{Vec}
+-- How the text of the first cells grows, up to that of all cells.
+use Rattle.std.proofs.Common.{◌≡◌, ◌∙◌, ℕ, ap, ◌+◌, ◌<◌, List, ◌++◌, ◌∷◌, [], length, take, get_or}
+use Rattle.std.proofs.Common.{sym, append_assoc, arith}
 use Rattle.std.specs.List.{AllZip, flat_map}
 use Rattle.std.proofs.lemmas.Grind.{flat_map-append}
 use Rattle.std.proofs.lemmas.List.Concat.{flat_map-cons}
-use Rattle.std.proofs.lemmas.List.{append-nil, take_more, take_all, take_min}
-use Rattle.std.proofs.Math.Nat.{mul-suc}
+use Rattle.std.proofs.lemmas.List.{append-nil, take_more, take_all}
 use Rattle.cube_core.specs.declared.key.Key.{Key}
 use Rattle.cube_core.specs.declared.key.Row.{Row}
 use Rattle.cube_core.proofs.ListLaws.{AllZip-push}
 use Rattle.cube_cells.specs.Rows.{CellsInOrder, IsRowOf}
 use Rattle.cube_cells.specs.Tally.{Tally}
-use Rattle.cube_lines.specs.Pieces.{text_of_pieces}
-use Rattle.cube_text.specs.Rows.{AddsRow, GoesOn, IsTextOfPart, RowsGoOn, line_with}
+use Rattle.cube_text.specs.Rows.{AddsRow, GoesOn, RowsGoOn, line_with}
 
 -- no row of no cell
 RowsGoOn-none : (o : CellsInOrder) (from : ℕ) → RowsGoOn o from from []
@@ -77,40 +73,6 @@ GoesOn-both digits o from at to old mid new first second = record {
       ∙ append_assoc old (flat_map (line_with digits) first.rows) (flat_map (line_with digits) second.rows)
       ∙ ap (λ t. old ++ t) (sym (flat_map-append (line_with digits) first.rows second.rows));
 }
-
--- places past the last cell are the place behind it
-pub RowsGoOn-within : (o : CellsInOrder) (from to at end : ℕ) (rows : List Row) → at ≡ min from (length o.cells)
-    → end ≡ min to (length o.cells) → RowsGoOn o at end rows → RowsGoOn o from to rows
-RowsGoOn-within o from to at end rows start stop go_on before are =
-    let first = take_min from o.cells in
-    let last = take_min to o.cells in
-    rw (← last, ← stop) (go_on before (rw (← first, ← start) at are))
-
--- where a part ends that begins at a place
-pub end_of_part : (size which n at : ℕ) → at ≡ min (size * which) n
-    → at + min (n - at) size ≡ min (size * (which + 1)) n
-end_of_part size which n at start = omega (arith, mul-suc size which)
-
--- the text of parts that stand one after the other, from the cells up to a place on
-pub text_of_parts : (digits : List ℕ) (o : CellsInOrder) (size from : ℕ) (before : List Row) (pieces : List (Vec ℕ))
-    → AllZip (IsRowOf o.aggregates) (take (size * from) o.cells) before
-    → ((i at : ℕ) (unused : Vec ℕ) → at ≡ from + i → i < length pieces
-    → IsTextOfPart digits o (size * at) (size * (at + 1)) (get_or pieces i unused).items)
-    → (rows : List Row) × AllZip (IsRowOf o.aggregates) (take (size * (from + length pieces)) o.cells) (before ++ rows)
-    × (text_of_pieces pieces ≡ flat_map (line_with digits) rows)
-text_of_parts digits o size from before [] are each = ([], rw (append-nil before, add-zero from) are, refl)
-text_of_parts digits o size from before (piece ∷ pieces) are each =
-    let part = each 0 from piece (omega arith) (omega arith) in
-    let next = part.go_on before are in
-    let rest = text_of_parts digits o size (from + 1) (before ++ part.rows) pieces next
-    (λ i at unused e inside. each (suc i) at unused (omega (arith, e)) (omega (arith, inside))) in
-    let count : from + 1 + length pieces ≡ from + suc (length pieces) = omega arith in (
-      part.rows ++ rest.0,
-      rw (← append_assoc before part.rows rest.0, ← count) rest.1,
-      ap (λ (l : List ℕ). l ++ text_of_pieces pieces) part.text_is
-          ∙ ap (λ (l : List ℕ). flat_map (line_with digits) part.rows ++ l) rest.2
-          ∙ sym (flat_map-append (line_with digits) part.rows rest.0),
-    )
 
 -- the rows of all cells
 pub RowsGoOn-all : (o : CellsInOrder) (n : ℕ) (rows : List Row) → n ≡ length o.cells → RowsGoOn o 0 n rows

@@ -42,13 +42,6 @@ pub record AllShownBelow (dictionaries : Dictionaries) (dimension : ℕ) (shown 
   pub long : length shown ≡ dimension
   pub are : AreShown dictionaries shown
 
-pub AllShownBelow-none : (dictionaries : Dictionaries) (shown : List Shown) → shown ≡ []
-    → AllShownBelow dictionaries 0 shown
-AllShownBelow-none dictionaries shown is = record {
-  long = ap length is;
-  are = record { each = λ d unused inside. absurd (omega (arith, inside, ap length is)) };
-}
-
 pub AllShownBelow-more : (dictionaries : Dictionaries) (dimension : ℕ) (shown : List Shown) (one : Shown)
     → AllShownBelow dictionaries dimension shown → IsShown (get_or dictionaries dimension []) one
     → AllShownBelow dictionaries (dimension + 1) (shown ++ one ∷ [])

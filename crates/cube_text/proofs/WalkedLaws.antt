@@ -1,5 +1,5 @@
 -- Laws of a text to which a walk adds the line of the row of each cell.
-use Rattle.std.proofs.Common.{◌≡◌, ◌∙◌, ◌++◌, ◌+◌, ◌<◌, ◌≤◌, ◌∷◌, [], ℕ, List, Bor, length, take, get_or, refl, sym, ap, subst}
+use Rattle.std.proofs.Common.{◌≡◌, ◌∙◌, ◌++◌, ◌+◌, ◌<◌, ◌∷◌, [], ℕ, List, Bor, length, take, get_or, refl, sym, ap, subst}
 use Rattle.std.proofs.Common.{append_assoc, arith, length-append, suc}
 use Rattle.std.specs.Global.{Vec}
 use Rattle.std.proofs.lemmas.Grind.{flat_map-append}
@@ -33,7 +33,7 @@ use Rattle.cube_lines.specs.Parts.{AddsParts, parts}
 use Rattle.cube_lines.specs.Pieces.{GathersPieces, text_of_pieces}
 use Rattle.cube_text.specs.Rows.{AddsRow, IsAnswerOf, line_with}
 use Rattle.cube_text.specs.Shown.{AreShown}
-use Rattle.cube_text.specs.Walked.{AddsAnswers, IsTextOfPart, IsTextOfRows}
+use Rattle.cube_text.specs.Walked.{IsTextOfPart, IsTextOfRows}
 use Rattle.cube_text.specs.declared.shown.Shown.{Shown}
 use Rattle.cube_text.specs.WalkedRows.{TakesRow}
 use Rattle.cube_text.specs.declared.walked.RowsText.{RowsText}
@@ -84,14 +84,6 @@ HasAnswersBelow-more s cell i k a old now new has inside k_is is adds = record {
 
   whole : take (i + 1) more ≡ more
   whole = take_all (i + 1) more (omega (arith, length-append has.answers (a ∷ []), has.long))
-
-pub AddsAnswers-all : (s : Layout) (cell : Tally) (i : ℕ) (old new : List ℕ) → HasAnswersBelow s cell i old new
-    → length s.aggregates ≤ i → AddsAnswers s cell old new
-AddsAnswers-all s cell i old new has past = record {
-  answers = has.answers;
-  are = rw (take_all i s.aggregates past) at has.are;
-  added = rw (take_all i (digits_of_answers s) (omega (arith, past, length-map s.aggregates (digits_of s)))) at has.added;
-}
 
 -- ---- rows
 -- cells that were taken have rows, whose lines were added

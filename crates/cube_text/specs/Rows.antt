@@ -43,12 +43,6 @@ pub record GoesOn (digits : List ℕ) (o : CellsInOrder) (from to : ℕ) (old ne
   pub go_on : RowsGoOn o from to rows
   pub added : new ≡ old ++ flat_map (line_with digits) rows
 
--- this is the text of the lines of the rows of the cells from a place to another
-pub record IsTextOfPart (digits : List ℕ) (o : CellsInOrder) (from to : ℕ) (text : List ℕ) : Type 0 where
-  pub rows : List Row
-  pub go_on : RowsGoOn o from to rows
-  pub text_is : text ≡ flat_map (line_with digits) rows
-
 -- the answer of an aggregate over any facts that this is the tally of
 abbrev pub IsAnswerOf : Agg → Tally → Answer → Type 0
 IsAnswerOf aggregate tally a = (facts : List Fact) → IsTallyOf facts tally → IsAnswer facts aggregate a

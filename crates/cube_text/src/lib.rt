@@ -1,8 +1,8 @@
 //! The text of a cube: lines of comma-separated fields, gathered in memory.
 //!
-//! [`print_rows`] and [`print_cells`] give the printed text of rows, and [`print_cells_in_pieces`] gives it in pieces,
-//! each of which a thread makes. [`print_walked`] prints the cube of the facts of finest cells, with no other cell kept, and [`print_walked_in_pieces`]
-//! does so on several threads. [`Lines`] are the lines that all texts of the program are made of.
+//! [`print_rows`] and [`print_cells`] give the printed text of rows. [`print_walked`] prints the cube of the facts of finest
+//! cells, with no other cell kept, and [`print_walked_in_pieces`] gives that text in pieces, each of which a thread makes.
+//! [`Lines`] are the lines that all texts of the program are made of.
 #![tactic(auto)]
 
 mod fields;
@@ -12,5 +12,5 @@ mod shown;
 mod walked;
 
 pub use lines::{Lines, end_line, into_text, no_lines, put_field};
-pub use print::{print_cells, print_cells_in_pieces, print_rows};
+pub use print::{print_cells, print_rows};
 pub use walked::{print_walked, print_walked_in_pieces};

@@ -1,22 +1,21 @@
 //! The rows of a cube as text.
 
-ghost use Rattle.std.specs.Prelude.{◌≡◌, ℕ, ◌<◌, ◌≤◌, ◌+◌, ◌*◌, ◌++◌, min, length, get_or, map, All, OnOk, IfOk};
+ghost use Rattle.std.specs.Prelude.{◌≡◌, ◌<◌, ◌≤◌, ◌+◌, ◌++◌, length, get_or, map, All, OnOk, IfOk};
 ghost use Rattle.std.specs.List.{flat_map};
 ghost use Rattle.cube_core.specs.Text.{line, header_fields, coord_text, grouping_text, answer_texts, digits_of_answers, text_of_rows};
 ghost use Rattle.cube_lines.specs.Parts.{AddsParts};
-ghost use Rattle.cube_text.specs.Rows.{AddsRow, AreColumns, GoesOn, IsColumn, IsTextOfCells, IsTextOfPart, answers_at, line_with};
+ghost use Rattle.cube_text.specs.Rows.{AddsRow, AreColumns, GoesOn, IsColumn, IsTextOfCells, answers_at, line_with};
 ghost use Rattle.cube_core.specs.declared.key.Key.{Key};
 ghost use Rattle.cube_cells.specs.Rows.{AreAnswersOf};
 ghost use Rattle.cube_cells.specs.Tally.{Tally};
 ghost use Rattle.cube_text.specs.Shape.{HasShapeOf};
 
 use crate::fields::{close_line, push_coord, push_grouping};
-use cube_cells::{CoordRef, KeyedCell, Numbers, OrderedCells, Summary};
+use cube_cells::{CoordRef, KeyedCell, Numbers, OrderedCells};
 use cube_core::{Agg, Answer, Coord, Row, Schema};
-use cube_lines::{Pieces, push_answer, push_header};
+use cube_lines::{push_answer, push_header};
 use itoa::Buffer;
 use std::alloc::{AllocError, Global};
-use std::thread::{Threads, map_indices};
 
 // For how many lines the answers are found at a time.
 const BLOCK: usize = 64;
@@ -50,50 +49,6 @@ pub fn print_cells<N: Numbers>(
     Ok(text)
 }
 
-/// The text that [`print_cells`] gives, in pieces: the cells are cut into as many parts as there are threads, and each
-/// thread makes the lines of one. With one thread, or none, no thread is started.
-///
-/// The only error is that memory ran out.
-pub fn print_cells_in_pieces<T: Threads + Sync>(
-    rt: &T,
-    alloc: Global,
-    schema: &Schema,
-    cells: &OrderedCells<'_, Summary>,
-    threads: usize,
-) -> Result<Pieces, AllocError>
-    ensures { IfOk result (IsTextOfCells schema.now cells.now) }
-{
-    let digits = digits_of_answers(alloc, schema)?;
-    let header = text_of_header(alloc, schema)?;
-    let parts = threads.max(1);
-    let size = cells.len().div_ceil(parts);
-    let texts = texts_of_parts(rt, alloc, digits.as_slice(), cells, size, parts)?;
-    Pieces::of(alloc, header, texts)
-}
-
-// The lines of the cells of each part, each made on a thread of its own.
-fn texts_of_parts<T: Threads + Sync>(
-    rt: &T,
-    alloc: Global,
-    digits: &[u8],
-    cells: &OrderedCells<'_, Summary>,
-    size: usize,
-    parts: usize,
-) -> Result<Vec<Result<Vec<u8>, AllocError>>, AllocError>
-    requires { All (λ k. k ≤ 18) digits.now }
-    ensures long { IfOk result (λ texts. length texts.items ≡ parts) }
-    ensures each { IfOk result (λ texts. (i : ℕ) (unused : _) → i < parts →
-        IfOk (get_or texts.items i unused) (λ text.
-        IsTextOfPart digits.now cells.now (size * i) (size * (i + 1)) text.items)) }
-{
-    map_indices(
-        rt,
-        alloc,
-        parts,
-        &|which| { text_of_part(alloc, digits, cells, size, which) },
-    )
-}
-
 // How many digits stand behind the point of the answers to each of the schema's aggregates, at most 18.
 fn digits_of_answers(alloc: Global, schema: &Schema) -> Result<Vec<u8>, AllocError>
     ensures value { IfOk result (λ digits. digits.items ≡ digits_of_answers schema.now) }
@@ -114,38 +69,6 @@ pub(crate) fn text_of_header(alloc: Global, schema: &Schema) -> Result<Vec<u8>, 
     let mut text = Vec::new(alloc);
     push_header(alloc, &mut text, schema)?;
     Ok(text)
-}
-
-// The lines of the cells of a part, where each part but the last has as many cells as the size says.
-fn text_of_part<N: Numbers>(
-    alloc: Global,
-    digits: &[u8],
-    cells: &OrderedCells<'_, N>,
-    size: usize,
-    which: usize,
-) -> Result<Vec<u8>, AllocError>
-    requires { All (λ k. k ≤ 18) digits.now }
-    ensures { IfOk result (λ text.
-        IsTextOfPart digits.now cells.now (size * which) (size * (which + 1)) text.items) }
-{
-    let from = place_within(cells, size, which);
-    let mut text = Vec::new(alloc);
-    put_cells(
-        alloc,
-        &mut text,
-        digits,
-        cells,
-        from,
-        from + (cells.len() - from).min(size),
-    )?;
-    Ok(text)
-}
-
-// The place at which a part begins.
-fn place_within<N: Numbers>(cells: &OrderedCells<'_, N>, size: usize, which: usize) -> usize
-    ensures { result ≡ min (size * which) (length cells.now.cells) }
-{
-    size.saturating_mul(which).min(cells.len())
 }
 
 // Puts the lines of rows at the end of a text.

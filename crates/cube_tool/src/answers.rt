@@ -21,20 +21,17 @@ use crate::reporter::Reporter;
 use cube_build::{Builder, Built, Counts};
 use cube_core::{Key, Pattern, Row, Schema};
 use cube_ledger::Ledger;
-use cube_lines::{write_pieces, write_whole};
+use cube_lines::write_whole;
 use cube_live::print_refusals;
-use cube_text::{print_cells, print_cells_in_pieces, print_rows};
+use cube_text::{print_cells, print_rows};
 use std::alloc::{AllocError, Global};
 use std::io::Write;
-use std::thread::Threads;
 
 /// Writes the answer to a question over what was built of a schema, and tells a reporter what begins.
-pub fn answer<T: Threads + Sync, P: Reporter, W: Write>(
-    rt: &T,
+pub fn answer<P: Reporter, W: Write>(
     alloc: Global,
     schema: &Schema,
     built: &Built,
-    threads: usize,
     question: &Question,
     reporter: &P,
     out: &mut W,
@@ -45,7 +42,7 @@ pub fn answer<T: Threads + Sync, P: Reporter, W: Write>(
         result (W.contents out.old) (W.contents out.new) }
 {
     match question {
-        Question::Cube => { told(write_cube(rt, alloc, schema, built, threads, reporter, out)) }
+        Question::Cube => told(write_cube(alloc, schema, built, reporter, out)),
         Question::Slice { pattern } => told(write_slice(alloc, schema, built, pattern, out)),
         Question::Drill { key, dimension } => {
             write_drill(alloc, schema, built, key, *dimension, out)
@@ -67,14 +64,11 @@ pub(crate) fn told(written: Result<(), TextFault>) -> Result<(), Failure>
     Ok(written?)
 }
 
-/// Writes the printed cube of what was built of a schema, which so many threads sort and print, and tells a reporter
-/// what begins.
-pub fn write_cube<T: Threads + Sync, P: Reporter, W: Write>(
-    rt: &T,
+/// Writes the printed cube of what was built of a schema, and tells a reporter what begins.
+pub fn write_cube<P: Reporter, W: Write>(
     alloc: Global,
     schema: &Schema,
     built: &Built,
-    threads: usize,
     reporter: &P,
     out: &mut W,
 ) -> Result<(), TextFault>
@@ -82,11 +76,10 @@ pub fn write_cube<T: Threads + Sync, P: Reporter, W: Write>(
     ensures { Writes (Tells Question.Cube schema.now (facts_of_run built.now) (refusals_of_run built.now))
         result (W.contents out.old) (W.contents out.new) }
 {
-    let cells = built.ordered_with(rt, threads)?;
+    let cells = built.ordered()?;
     reporter.begins_writing(Some(cells.len()));
-    let text = print_cells_in_pieces(rt, alloc, schema, &cells, threads)?;
-    write_pieces(out, &text)?;
-    Ok(())
+    let text = print_cells(alloc, schema, &cells)?;
+    write_text(&text, out)
 }
 
 /// Writes the printed cube of a builder over all grouping sets of a schema.

@@ -38,8 +38,7 @@ pub fn run<T: Threads + Wait + Sync, R: Read + Drop + Send, G: Gate + Sync, W: W
 {
     let built = build(rt, alloc, schema, readers, settings, gate)?;
     has_builder(&built);
-    let threads = settings.threads();
-    write_cube(rt, alloc, schema, &built, threads, &OpenGate, out)?;
+    write_cube(alloc, schema, &built, &OpenGate, out)?;
     Ok(built)
 }
 

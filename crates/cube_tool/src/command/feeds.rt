@@ -132,10 +132,7 @@ fn ask_built<T: Threads + Wait + Sync, R: Read + Drop + Send, G: Gate + Reporter
     let conditions = terms.conditions.as_slice();
     let built = build_where(rt, alloc, schema, readers, settings, watcher, conditions)?;
     has_builder(&built);
-    let threads = settings.threads();
-    let status = answer_on(
-        rt, alloc, schema, &built, threads, question, terms, watcher, out,
-    )?;
+    let status = answer_on(alloc, schema, &built, question, terms, watcher, out)?;
     Ok((status, Fed::Built(built)))
 }
 
@@ -191,12 +188,10 @@ fn taken_on<T: Threads + Sync>(
 
 // Writes the answer to a question over what was built of a schema, unless a line was refused and none may be, or there are
 // more cells than there may be; a reporter is told what begins.
-fn answer_on<T: Threads + Sync, P: Reporter, W: Write>(
-    rt: &T,
+fn answer_on<P: Reporter, W: Write>(
     alloc: Global,
     schema: &Schema,
     built: &Built,
-    threads: usize,
     question: &Question,
     terms: &Terms,
     reporter: &P,
@@ -212,7 +207,7 @@ fn answer_on<T: Threads + Sync, P: Reporter, W: Write>(
     refuse_none(terms.is_strict, refused_of(built))?;
     refuse_built(terms.max_cells, built)?;
     tell_of(reporter, question, first_builder(built).facts());
-    answer(rt, alloc, schema, built, threads, question, reporter, out)?;
+    answer(alloc, schema, built, question, reporter, out)?;
     Ok(status_of_run(built))
 }
 

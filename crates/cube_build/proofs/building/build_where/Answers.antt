@@ -14,7 +14,7 @@ built g c =
     c.in_ok-part.part c.in-Ok.built c.in_ok-part.ensures.ok c.in-Ok.ensures
 
 pub filled-requires : goal.filled-requires
-filled-requires g c = (search rules, c.in_ok-part.ensures.ok.finest)
+filled-requires g c = c.in_ok-part.ensures.ok.finest
 
 pub returns-in-Ok-clause-ok : goal.returns-in-Ok-clause-ok
 returns-in-Ok-clause-ok g c =

@@ -5,9 +5,9 @@ use Rattle.cube_build.proofs.fill.fill_cube_with.Goals as goal
 pub returns : goal.returns
 returns g c =
     let facts = all_facts c.args.ledger.now.accounts in
-    let all : IsCubeOfAll facts c.fill_with.new.self =
-    c.in_ok-fill_with.ensures.facts facts c.in_ok-finest.ensures.facts in
+    let all : IsCubeOfAll facts c.fill.new.self =
+    c.in_ok-fill.ensures.facts facts c.in_ok-finest.ensures.facts in
     record {
-      same = c.in_ok-fill_with.ensures.same;
+      same = c.in_ok-fill.ensures.same;
       has = record { cells = all.cells; facts_are = all.facts_are };
     }

@@ -1,7 +1,7 @@
 use Rattle.std.proofs.Common.{◌≡◌, rules, subst}
 use Rattle.cube_cells.specs.Cube.{Lattice}
 use Rattle.cube_build.specs.Joined.{OrdersCells}
-use Rattle.cube_build.proofs.joined.ordered_by.Goals as goal
+use Rattle.cube_build.proofs.joined.ordered_parts.Goals as goal
 
 pub join_others-requires-clause-first : goal.join_others-requires-clause-first
 join_others-requires-clause-first g c =
