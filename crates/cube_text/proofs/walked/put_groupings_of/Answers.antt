@@ -1,4 +1,4 @@
-use Rattle.std.proofs.Common.{◌<◌, ◌≤◌, ◌∙◌, ◌++◌, ◌∷◌, [], ap, arith, get_or, length, map, refl, subst, List}
+use Rattle.std.proofs.Common.{◌<◌, ◌≤◌, ◌∙◌, ◌++◌, ◌∷◌, [], ap, arith, get_or, length, map, refl, subst, ℕ, List}
 use Rattle.std.proofs.lemmas.List.{take_all}
 use Rattle.cube_core.specs.Text.{grouping_text}
 use Rattle.cube_core.specs.declared.key.Coord.{Coord}
