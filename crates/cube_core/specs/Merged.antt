@@ -1,6 +1,6 @@
 -- The merged rows of cubes over parts of the facts: each key of any of them once, with what its answers make together
 -- (Gray et al. 1997: COUNT, SUM, MIN and MAX are distributive, AVG is algebraic, made of SUM and COUNT).
-use Rattle.std.specs.Prelude.{◌≡◌, ◌↔◌, ⊤, ℕ, zero, suc, ℤ, List, map, filter, get_or, sum_by, slice_get, Contains}
+use Rattle.std.specs.Prelude.{◌≡◌, ◌↔◌, ⊤, ⊥, ℕ, zero, suc, ℤ, List, map, filter, get_or, sum_by, slice_get, Contains}
 use Rattle.std.specs.Prelude.{Option, Some, None}
 use Rattle.std.specs.List.{AllByRecursion, AllZip, filter_map}
 use Rattle.std.specs.List.Sorted.{IsStrictlySortedBy}
@@ -12,6 +12,7 @@ use Rattle.cube_core.specs.Group.{total_of}
 use Rattle.cube_core.specs.Order.{key_cmp}
 use Rattle.cube_core.specs.declared.aggregate.Agg.{Agg}
 use Rattle.cube_core.specs.declared.aggregate.Agg.TheVariants.{CountAll, Count, Sum, Min, Max, Avg}
+use Rattle.cube_core.specs.declared.aggregate.Agg.TheVariants.{CountDistinct, PercentileDisc}
 use Rattle.cube_core.specs.declared.aggregate.Answer.{Answer}
 use Rattle.cube_core.specs.declared.aggregate.Answer.TheVariants as answer
 use Rattle.cube_core.specs.declared.key.Key.{Key}
@@ -40,7 +41,8 @@ abbrev pub numbers_of : List Answer → List ℤ
 numbers_of answers = filter_map number_in answers
 
 -- what an aggregate's answers to the parts make of the whole: counts and sums are added, the least of the least
--- and the greatest of the greatest values is taken, null where all are null; of means alone nothing is made
+-- and the greatest of the greatest values is taken, null where all are null; of means alone nothing is made, and neither is a distinct count nor a percentile of theirs:
+-- what each is made of isn't answered yet
 abbrev pub MakesAnswer : Agg → List Answer → Answer → Type 0
 MakesAnswer CountAll parts a = a ≡ answer.Count (sum_of_counts parts)
 MakesAnswer (Count m) parts a = a ≡ answer.Count (sum_of_counts parts)
@@ -48,6 +50,8 @@ MakesAnswer (Sum m) parts a = IsSum (numbers_of parts) a
 MakesAnswer (Min m) parts a = IsLeast (numbers_of parts) a
 MakesAnswer (Max m) parts a = IsGreatest (numbers_of parts) a
 MakesAnswer (Avg m) parts a = ⊤
+MakesAnswer (CountDistinct m) parts a = ⊥
+MakesAnswer (PercentileDisc m units places) parts a = ⊥
 
 -- the mean of so many values with this sum, as a fraction in lowest terms, null where there is none
 abbrev pub IsMeanOf : ℤ → ℕ → Answer → Type 0
