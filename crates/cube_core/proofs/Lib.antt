@@ -13,6 +13,8 @@ mod FeedDocumentLaws
 mod SchemaLaws
 pub mod AmendmentLaws
 pub mod ItemLaws
+pub mod LevelLaws
+pub mod PercentileSpellingLaws
 pub mod LifeLaws
 pub mod RefusalLaws
 pub mod KeyOrderLaws
