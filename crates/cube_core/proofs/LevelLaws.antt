@@ -191,8 +191,7 @@ level_text-range zero units digit last front text some is small split long below
 level_text-range (suc places) units digit last front text some is small split long below =
     let next : suc places + 1 ≡ suc (suc places) = omega arith in
     let more : 10 ^ suc (suc places) ≡ 10 * 10 ^ suc places = pow-succ' 10 (suc places) in
-    let as_many = length-append front (last ∷ []) in
-    (
+    let as_many = length-append front (last ∷ []) in (
       rw next (omega (arith, small, below, more)),
       omega (arith, long, ap length split, as_many, ap length is, level_text-length places units),
     )
