@@ -1,5 +1,6 @@
 -- The schema of a cube: what its feeds hold and which aggregates it shows (this project's choice).
-use Rattle.std.specs.Prelude.{◌≡◌, ◌<◌, ◌≤◌, ◌+◌, ◌/◌, ◌%◌, ◌&&◌, ◌||◌, ◌==◌, nat_lt, nat_le, ℕ, zero, suc, Bool, true, false, not, List, [], ◌∷◌, ◌++◌, ◌^◌}
+use Rattle.std.specs.Prelude.{◌≡◌, ◌<◌, ◌≤◌, ◌+◌, ◌/◌, ◌%◌, ◌&&◌, ◌||◌, ◌==◌, nat_lt, nat_le, ℕ, zero, suc}
+use Rattle.std.specs.Prelude.{Bool, true, false, not, List, [], ◌∷◌, ◌++◌, ◌^◌}
 use Rattle.std.specs.Prelude.{length, map, codes, get_or, All, Option, None, IfSome, is_some}
 use Rattle.std.specs.Str.{bytes_eq}
 use Rattle.std.specs.List.{list_any, list_all}
