@@ -1,5 +1,5 @@
 -- Two numbers, each divided by their greatest common divisor, are a fraction in lowest terms.
-use Rattle.std.proofs.Common.{◌≡◌, ℕ, ◌*◌, ◌/◌, ◌<◌, ◌≤◌, sym, ap, subst, arith}
+use Rattle.std.proofs.Common.{ℕ, ◌*◌, ◌/◌, ◌<◌, ◌≤◌, sym, ap, subst, arith}
 use Prim.Native.Nat.{◌∣◌}
 use Rattle.std.specs.Int.{IsGcd}
 use Rattle.std.proofs.Math.Nat.{one-dvd, one-mul, dvd-mul_right, mul-dvd-mul_right, dvd_of_mul-dvd-mul_right}

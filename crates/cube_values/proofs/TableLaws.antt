@@ -1,5 +1,5 @@
 -- Laws of a table whose entries are in the order of their numbers.
-use Rattle.std.proofs.Common.{◌≡◌, ℕ, [], ◌∷◌, refl, cond}
+use Rattle.std.proofs.Common.{◌≡◌, ℕ, [], ◌∷◌, cond}
 use Rattle.std.specs.Prelude.{ℤ, None, Some}
 use Rattle.std.specs.declared.cmp.Ordering.{Ordering}
 use Rattle.std.specs.declared.cmp.Ordering.TheVariants.{Less, Equal, Greater}

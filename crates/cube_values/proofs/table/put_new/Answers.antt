@@ -1,4 +1,4 @@
-use Rattle.std.proofs.Common.{◌≡◌, ◌∙◌, sym, subst, FitsSigned, w64, [], ◌∷◌}
+use Rattle.std.proofs.Common.{sym, subst, FitsSigned, w64, ◌∷◌}
 use Rattle.std.proofs.lemmas.Int.{to_z-of_z}
 use Rattle.std.specs.List.Sorted.{IsPermutation}
 use Rattle.cube_values.specs.Bag.{Bag}

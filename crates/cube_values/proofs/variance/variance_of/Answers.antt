@@ -1,8 +1,7 @@
-use Rattle.std.proofs.Common.{◌≡◌, ◌≤◌, ◌-◌, ◌*◌, ◌↔◌, ℤ, MatchOption, length, sym, ◌∙◌, ap, subst}
+use Rattle.std.proofs.Common.{◌≡◌, ◌*◌, length, ◌∙◌, subst}
 use Rattle.std.specs.Int.{w128}
 use Rattle.std.proofs.lemmas.Int.{to_z-of_z}
-use Rattle.cube_values.specs.Wide.{IsReduced}
-use Rattle.cube_values.specs.Variance.{AreEqual, IsVariance, freedom_of, square, squares_of, total_of}
+use Rattle.cube_values.specs.Variance.{freedom_of}
 use Rattle.cube_values.proofs.VarianceLaws.{IsVariance-sums, variance_zero, balanced_sums, match_weaker}
 use Rattle.cube_values.proofs.variance.variance_of.Goals as goal
 
