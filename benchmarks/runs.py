@@ -20,9 +20,10 @@ COUNTS = (1, 2, 4, 8, 16)
 STEPS = {
     "reading": ("RecordReader::advance", "plain::change_of_row"),
     "books": ("Ledger::apply_fed",),
-    "filling": ("fill::fill_cube_with",),
-    "sorting": ("SeveralOrdersSummary::ordered",),
-    "printing": ("lines::put_field",),
+    "coding": ("shares::column_of",),
+    "counting": ("shares::share_cells",),
+    "sorting": ("taken::Taken::of",),
+    "walking": ("bottom_up::walk",),
 }
 # how many feeds a workload is split into, where it isn't one
 SOURCES = {"many": 64}
