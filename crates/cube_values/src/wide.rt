@@ -24,7 +24,6 @@ impl Model for Wide {
 
     ghost inverse = { λ n. record { high = n / 2 ^ 128; low = n % 2 ^ 128 } };
 
-    ghost use Rattle.std.proofs.Common.{◌≡◌, arith, ap};
     ghost use Rattle.std.proofs.lemmas.Nat.{div-mul-add, mod-mul-add};
 
     ghost inverse_ok = { λ w h i. record {
@@ -170,8 +169,8 @@ fn carried_sum(left: u128, right: u128) -> (u128, u128)
     }
 }
 
-// Divides on where the digits above left a rest: the lower quotient, and the rest of the whole. It takes a bit at a time,
-// but where nothing was left.
+// Divides on where the digits above left a rest: the lower digit of the quotient, and what is left in the end. Where there
+// was no rest it is a division of 128 bits, and else a bit at a time.
 fn divide_on(rest: u128, low: u128, divisor: u128) -> (u128, u128)
     requires { rest < divisor }
     ensures value { result.0 * divisor + result.1 ≡ rest * 2 ^ 128 + low }

@@ -26,18 +26,22 @@ impl Counted {
         Ok(pairs.len() as u64)
     }
 
-    /// The number at a place, counted from 1, of the numbers in order. It takes no memory and sorts nothing: it halves the
-    /// span from the least to the greatest number, and each time counts the numbers up to the middle.
+    /// The number at a place, counted from 1, of the numbers in order. It takes no memory and sorts nothing: where they
+    /// aren't kept in order, it halves the span from the least to the greatest number, and each time counts the numbers
+    /// up to the middle.
     pub fn at_place(&self, place: u64) -> i64
         requires first { 1 ≤ place }
         requires last { place ≤ size_of self.now }
         ensures { IsAtPlace self.now place result }
     {
+        if let Values::Many(table) = &self.values {
+            return table.at_place(place);
+        }
         let (Some(least), Some(greatest)) = (self.least(), self.greatest()) else {
             return 0;
         };
         let _len = self.len;
-        at_place(&self.values, place, span_of(least, greatest))
+        number_in_span(&self.values, place, span_of(least, greatest))
     }
 }
 
@@ -90,7 +94,7 @@ fn span_of(least: i64, greatest: i64) -> Span
 }
 
 // The number at a place that lies in a span.
-fn at_place(values: &Values, place: u64, span: Span) -> i64
+fn number_in_span(values: &Values, place: u64, span: Span) -> i64
     requires fits { size_of (bag_of values.now) < 2 ^ 64 }
     requires span { IsSpanOf (bag_of values.now) place span.low span.width }
     ensures { IsAtPlace (bag_of values.now) place result }

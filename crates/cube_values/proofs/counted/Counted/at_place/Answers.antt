@@ -5,8 +5,8 @@ use Rattle.cube_values.specs.Statistics.{IsSpanOf}
 use Rattle.cube_values.proofs.StatisticsLaws.{IsSpanOf-ends}
 use Rattle.cube_values.proofs.counted.Counted.at_place.Goals as goal
 
-pub at_place-requires-clause-span : goal.at_place-requires-clause-span
-at_place-requires-clause-span c =
+pub number_in_span-requires-clause-span : goal.number_in_span-requires-clause-span
+number_in_span-requires-clause-span c =
     let least : HasLeast c.args.self.now c.in-Some-Some.least = search rules in
     let greatest : HasGreatest c.args.self.now c.in-Some-Some.greatest = search rules in
     let least_fits : FitsSigned w64 c.in-Some-Some.least = search rules in

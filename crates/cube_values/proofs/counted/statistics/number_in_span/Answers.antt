@@ -2,7 +2,7 @@ use Rattle.std.proofs.Common.{rules, FitsSigned, w64}
 use Rattle.std.proofs.lemmas.Int.{to_z-of_z}
 use Rattle.cube_values.specs.Values.{bag_of}
 use Rattle.cube_values.proofs.StatisticsLaws.{IsSpanOf-IsAtPlace}
-use Rattle.cube_values.proofs.counted.statistics.at_place.Goals as goal
+use Rattle.cube_values.proofs.counted.statistics.number_in_span.Goals as goal
 
 pub returns : goal.returns
 returns c =
