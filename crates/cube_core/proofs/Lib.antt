@@ -13,6 +13,8 @@ mod FeedDocumentLaws
 mod SchemaLaws
 pub mod AmendmentLaws
 pub mod ItemLaws
+pub mod LevelLaws
+pub mod PercentileSpellingLaws
 pub mod LifeLaws
 pub mod RefusalLaws
 pub mod KeyOrderLaws
@@ -21,5 +23,6 @@ pub mod CellKeyLaws
 pub mod SetLaws
 pub mod QueryLaws
 mod PartialFormLaws
+pub mod SufficesLaws
 pub mod PlainLaws
 pub mod ReorderedLaws

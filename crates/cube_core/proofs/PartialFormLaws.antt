@@ -9,7 +9,8 @@ use Rattle.cube_core.specs.Layout.{Layout, IsSchema, is_aggregate_of, spelling_o
 use Rattle.cube_core.specs.PartialForm.{has_aggregate, with_aggregate, with_parts, partial_aggregates, partial_form}
 use Rattle.cube_core.specs.declared.aggregate.Agg.{Agg}
 use Rattle.cube_core.specs.declared.feed_columns.FeedColumns.{FeedColumns}
-use Rattle.cube_core.specs.declared.aggregate.Agg.TheVariants.{CountAll, Count, Sum, Min, Max, Avg}
+use Rattle.cube_core.specs.declared.aggregate.Agg.TheVariants.{CountAll, Count, Sum, Min, Max, Avg, CountDistinct}
+use Rattle.cube_core.specs.declared.aggregate.Agg.TheVariants.{PercentileDisc}
 
 -- a list with one more aggregate, or the same list: what all pass, and how long it is at least
 with_aggregate-list_all : (p : Agg → Bool) (aggregates : List Agg) (agg : Agg) → list_all p aggregates ≡ true
@@ -36,6 +37,8 @@ with_parts-list_all measures aggregates (Count m) all one = all
 with_parts-list_all measures aggregates (Sum m) all one = all
 with_parts-list_all measures aggregates (Min m) all one = all
 with_parts-list_all measures aggregates (Max m) all one = all
+with_parts-list_all measures aggregates (CountDistinct m) all one = all
+with_parts-list_all measures aggregates (PercentileDisc m units places) all one = all
 
 with_parts-length : (aggregates : List Agg) (agg : Agg) → length aggregates ≤ length (with_parts aggregates agg)
 with_parts-length aggregates (Avg m) = omega (
@@ -48,6 +51,8 @@ with_parts-length aggregates (Count m) = omega arith
 with_parts-length aggregates (Sum m) = omega arith
 with_parts-length aggregates (Min m) = omega arith
 with_parts-length aggregates (Max m) = omega arith
+with_parts-length aggregates (CountDistinct m) = omega arith
+with_parts-length aggregates (PercentileDisc m units places) = omega arith
 
 fold-list_all : (measures : ℕ) (all means : List Agg) → list_all (is_aggregate_of measures) all ≡ true
     → list_all (is_aggregate_of measures) means ≡ true

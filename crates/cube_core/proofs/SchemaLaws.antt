@@ -3,11 +3,13 @@ use Rattle.std.proofs.Common.{◌≡◌, ℕ, ◌+◌, ◌<◌, ◌≤◌, ◌^�
 use Rattle.std.proofs.Common.{nat_lt, codes, List, [], ◌∷◌, ◌++◌, length, map, find, Option, Some, None, Result, Ok}
 use Rattle.std.proofs.Common.{Err, IfOk, IfSome, IfNone, IsUtf8, refl, ap, ◌∙◌, sym, subst, inl, inr, arith}
 use Rattle.std.specs.Str.{bytes_eq}
-use Rattle.std.specs.List.{list_all, range_with_len, filter_map, cons_option}
+use Rattle.std.specs.List.{list_all, range_with_len, filter_map, flat_map, cons_option}
 use Rattle.std.specs.Option.{option_map_or}
 use Rattle.std.proofs.lemmas.Slice.Eq.{bytes_eq-Decides}
 use Rattle.std.proofs.lemmas.Bool.{and_parts, cases_Bool, false≢true}
 use Rattle.std.proofs.lemmas.Bool.Decides.{nat_tests}
+use Rattle.std.proofs.Math.Bool.{and-true}
+use Rattle.std.proofs.lemmas.List.Concat.{flat_map-cons}
 use Rattle.std.proofs.lemmas.List.Folds.{list_all-append, list_all-map}
 use Rattle.std.proofs.lemmas.Option.{same_Some, cond_some}
 use Rattle.toml.specs.Data.{Data, integer, get_member, Members}
@@ -26,7 +28,9 @@ use Rattle.cube_core.proofs.DecimalsDocumentLaws.{decimals_of_value-few}
 use Rattle.cube_core.proofs.FeedDocumentLaws.{columns_of_value-some_measure, columns_of_value-lawful}
 use Rattle.cube_core.specs.declared.shard.Shard.{Shard}
 use Rattle.cube_core.specs.Layout.{Layout, IsSchema, spelling_of, is_aggregate_of, is_lawful_name, are_distinct}
+use Rattle.cube_core.proofs.LevelLaws.{is_level-within}
 use Rattle.cube_core.specs.SchemaDocument.{is_some_up_to, are_lawful_names, aggregates_over, aggregate_spelled}
+use Rattle.cube_core.specs.SchemaDocument.{percentiles_at, percentiles_over}
 use Rattle.cube_core.specs.SchemaDocument.{are_spellings, record_limit, max_records_in, default_max_records}
 use Rattle.cube_core.specs.SchemaDocument.{sets_of_grouping, feed_version, version_in, dimensions_in, measures_in}
 use Rattle.cube_core.specs.SchemaDocument.{is_number_of_measures, least_measures_in}
@@ -34,7 +38,7 @@ use Rattle.cube_core.specs.SchemaDocument.{spellings_in, has_known_keys, SchemaP
 use Rattle.cube_core.specs.SchemaDocument.{parts_faults, is_fault_of_parts, layout_of_parts, document_faults, has_fault}
 use Rattle.cube_core.specs.SchemaDocument.{first_fault, layout_of, AnswersParts, AnswersDocument, AnswersBytes}
 use Rattle.cube_core.specs.declared.aggregate.Agg.{Agg}
-use Rattle.cube_core.specs.declared.aggregate.Agg.TheVariants.{Count, Sum, Min, Max, Avg}
+use Rattle.cube_core.specs.declared.aggregate.Agg.TheVariants.{Count, Sum, Min, Max, Avg, CountDistinct, PercentileDisc}
 
 -- what is found passes the test, and has what each element has
 find-passes : {X : Type 0} (test : X → Bool) (xs : List X) (x : X) → find test xs ≡ Some x → test x ≡ true
@@ -77,17 +81,48 @@ is_aggregate_of-map measures make others of rest =
       numbers,
     ) rest
 
+-- what each list of a range of numbers has, all of them have
+list_all-range : (has : Agg → Bool) (make : ℕ → List Agg) (k n : ℕ)
+    → ((j : ℕ) → j < k + n → list_all has (make j) ≡ true)
+    → list_all has (flat_map make (range_with_len k n)) ≡ true
+list_all-range has make k zero each = refl
+list_all-range has make k (suc n) each =
+    rw (
+      flat_map-cons make k (range_with_len (k + 1) n),
+      list_all-append has (make k) (flat_map make (range_with_len (k + 1) n)),
+      each k (omega arith),
+      list_all-range has make (k + 1) n (λ j below. each j (omega (arith, below))),
+    ) refl
+
+-- every percentile over so many measures is of them
+percentiles_over-of : (measures : ℕ) → list_all (is_aggregate_of measures) (percentiles_over measures) ≡ true
+unfolding percentiles_over
+percentiles_over-of measures =
+    list_all-range (is_aggregate_of measures) (percentiles_at measures) 0 5
+    (λ places few. list_all-range (is_aggregate_of measures)
+    (λ units. map (λ m. PercentileDisc m units places) (range_with_len 0 measures)) 0 (10 ^ places + 1)
+    (λ units most.
+    list_all-map (is_aggregate_of measures) (λ m. PercentileDisc m units places) (range_with_len 0 measures)
+    ∙ ap (λ test. list_all test (range_with_len 0 measures))
+    (λ i m. (ap (λ lawful. nat_lt m measures && lawful) (is_level-within units places few most)
+    ∙ and-true (nat_lt m measures)) i)
+    ∙ range_with_len-below 0 measures measures (omega arith)))
+
 -- every aggregate over so many measures is of them
 aggregates_over-of : (measures : ℕ) → list_all (is_aggregate_of measures) (aggregates_over measures) ≡ true
 aggregates_over-of measures =
     let over : (ℕ → Agg) → List Agg = λ make. map make (range_with_len 0 measures) in
-    let last : list_all (is_aggregate_of measures) (over Avg) ≡ true =
-    list_all-map (is_aggregate_of measures) Avg (range_with_len 0 measures)
-    ∙ range_with_len-below 0 measures measures (omega arith) in
-    is_aggregate_of-map measures Count (over Sum ++ (over Min ++ (over Max ++ over Avg))) (λ m. refl)
-    (is_aggregate_of-map measures Sum (over Min ++ (over Max ++ over Avg)) (λ m. refl)
-    (is_aggregate_of-map measures Min (over Max ++ over Avg) (λ m. refl)
-    (is_aggregate_of-map measures Max (over Avg) (λ m. refl) last)))
+    let percentiles = percentiles_over measures in
+    let distinct : List Agg = over CountDistinct ++ percentiles in
+    let means : List Agg = over Avg ++ distinct in
+    let greatest : List Agg = over Max ++ means in
+    let least : List Agg = over Min ++ greatest in
+    is_aggregate_of-map measures Count (over Sum ++ least) (λ m. refl)
+    (is_aggregate_of-map measures Sum least (λ m. refl)
+    (is_aggregate_of-map measures Min greatest (λ m. refl)
+    (is_aggregate_of-map measures Max means (λ m. refl)
+    (is_aggregate_of-map measures Avg distinct (λ m. refl)
+    (is_aggregate_of-map measures CountDistinct percentiles (λ m. refl) (percentiles_over-of measures))))))
 
 -- the aggregate that a text spells is of the measures, and the text is its spelling
 aggregate_spelled-spelling_of : (measures : List (List ℕ)) (text : List ℕ) (agg : Agg)

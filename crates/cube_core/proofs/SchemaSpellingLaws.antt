@@ -11,9 +11,9 @@ use Rattle.std.proofs.lemmas.Bool.{false_from_ne_true}
 use Rattle.std.proofs.lemmas.List.{append_cancel_left, append_cancel_right}
 use Rattle.std.proofs.lemmas.Iterator.Adapters.{position_from-zero}
 use Rattle.cube_core.specs.Layout.{spelling_of}
-use Rattle.cube_core.specs.SchemaDocument.{aggregate_spelled}
+use Rattle.cube_core.specs.SchemaDocument.{aggregate_spelled, percentiles_over}
 use Rattle.cube_core.specs.declared.aggregate.Agg.{Agg}
-use Rattle.cube_core.specs.declared.aggregate.Agg.TheVariants.{CountAll, Count, Sum, Min, Max, Avg}
+use Rattle.cube_core.specs.declared.aggregate.Agg.TheVariants.{CountAll, Count, Sum, Min, Max, Avg, CountDistinct}
 
 -- two tests that hold together are one
 Bool-same : (a b : Bool) → (a ≡ true → b ≡ true) → (b ≡ true → a ≡ true) → a ≡ b
@@ -83,7 +83,7 @@ abbrev pub measure_in : List (List ℕ) → List ℕ → List ℕ → Option ℕ
 measure_in measures text opening = position (λ name. bytes_eq text ((opening ++ name) ++ codes ")")) measures
 
 -- the aggregates of one function
-find-function : (measures : List (List ℕ)) (text opening : List ℕ) (make : ℕ → Agg)
+pub find-function : (measures : List (List ℕ)) (text opening : List ℕ) (make : ℕ → Agg)
     → ((m : ℕ) → spelling_of measures (make m) ≡ (opening ++ get_or measures m []) ++ codes ")")
     → find (λ agg. bytes_eq text (spelling_of measures agg)) (map make (range_with_len 0 (length measures)))
     ≡ option_map make (measure_in measures text opening)
@@ -112,15 +112,22 @@ pub aggregate_spelled_measure_in : (measures : List (List ℕ)) (text : List ℕ
     (option_or (option_map Sum (measure_in measures text (codes "sum(")))
     (option_or (option_map Min (measure_in measures text (codes "min(")))
     (option_or (option_map Max (measure_in measures text (codes "max(")))
-    (option_map Avg (measure_in measures text (codes "avg(")))))))
+    (option_or (option_map Avg (measure_in measures text (codes "avg(")))
+    (option_or (option_map CountDistinct (measure_in measures text (codes "count(distinct ")))
+    (find (λ agg. bytes_eq text (spelling_of measures agg)) (percentiles_over (length measures)))))))))
 unfolding aggregate_spelled
 aggregate_spelled_measure_in measures text =
     let over : (ℕ → Agg) → List Agg = λ make. map make (range_with_len 0 (length measures)) in
-    let last = find-function measures text (codes "avg(") Avg (λ m. refl) in
-    let fourth = find-functions measures text (codes "max(") Max (over Avg) _ (λ m. refl) last in
-    let third = find-functions measures text (codes "min(") Min (over Max ++ over Avg) _ (λ m. refl) fourth in
-    let second =
-    find-functions measures text (codes "sum(") Sum (over Min ++ (over Max ++ over Avg)) _ (λ m. refl) third in
-    let first = find-functions measures text (codes "count(") Count (over Sum ++ (over Min ++ (over Max ++ over Avg))) _
-    (λ m. refl) second in
+    let percentiles = percentiles_over (length measures) in
+    let distinct : List Agg = over CountDistinct ++ percentiles in
+    let means : List Agg = over Avg ++ distinct in
+    let greatest : List Agg = over Max ++ means in
+    let least : List Agg = over Min ++ greatest in
+    let sixth =
+    find-functions measures text (codes "count(distinct ") CountDistinct percentiles _ (λ m. refl) refl in
+    let fifth = find-functions measures text (codes "avg(") Avg distinct _ (λ m. refl) sixth in
+    let fourth = find-functions measures text (codes "max(") Max means _ (λ m. refl) fifth in
+    let third = find-functions measures text (codes "min(") Min greatest _ (λ m. refl) fourth in
+    let second = find-functions measures text (codes "sum(") Sum least _ (λ m. refl) third in
+    let first = find-functions measures text (codes "count(") Count (over Sum ++ least) _ (λ m. refl) second in
     ap (cond (bytes_eq text (codes "count(*)")) (Some CountAll)) first

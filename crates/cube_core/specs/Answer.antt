@@ -1,7 +1,10 @@
 -- The answers of the aggregates over a group of facts (SQL:1999, aggregate functions:
 -- COUNT of no value is 0, the others of no value are null).
-use Rattle.std.specs.Prelude.{◌≡◌, ◌≤ℤ◌, ℕ, ℤ, List, [], ◌∷◌, length, Contains}
-use Rattle.std.specs.List.{AllByRecursion, AllZip}
+use Rattle.std.specs.Prelude.{◌≡◌, ◌↔◌, ◌<◌, ◌≤◌, ◌≤ℤ◌, ◌+◌, ◌-◌, ◌*◌, ◌/◌, ◌^◌, ℕ, ℤ, max, List, [], ◌∷◌, length}
+use Rattle.std.specs.Prelude.{Contains}
+use Rattle.std.specs.List.{AllByRecursion, AllZip, count_by}
+use Rattle.std.specs.List.Sorted.{IsStrictlySortedBy}
+use Rattle.std.specs.Ordering.{int_cmp, is_lt, is_le}
 use Rattle.cube_core.specs.Fraction.{IsInLowestTerms}
 use Rattle.cube_core.specs.Group.{values_of, total_of}
 use Rattle.cube_core.specs.declared.aggregate.Agg.{Agg}
@@ -34,6 +37,37 @@ IsMean [] a = a ≡ answer.Null
 IsMean (v ∷ vs) a =
     (p : ℤ) × (q : ℕ) × (a ≡ answer.Ratio p q) × IsInLowestTerms (total_of (v ∷ vs)) (length (v ∷ vs)) p q
 
+-- how many different values there are: so many as stand in the list that has each of them once, in ascending order
+-- (SQL:1999, COUNT(DISTINCT))
+abbrev pub IsDistinctCount : List ℤ → Answer → Type 0
+IsDistinctCount values a =
+    (numbers : List ℤ) × IsStrictlySortedBy int_cmp numbers × ((x : ℤ) → Contains numbers x ↔ Contains values x)
+    × (a ≡ answer.Count (length numbers))
+
+-- how many of the values are below a number, and how many are at most it
+abbrev pub below : ℤ → List ℤ → ℕ
+below v values = count_by (λ x. is_lt (int_cmp x v)) values
+
+abbrev pub at_most : ℤ → List ℤ → ℕ
+at_most v values = count_by (λ x. is_le (int_cmp x v)) values
+
+-- this number stands at a place, counted from 1, of the values in ascending order: fewer values are below it,
+-- and at least so many are at most it
+pub record StandsAt (place : ℕ) (values : List ℤ) (v : ℤ) : Type 0 where
+  pub fewer : below v values < place
+  pub as_many : place ≤ at_most v values
+
+-- the place of a percentile among n values, at the level of these units of 10^-places: their product with n, rounded up,
+-- and 1 where that is 0 (SQL:2003, PERCENTILE_DISC: the first value whose cumulative distribution is at least the level)
+abbrev pub percentile_place : ℕ → ℕ → ℕ → ℕ
+percentile_place units places n = max 1 ((units * n + 10 ^ places - 1) / 10 ^ places)
+
+-- the value at the place of a percentile, null where there is none
+abbrev pub IsPercentile : ℕ → ℕ → List ℤ → Answer → Type 0
+IsPercentile units places [] a = a ≡ answer.Null
+IsPercentile units places (v ∷ vs) a =
+    (w : ℤ) × (a ≡ answer.Whole w) × StandsAt (percentile_place units places (length (v ∷ vs))) (v ∷ vs) w
+
 -- the answer of an aggregate over a group of facts
 abbrev pub IsAnswer : List Fact → Agg → Answer → Type 0
 IsAnswer group agg.CountAll a = a ≡ answer.Count (length group)
@@ -42,6 +76,8 @@ IsAnswer group (agg.Sum m) a = IsSum (values_of m group) a
 IsAnswer group (agg.Min m) a = IsLeast (values_of m group) a
 IsAnswer group (agg.Max m) a = IsGreatest (values_of m group) a
 IsAnswer group (agg.Avg m) a = IsMean (values_of m group) a
+IsAnswer group (agg.CountDistinct m) a = IsDistinctCount (values_of m group) a
+IsAnswer group (agg.PercentileDisc m units places) a = IsPercentile units places (values_of m group) a
 
 -- the answers of a list of aggregates over a group of facts, in the order of the list
 abbrev pub AreAnswers : List Fact → List Agg → List Answer → Type 0

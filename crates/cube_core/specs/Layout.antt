@@ -1,5 +1,6 @@
 -- The schema of a cube: what its feeds hold and which aggregates it shows (this project's choice).
-use Rattle.std.specs.Prelude.{◌≡◌, ◌<◌, ◌≤◌, ◌&&◌, ◌||◌, ◌==◌, nat_lt, ℕ, Bool, true, not, List, [], ◌∷◌, ◌++◌, ◌^◌}
+use Rattle.std.specs.Prelude.{◌≡◌, ◌<◌, ◌≤◌, ◌+◌, ◌/◌, ◌%◌, ◌&&◌, ◌||◌, ◌==◌, nat_lt, nat_le, ℕ, zero, suc}
+use Rattle.std.specs.Prelude.{Bool, true, false, not, List, [], ◌∷◌, ◌++◌, ◌^◌}
 use Rattle.std.specs.Prelude.{length, map, codes, get_or, All, Option, None, IfSome, is_some}
 use Rattle.std.specs.Str.{bytes_eq}
 use Rattle.std.specs.List.{list_any, list_all}
@@ -11,6 +12,7 @@ use Rattle.cube_core.specs.declared.key.Key.{Key}
 use Rattle.cube_core.specs.declared.shard.Shard.{Shard}
 use Rattle.cube_core.specs.declared.aggregate.Agg.{Agg}
 use Rattle.cube_core.specs.declared.aggregate.Agg.TheVariants.{CountAll, Count, Sum, Min, Max, Avg}
+use Rattle.cube_core.specs.declared.aggregate.Agg.TheVariants.{CountDistinct, PercentileDisc}
 
 -- a schema: the names of the dimensions and of the measures, the aggregates, each with its spelling,
 -- how many data records a feed may have, the masks of the grouping sets that are kept, the version of its feeds,
@@ -55,7 +57,11 @@ is_lawful_name name = not (is_listed name reserved_names)
 abbrev pub names_of : Layout → List (List ℕ)
 names_of s = s.dimensions ++ s.measures
 
--- whether an aggregate is of one of so many measures
+-- whether this is the level of a percentile: at most 1, in units of 10^-places, with at most 4 digits behind the point
+abbrev pub is_level : ℕ → ℕ → Bool
+is_level units places = nat_le places 4 && nat_le units (10 ^ places)
+
+-- whether an aggregate is of one of so many measures, and a percentile of a level too
 abbrev pub is_aggregate_of : ℕ → Agg → Bool
 is_aggregate_of measures CountAll = true
 is_aggregate_of measures (Count m) = nat_lt m measures
@@ -63,10 +69,26 @@ is_aggregate_of measures (Sum m) = nat_lt m measures
 is_aggregate_of measures (Min m) = nat_lt m measures
 is_aggregate_of measures (Max m) = nat_lt m measures
 is_aggregate_of measures (Avg m) = nat_lt m measures
+is_aggregate_of measures (CountDistinct m) = nat_lt m measures
+is_aggregate_of measures (PercentileDisc m units places) = nat_lt m measures && is_level units places
 
 -- an aggregate of a measure, as a schema spells it
 abbrev pub spelled_with : List ℕ → List (List ℕ) → ℕ → List ℕ
 spelled_with function measures m = function ++ codes "(" ++ get_or measures m [] ++ codes ")"
+
+-- the last decimal digit of a number, as a byte
+abbrev pub last_digit : ℕ → ℕ
+last_digit n = 48 + n % 10
+
+-- a level, in units of 10^-places: a digit, and where there are places a point and so many digits
+abbrev pub level_text : ℕ → ℕ → List ℕ
+level_text zero units = last_digit units ∷ []
+level_text (suc zero) units = last_digit (units / 10) ∷ 46 ∷ last_digit units ∷ []
+level_text (suc (suc places)) units = level_text (suc places) (units / 10) ++ last_digit units ∷ []
+
+-- how a schema spells a percentile up to the name of its measure
+abbrev pub percentile_opening : ℕ → ℕ → List ℕ
+percentile_opening units places = codes "percentile_disc(" ++ level_text places units ++ codes ","
 
 -- how a schema spells an aggregate
 abbrev pub spelling_of : List (List ℕ) → Agg → List ℕ
@@ -76,6 +98,9 @@ spelling_of measures (Sum m) = spelled_with (codes "sum") measures m
 spelling_of measures (Min m) = spelled_with (codes "min") measures m
 spelling_of measures (Max m) = spelled_with (codes "max") measures m
 spelling_of measures (Avg m) = spelled_with (codes "avg") measures m
+spelling_of measures (CountDistinct m) = codes "count(distinct " ++ get_or measures m [] ++ codes ")"
+spelling_of measures (PercentileDisc m units places) =
+    percentile_opening units places ++ get_or measures m [] ++ codes ")"
 
 -- whether a byte may stand between the fields of a feed: an ASCII character, neither a quote nor a line's end
 abbrev pub is_delimiter : ℕ → Bool
@@ -124,6 +149,25 @@ pub record IsSchema (s : Layout) : Type 0 where
 -- whether a schema keeps the grouping set of a key
 abbrev pub keeps : Layout → Key → Bool
 keeps s key = is_among (mask_of key) s.grouping_sets
+
+-- whether an aggregate is of each of a measure's values, so that no summary of them gives it (Gray et al. 1997: it is
+-- holistic)
+abbrev pub is_holistic : Agg → Bool
+is_holistic (CountDistinct m) = true
+is_holistic (PercentileDisc m units places) = true
+is_holistic _ = false
+
+-- whether a cell of a schema needs each number that it counts, and not only a summary of them
+abbrev pub needs_numbers : Layout → Bool
+needs_numbers s = list_any is_holistic s.aggregates
+
+-- whether an aggregate can be answered where numbers are kept, or not: a holistic one only where they are
+abbrev pub suffices : Bool → Agg → Bool
+suffices keeps agg = keeps || not (is_holistic agg)
+
+-- whether every aggregate of a schema can be answered where numbers are kept, or not
+abbrev pub all_suffice : Bool → Layout → Bool
+all_suffice keeps s = list_all (suffices keeps) s.aggregates
 
 -- the sample schema: regions and kinds, an amount, all aggregates of it, and all grouping sets
 abbrev pub sample_layout : Layout

@@ -12,6 +12,7 @@ use Rattle.cube_core.specs.Group.{total_of}
 use Rattle.cube_core.specs.Order.{key_cmp}
 use Rattle.cube_core.specs.declared.aggregate.Agg.{Agg}
 use Rattle.cube_core.specs.declared.aggregate.Agg.TheVariants.{CountAll, Count, Sum, Min, Max, Avg}
+use Rattle.cube_core.specs.declared.aggregate.Agg.TheVariants.{CountDistinct, PercentileDisc}
 use Rattle.cube_core.specs.declared.aggregate.Answer.{Answer}
 use Rattle.cube_core.specs.declared.aggregate.Answer.TheVariants as answer
 use Rattle.cube_core.specs.declared.key.Key.{Key}
@@ -40,7 +41,8 @@ abbrev pub numbers_of : List Answer → List ℤ
 numbers_of answers = filter_map number_in answers
 
 -- what an aggregate's answers to the parts make of the whole: counts and sums are added, the least of the least
--- and the greatest of the greatest values is taken, null where all are null; of means alone nothing is made
+-- and the greatest of the greatest values is taken, null where all are null; of means, distinct counts and percentiles
+-- alone nothing is made
 abbrev pub MakesAnswer : Agg → List Answer → Answer → Type 0
 MakesAnswer CountAll parts a = a ≡ answer.Count (sum_of_counts parts)
 MakesAnswer (Count m) parts a = a ≡ answer.Count (sum_of_counts parts)
@@ -48,6 +50,8 @@ MakesAnswer (Sum m) parts a = IsSum (numbers_of parts) a
 MakesAnswer (Min m) parts a = IsLeast (numbers_of parts) a
 MakesAnswer (Max m) parts a = IsGreatest (numbers_of parts) a
 MakesAnswer (Avg m) parts a = ⊤
+MakesAnswer (CountDistinct m) parts a = ⊤
+MakesAnswer (PercentileDisc m units places) parts a = ⊤
 
 -- the mean of so many values with this sum, as a fraction in lowest terms, null where there is none
 abbrev pub IsMeanOf : ℤ → ℕ → Answer → Type 0
@@ -69,9 +73,11 @@ IsMadeMean given rows m a =
     × IsMeanOf (total_of (numbers_of (column sums rows))) (sum_of_counts (column counts rows)) a
 
 -- the answer to an aggregate that rows with one key make together, where they answer the given aggregates:
--- a mean is made of sums and counts, and any other of its own answers
+-- a mean is made of sums and counts, a distinct count and a percentile of nothing, and any other of its own answers
 abbrev pub IsMerged : List Agg → List Row → Agg → Answer → Type 0
 IsMerged given rows (Avg m) a = IsMadeMean given rows m a
+IsMerged given rows (CountDistinct m) a = ⊥
+IsMerged given rows (PercentileDisc m units places) a = ⊥
 IsMerged given rows agg a = IsMadeAt given rows agg a
 
 -- the rows with a key

@@ -1,11 +1,12 @@
 -- The partial form of a schema: it also has what each mean is made of,
 -- so that cubes under it can be merged (Gray et al. 1997: AVG is algebraic, made of SUM and COUNT).
-use Rattle.std.specs.Prelude.{◌≡◌, ◌==◌, ◌<◌, ⊤, ℕ, Bool, true, false, List, [], ◌∷◌, ◌++◌, length, map, if◌then◌else◌}
+use Rattle.std.specs.Prelude.{◌≡◌, ◌==◌, ◌&&◌, ◌<◌, ⊤, ℕ, Bool, true, false, List, [], ◌∷◌, ◌++◌, length, map, if◌then◌else◌}
 use Rattle.std.specs.Prelude.{Result, Ok, Err}
 use Rattle.std.specs.List.{list_any, fold}
 use Rattle.cube_core.specs.Layout.{Layout, spelling_of}
 use Rattle.cube_core.specs.declared.aggregate.Agg.{Agg}
 use Rattle.cube_core.specs.declared.aggregate.Agg.TheVariants.{CountAll, Count, Sum, Min, Max, Avg}
+use Rattle.cube_core.specs.declared.aggregate.Agg.TheVariants.{CountDistinct, PercentileDisc}
 use Rattle.cube_core.specs.declared.schema_fault.SchemaFault.{SchemaFault}
 use Rattle.cube_core.specs.declared.schema_fault.SchemaFault.TheVariants.{Memory}
 
@@ -17,6 +18,9 @@ is_aggregate (Sum m) (Sum n) = m == n
 is_aggregate (Min m) (Min n) = m == n
 is_aggregate (Max m) (Max n) = m == n
 is_aggregate (Avg m) (Avg n) = m == n
+is_aggregate (CountDistinct m) (CountDistinct n) = m == n
+is_aggregate (PercentileDisc m units places) (PercentileDisc n others digits) =
+    m == n && units == others && places == digits
 is_aggregate _ _ = false
 
 -- whether an aggregate stands in a list of aggregates

@@ -5,7 +5,7 @@ use Rattle.std.specs.Prelude.{if◌then◌else◌, List, [], ◌∷◌, ◌++◌
 use Rattle.std.specs.Prelude.{None, option_and_then, option_map, unwrap_or, Result, Ok, Err, IsUtf8, ⊤}
 use Rattle.std.specs.Str.{bytes_eq}
 use Rattle.std.specs.Option.{option_map_or}
-use Rattle.std.specs.List.{list_all, filter_map, range_with_len}
+use Rattle.std.specs.List.{list_all, filter_map, flat_map, range_with_len}
 use Rattle.toml.specs.Data.{Data, string, integer, array, as_array, Items, no_items, item, Members}
 use Rattle.toml.specs.Data.{get_member}
 use Rattle.toml.specs.Parse.{parse_document}
@@ -16,6 +16,7 @@ use Rattle.cube_core.specs.FeedDocument.{texts_of, has_only, columns_of_value}
 use Rattle.cube_core.specs.GroupingSet.{all_sets, is_among}
 use Rattle.cube_core.specs.declared.aggregate.Agg.{Agg}
 use Rattle.cube_core.specs.declared.aggregate.Agg.TheVariants.{CountAll, Count, Sum, Min, Max, Avg}
+use Rattle.cube_core.specs.declared.aggregate.Agg.TheVariants.{CountDistinct, PercentileDisc}
 use Rattle.cube_core.specs.declared.feed_columns.FeedColumns.{FeedColumns}
 use Rattle.cube_core.specs.declared.schema_fault.SchemaFault.{SchemaFault}
 use Rattle.cube_core.specs.declared.schema_fault.SchemaFault.TheVariants.{Memory, Toml, UnknownKey, Dimensions}
@@ -61,14 +62,25 @@ is_number_of_measures least measures = nat_le least (length measures) && nat_le 
 abbrev pub are_lawful_names : List (List ℕ) → Bool
 are_lawful_names names = list_all is_lawful_name names && are_distinct names
 
--- every aggregate of so many measures
+-- every percentile of so many measures at levels of so many places, and at all levels
+abbrev pub percentiles_at : ℕ → ℕ → List Agg
+percentiles_at measures places =
+    flat_map (λ units. map (λ m. PercentileDisc m units places) (range_with_len 0 measures))
+    (range_with_len 0 (10 ^ places + 1))
+
+unfoldable pub percentiles_over : ℕ → List Agg
+percentiles_over measures = flat_map (percentiles_at measures) (range_with_len 0 5)
+
+-- every aggregate of so many measures; where a measure is named so that a text spells two of them, the first is meant
 abbrev pub aggregates_over : ℕ → List Agg
 aggregates_over measures =
     CountAll ∷ (map Count (range_with_len 0 measures)
     ++ (map Sum (range_with_len 0 measures)
     ++ (map Min (range_with_len 0 measures)
     ++ (map Max (range_with_len 0 measures)
-    ++ map Avg (range_with_len 0 measures)))))
+    ++ (map Avg (range_with_len 0 measures)
+    ++ (map CountDistinct (range_with_len 0 measures)
+    ++ percentiles_over measures))))))
 
 -- the aggregate of these measures that is spelled so
 unfoldable pub aggregate_spelled : List (List ℕ) → List ℕ → Option Agg

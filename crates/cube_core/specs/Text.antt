@@ -10,6 +10,7 @@ use Rattle.cube_core.specs.Layout.{Layout, decimals_of}
 use Rattle.cube_core.specs.Takes.{null_text}
 use Rattle.cube_core.specs.declared.aggregate.Agg.{Agg}
 use Rattle.cube_core.specs.declared.aggregate.Agg.TheVariants.{CountAll, Count, Sum, Min, Max, Avg}
+use Rattle.cube_core.specs.declared.aggregate.Agg.TheVariants.{CountDistinct, PercentileDisc}
 use Rattle.cube_core.specs.declared.aggregate.Answer.{Answer}
 use Rattle.cube_core.specs.declared.aggregate.Answer.TheVariants as answer
 use Rattle.cube_core.specs.declared.change.Refusal.{Refusal}
@@ -54,6 +55,8 @@ digits_of s (Sum m) = digits_of_measure s m
 digits_of s (Min m) = digits_of_measure s m
 digits_of s (Max m) = digits_of_measure s m
 digits_of s (Avg m) = digits_of_measure s m
+digits_of s (CountDistinct m) = 0
+digits_of s (PercentileDisc m units places) = digits_of_measure s m
 
 -- digits with zeros before them, so that there are at least so many
 abbrev pub padded : ℕ → List ℕ → List ℕ

@@ -1,6 +1,7 @@
 //! The partial form of a schema, under which cubes can be merged.
-ghost use Rattle.std.specs.Prelude.{◌≡◌, IfOk, OnOk, get_or, [], map};
-ghost use Rattle.cube_core.specs.Layout.{spelling_of, spelled_with};
+ghost use Rattle.std.specs.Prelude.{◌≡◌, ◌++◌, codes, IfOk, OnOk, get_or, [], map};
+ghost use Rattle.std.specs.String.{string_bytes};
+ghost use Rattle.cube_core.specs.Layout.{spelling_of, spelled_with, last_digit, level_text, percentile_opening};
 ghost use Rattle.cube_core.specs.PartialForm.{AnswersPartial, has_aggregate, partial_aggregates, with_aggregate, with_parts};
 
 use crate::aggregate::Agg;
@@ -105,6 +106,18 @@ fn spelling_of(alloc: Global, measures: &[Text], aggregate: &Agg) -> Result<Text
         Agg::Min(measure) => spelled_with(alloc, "min", measures, *measure),
         Agg::Max(measure) => spelled_with(alloc, "max", measures, *measure),
         Agg::Avg(measure) => spelled_with(alloc, "avg", measures, *measure),
+        Agg::CountDistinct(measure) => {
+            let opening = String::from_str(alloc, "count(distinct ")?;
+            spelled_after(alloc, opening, measures, *measure)
+        }
+        Agg::PercentileDisc {
+            measure,
+            units,
+            places,
+        } => {
+            let opening = percentile_opening(alloc, *units, *places)?;
+            spelled_after(alloc, opening, measures, *measure)
+        }
     }
 }
 
@@ -116,11 +129,60 @@ fn spelled_with(
 ) -> Result<Text, AllocError>
     ensures { IfOk result (λ text. text ≡ spelled_with function.now measures.now measure) }
 {
-    let mut text = String::from_str(alloc, function)?;
-    text.push_str("(")?;
+    let mut opening = String::from_str(alloc, function)?;
+    opening.push_str("(")?;
+    spelled_after(alloc, opening, measures, measure)
+}
+
+// How a schema spells an aggregate of a measure, after what stands before its name.
+fn spelled_after(
+    alloc: Global,
+    opening: String,
+    measures: &[Text],
+    measure: usize,
+) -> Result<Text, AllocError>
+    ensures { IfOk result (λ text.
+        text ≡ string_bytes opening ++ get_or measures.now measure [] ++ codes ")") }
+{
+    let mut text = opening;
     text.push_str(name_at(measures, measure))?;
     text.push_str(")")?;
     Text::from_str(alloc, text.as_str())
+}
+
+// How a schema spells a percentile up to the name of its measure.
+fn percentile_opening(alloc: Global, units: u16, places: u8) -> Result<String, AllocError>
+    ensures { IfOk result (λ text. string_bytes text ≡ percentile_opening units places) }
+{
+    let mut text = String::from_str(alloc, "percentile_disc(")?;
+    push_level(&mut text, units, places)?;
+    text.push_str(",")?;
+    Ok(text)
+}
+
+// Adds a level of so many units: a digit, and where there are places a point and so many digits.
+fn push_level(text: &mut String, units: u16, places: u8) -> Result<(), AllocError>
+    ensures { OnOk result (string_bytes text.new ≡ string_bytes text.old ++ level_text places units) }
+{
+    match places {
+        0 => text.push(last_digit(units)),
+        1 => {
+            text.push(last_digit(units / 10))?;
+            text.push('.')?;
+            text.push(last_digit(units))
+        }
+        _ => {
+            push_level(text, units / 10, places - 1)?;
+            text.push(last_digit(units))
+        }
+    }
+}
+
+// The last decimal digit of a number.
+fn last_digit(number: u16) -> char
+    ensures { result ≡ last_digit number }
+{
+    char::from(b'0' + (number % 10) as u8)
 }
 
 // The name at a place; the empty text past the last one.

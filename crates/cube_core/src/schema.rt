@@ -1,7 +1,7 @@
 //! The schema of a cube.
-ghost use Rattle.std.specs.Prelude.{◌≡◌, ◌≤◌, ◌<◌, ◌+◌, ◌^◌, IfOk, IfSome, length, map, option_map};
-ghost use Rattle.std.specs.List.{list_all};
-ghost use Rattle.cube_core.specs.Layout.{IsRecordBound, IsSchema, decimals_of, sample_layout, keeps};
+ghost use Rattle.std.specs.Prelude.{◌≡◌, ◌≤◌, ◌<◌, ◌+◌, ◌^◌, IfOk, IfSome, false, true, length, map, option_map};
+ghost use Rattle.std.specs.List.{list_all, list_any};
+ghost use Rattle.cube_core.specs.Layout.{IsRecordBound, IsSchema, decimals_of, sample_layout, keeps, is_holistic, needs_numbers, all_suffice};
 ghost use Rattle.cube_core.specs.Text.{digits_of};
 ghost use Rattle.cube_core.specs.SchemaDocument.{AnswersParts, layout_of_parts, named_parts};
 ghost use Rattle.cube_core.specs.Shard.{IsShard};
@@ -246,11 +246,21 @@ impl Schema {
         ensures few { result ≤ 18 }
     {
         match aggregate {
-            Agg::CountAll | Agg::Count(_) => 0,
-            Agg::Sum(measure) | Agg::Min(measure) | Agg::Max(measure) | Agg::Avg(measure) => {
-                self.decimals_of(*measure).unwrap_or(0)
-            }
+            Agg::CountAll | Agg::Count(_) | Agg::CountDistinct(_) => 0,
+            Agg::Sum(measure)
+            | Agg::Min(measure)
+            | Agg::Max(measure)
+            | Agg::Avg(measure)
+            | Agg::PercentileDisc { measure, .. } => self.decimals_of(*measure).unwrap_or(0),
         }
+    }
+
+    /// Whether some aggregate is a distinct count or a percentile: what a cell must keep each number for that it counts.
+    pub fn needs_numbers(&self) -> bool
+        ensures needs { result ≡ needs_numbers self.now }
+        ensures suffice { result ≡ false → all_suffice false self.now ≡ true }
+    {
+        is_any_holistic(self.aggregates())
     }
 
     /// The shard of each feed that is read: of the data records, those whose id is in it. A schema that was read is of
@@ -368,6 +378,22 @@ impl Schema {
             && part.measures.len() == self.measures.len()
             && put_dimension_values(part.dims.as_slice())
     }
+}
+
+/// Whether an aggregate is of each of a measure's values, so that no summary of them gives it.
+fn is_holistic(aggregate: &Agg) -> bool
+    ensures { result ≡ is_holistic aggregate.now }
+{
+    matches!(
+        aggregate,
+        Agg::CountDistinct(_) | Agg::PercentileDisc { .. }
+    )
+}
+
+fn is_any_holistic(aggregates: &[Agg]) -> bool
+    ensures { result ≡ list_any is_holistic aggregates.now }
+{
+    aggregates.iter().any(|agg| is_holistic(agg))
 }
 
 // The mask of coordinates, which are at most 8.

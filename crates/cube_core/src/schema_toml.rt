@@ -13,6 +13,7 @@ ghost use Rattle.cube_core.specs.declared.feed_columns.FeedColumns.{FeedColumns}
 mod decimals_table;
 mod feed_table;
 mod grouping;
+mod percentile;
 
 use crate::aggregate::Agg;
 use crate::hash_key::HashKey;
@@ -23,6 +24,7 @@ use crate::text::Text;
 use decimals_table::decimals_of_value;
 use feed_table::columns_of_value;
 use grouping::sets_of_grouping;
+use percentile::percentile_spelled;
 use std::alloc::{AllocError, Global};
 use toml::{Table, Value};
 
@@ -365,7 +367,10 @@ fn aggregate_spelled(measures: &[Text], text: &str) -> Option<Agg>
     if let Some(measure) = measure_spelled(measures, "avg(", text) {
         return Some(Agg::Avg(measure));
     }
-    None
+    if let Some(measure) = measure_spelled(measures, "count(distinct ", text) {
+        return Some(Agg::CountDistinct(measure));
+    }
+    percentile_spelled(measures, text)
 }
 
 /// The measure whose name stands between the opening and a last `)` in a text.

@@ -256,8 +256,10 @@ fn parse_answer<'t>(aggregate: &Agg, digits: u8, text: &'t [u8]) -> Option<(Answ
         return Some((Answer::Null, rest));
     }
     match aggregate {
-        Agg::CountAll | Agg::Count(_) => count_answer(digits, text),
-        Agg::Sum(_) | Agg::Min(_) | Agg::Max(_) => whole_answer(digits, text),
+        Agg::CountAll | Agg::Count(_) | Agg::CountDistinct(_) => count_answer(digits, text),
+        Agg::Sum(_) | Agg::Min(_) | Agg::Max(_) | Agg::PercentileDisc { .. } => {
+            whole_answer(digits, text)
+        }
         Agg::Avg(_) => ratio_answer(digits, text),
     }
 }

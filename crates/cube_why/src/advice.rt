@@ -62,7 +62,8 @@ pub const SCHEMA_ADVICE: [Advice; 13] = [
         code: "S7",
         lines: &[
             "wanted: 1 to 16 aggregates, as aggregates = [\"count(*)\", \"sum(cents)\"]",
-            "Each is count(*), or count, sum, min, max or avg of a measure, without spaces and in small letters.",
+            "Each is count(*), or count, sum, min, max or avg of a measure, without spaces and in small letters, or as",
+            "count(distinct cents) or percentile_disc(0.5,cents), of a level from 0 to 1 with up to 4 digits behind the point.",
         ],
     },
     Advice {

@@ -1,10 +1,10 @@
 //! What is wrong with the values of a schema's keys.
-use crate::report::{decimal, quoted};
+use crate::report::{decimal, quoted, shown};
 use std::alloc::{AllocError, Global};
 use toml::{Table, Value};
 
 /// The words before a measure in an aggregate.
-const AGGREGATES: [&str; 5] = ["count(", "sum(", "min(", "max(", "avg("];
+const AGGREGATES: [&str; 6] = ["count(", "sum(", "min(", "max(", "avg(", "count(distinct "];
 
 /// The names that no dimension and no measure has.
 const TAKEN: [&str; 3] = ["op", "id", "*"];
@@ -113,10 +113,23 @@ pub(crate) fn aggregate_words(alloc: Global, document: &Table) -> Result<Vec<u8>
     let texts = texts_at(alloc, document, "aggregates")?;
     for text in &texts {
         if !is_aggregate(text, &measures) {
-            return with_value(alloc, text, b" is no aggregate of the measures");
+            return no_aggregate(alloc, text, &measures);
         }
     }
     array_words(alloc, document, "aggregates", 16)
+}
+
+// What is said of a text that is no aggregate of measures; of the median of one also how that is spelled.
+fn no_aggregate(alloc: Global, text: &str, measures: &[&str]) -> Result<Vec<u8>, AllocError> {
+    let mut words = with_value(alloc, text, b" is no aggregate of the measures")?;
+    if let Some(name) = argument_of(text, "median(") {
+        if is_listed(measures, name) {
+            words.extend_from_slice(b"; a median is spelled percentile_disc(0.5,")?;
+            words.extend_from_slice(shown(alloc, name.as_bytes())?.as_slice())?;
+            words.push(b')')?;
+        }
+    }
+    Ok(words)
 }
 
 // Whether a text is an aggregate of measures.
@@ -125,17 +138,52 @@ fn is_aggregate(text: &str, measures: &[&str]) -> bool {
         || AGGREGATES
             .iter()
             .any(|opening| is_of_measure(text, opening, measures))
+        || is_percentile(text, measures)
 }
 
 // Whether a text is a measure between an opening and a bracket.
 fn is_of_measure(text: &str, opening: &str, measures: &[&str]) -> bool {
-    match text.strip_prefix(opening) {
-        Some(rest) => match rest.strip_suffix(')') {
-            Some(name) => is_listed(measures, name),
-            None => false,
-        },
+    match argument_of(text, opening) {
+        Some(name) => is_listed(measures, name),
         None => false,
     }
+}
+
+// Whether a text is a percentile of a measure.
+fn is_percentile(text: &str, measures: &[&str]) -> bool {
+    let Some(argument) = argument_of(text, "percentile_disc(") else {
+        return false;
+    };
+    match argument.split_once(',') {
+        Some((level, name)) => is_level(level) && is_listed(measures, name),
+        None => false,
+    }
+}
+
+// Whether a text is the level of a percentile: at most 1, with at most four digits behind its point.
+fn is_level(text: &str) -> bool {
+    match text.split_once('.') {
+        None => text == "0" || text == "1",
+        Some((whole, digits)) => {
+            let most = if whole == "0" { b'9' } else { b'0' };
+            (whole == "0" || whole == "1")
+                && !digits.is_empty()
+                && digits.len() <= 4
+                && are_up_to(digits, most)
+        }
+    }
+}
+
+// Whether each byte of a text is a digit up to this one.
+fn are_up_to(text: &str, most: u8) -> bool {
+    text.as_bytes()
+        .iter()
+        .all(|byte| *byte >= b'0' && *byte <= most)
+}
+
+// What stands in a text between an opening and a last bracket.
+fn argument_of<'t>(text: &'t str, opening: &str) -> Option<&'t str> {
+    text.strip_prefix(opening)?.strip_suffix(')')
 }
 
 /// What is wrong with the grouping, where a set has a text that is no dimension. The only error is that memory ran out.
