@@ -11,6 +11,7 @@ use Rattle.cube_core.specs.Layout.{Layout}
 use Rattle.cube_core.specs.Text.{answer_text, answer_texts, digits_of, digits_of_measure}
 use Rattle.cube_core.specs.declared.aggregate.Agg.{Agg}
 use Rattle.cube_core.specs.declared.aggregate.Agg.TheVariants.{CountAll, Count, Sum, Min, Max, Avg}
+use Rattle.cube_core.specs.declared.aggregate.Agg.TheVariants.{CountDistinct, PercentileDisc}
 use Rattle.cube_core.specs.declared.aggregate.Answer.{Answer}
 use Rattle.cube_core.specs.declared.aggregate.Answer.TheVariants as answer
 use Rattle.cube_merge.specs.Lawful.{IsCount, IsNumber, IsValue, IsFraction, IsOfKind}
@@ -40,6 +41,8 @@ digits_of-few s (Sum m) few = measure-few s m few
 digits_of-few s (Min m) few = measure-few s m few
 digits_of-few s (Max m) few = measure-few s m few
 digits_of-few s (Avg m) few = measure-few s m few
+digits_of-few s (CountDistinct m) few = omega arith
+digits_of-few s (PercentileDisc m units places) few = measure-few s m few
 
 -- ---- answers of a kind
 IsCount-told : (k : ℕ) (a b : Answer) → IsCount a → IsCount b → answer_text k a ≡ answer_text k b → a ≡ b
@@ -99,6 +102,9 @@ IsOfKind-told k (Sum m) a b few h h' same = IsNumber-told k a b h h' same
 IsOfKind-told k (Min m) a b few h h' same = IsNumber-told k a b (IsValue-IsNumber a h) (IsValue-IsNumber b h') same
 IsOfKind-told k (Max m) a b few h h' same = IsNumber-told k a b (IsValue-IsNumber a h) (IsValue-IsNumber b h') same
 IsOfKind-told k (Avg m) a b few h h' same = IsFraction-told k a b few h h' same
+IsOfKind-told k (CountDistinct m) a b few h h' same = IsCount-told k a b h h' same
+IsOfKind-told k (PercentileDisc m units places) a b few h h' same =
+    IsNumber-told k a b (IsValue-IsNumber a h) (IsValue-IsNumber b h') same
 
 -- answers to the same aggregates of a schema that show the same are the same
 pub AreOfKind-told : (s : Layout) (aggregates : List Agg) (as' bs : List Answer) → HasFewDigits s

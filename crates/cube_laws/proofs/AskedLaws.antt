@@ -36,7 +36,8 @@ use Rattle.cube_core.proofs.ListLaws.{Contains-map, Contains-nil, list_any-Conta
 use Rattle.cube_laws.specs.Asked.{CanBeWritten, Writes, field_for, pattern_for}
 use Rattle.cube_laws.specs.Lines.{IsUnended}
 use Rattle.cube_laws.proofs.RecordLaws.{records-IsUnended, records_of-other}
-use Rattle.cube_laws.proofs.RowLaws.{HasAnswers-keys, IsStrictlySortedBy-unique}
+use Rattle.cube_laws.proofs.RowLaws.{HasAnswers-keys}
+use Rattle.cube_laws.proofs.SortedLaws.{IsStrictlySortedBy-unique}
 
 -- ---- the pattern of a key
 coord_cmp-same : (wanted c : Coord) → eq_by_cmp coord_cmp wanted c ≡ true → wanted ≡ c

@@ -11,7 +11,8 @@ use Rattle.cube_core.specs.declared.key.Row.{Row}
 use Rattle.cube_core.proofs.ListLaws.{AllByRecursion-Contains, Contains-AllByRecursion, Contains-filter}
 use Rattle.cube_core.proofs.ListLaws.{filter-Contains, map-filter}
 use Rattle.cube_core.proofs.KeyOrderLaws.{key_cmp-IsTotalOrder}
-use Rattle.cube_laws.proofs.RowLaws.{HasAnswers-keys, IsStrictlySortedBy-unique}
+use Rattle.cube_laws.proofs.RowLaws.{HasAnswers-keys}
+use Rattle.cube_laws.proofs.SortedLaws.{IsStrictlySortedBy-unique}
 
 -- the rows of a cube that drill down from a key are those among all its rows
 pub rows_below-unique : (s : Layout) (facts : List Fact) (rows drilled : List Row) (above : Key) (dimension : ℕ) →

@@ -10,7 +10,7 @@ use Rattle.cube_core.specs.Covers.{covers}
 use Rattle.cube_core.specs.Group.{group_of}
 use Rattle.cube_core.specs.declared.fact.Fact.{Fact}
 use Rattle.cube_core.specs.declared.key.Key.{Key}
-use Rattle.cube_laws.proofs.RowLaws.{IsStrictlySortedBy-head}
+use Rattle.cube_laws.proofs.SortedLaws.{IsStrictlySortedBy-head}
 use Rattle.cube_core.proofs.ReorderedLaws.{Reordered, none, next, exchange, both, Reordered-refl}
 use Rattle.cube_core.proofs.ListLaws.{Contains-cases, Contains-head, Contains-tail, count_by-failed, count_by-none}
 use Rattle.cube_core.proofs.ListLaws.{count_by-passed, filter-failed, filter-passed}

@@ -8,6 +8,8 @@ mod WrittenLaws
 mod BoundLaws
 mod GroupingLaws
 mod WritableLaws
+mod SortedLaws
+mod HolisticLaws
 mod RowLaws
 mod RowOrderLaws
 mod GroupCountLaws

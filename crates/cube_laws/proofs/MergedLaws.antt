@@ -32,7 +32,7 @@ use Rattle.cube_core.proofs.ListLaws.{Contains-tail, Contains-nil, Contains-map,
 use Rattle.cube_core.proofs.ListLaws.{filter-failed}
 use Rattle.cube_merge.proofs.MergedLaws.{AllByRecursion-append, is_eq-Equal, key_cmp-refl}
 use Rattle.cube_laws.specs.Merging.{joined, AreMergedOf, CanBeMadeOf}
-use Rattle.cube_laws.proofs.RowLaws.{IsStrictlySortedBy-above}
+use Rattle.cube_laws.proofs.SortedLaws.{IsStrictlySortedBy-above}
 use Rattle.cube_core.proofs.ReorderedLaws.{IsPermutation-Reordered, Reordered-IsPermutation, filter-Reordered}
 use Rattle.cube_laws.proofs.SharesLaws.{Share, facts_in, row_in, Answers, AreMerged-shares, AreAnswers-shares}
 use Rattle.cube_laws.proofs.SharesLaws.{AreMerged-IsPermutation}

@@ -1,7 +1,7 @@
 -- The answers over facts that can be counted are in the ranges of their kinds.
 use Rattle.std.proofs.Common.{◌≡◌, ℕ, zero, suc, ◌+◌, ◌*◌, ◌<◌, ◌≤◌, ◌≤ℤ◌, ◌^◌, ℤ, pos, negsuc, neg_ℤ, ◌+ℤ◌}
 use Rattle.std.proofs.Common.{Bool, true, false, ◌||◌, ◌==◌, refl}
-use Rattle.std.proofs.Common.{unsigned_abs, List, [], ◌∷◌, length, get_or, filter, Option, Some, None, IfSome}
+use Rattle.std.proofs.Common.{unsigned_abs, List, [], ◌∷◌, length, get_or, filter, Contains, Option, Some, None, IfSome}
 use Rattle.std.proofs.Common.{FitsSigned, sym, ap, ◌∙◌, subst, inl, inr, arith}
 use Prim.Native.Nat.{◌∣◌}
 use Rattle.std.specs.Int.{w64, w128}
@@ -11,7 +11,7 @@ use Rattle.std.proofs.lemmas.Int.{ints, fits_signed_from_abs, unsigned_abs-mul}
 use Rattle.std.proofs.lemmas.List.Elements.{All-filter, All-from_recursion, recursion_from_All}
 use Rattle.std.proofs.lemmas.Nat.Gcd.{IsGcd-swap, le_of_dvd}
 use Rattle.std.proofs.Math.Nat.{dvd-mul_left, dvd-mul_right, mul_comm, le-mul_of_pos_right}
-use Rattle.cube_core.specs.Answer.{IsSum, IsBest, IsMean, IsAnswer, AreAnswers}
+use Rattle.cube_core.specs.Answer.{IsSum, IsBest, IsMean, IsAnswer, AreAnswers, IsPercentile}
 use Rattle.cube_core.specs.Covers.{covers}
 use Rattle.cube_core.specs.Cube.{AreRows, HasAnswers, is_total, key_of}
 use Rattle.cube_core.specs.Fraction.{IsInLowestTerms}
@@ -20,6 +20,7 @@ use Rattle.cube_core.specs.GroupingSet.{is_all_coord}
 use Rattle.cube_core.specs.Layout.{Layout, keeps}
 use Rattle.cube_core.specs.declared.aggregate.Agg.{Agg}
 use Rattle.cube_core.specs.declared.aggregate.Agg.TheVariants.{CountAll, Count, Sum, Min, Max, Avg}
+use Rattle.cube_core.specs.declared.aggregate.Agg.TheVariants.{CountDistinct, PercentileDisc}
 use Rattle.cube_core.specs.declared.aggregate.Answer.{Answer}
 use Rattle.cube_core.specs.declared.aggregate.Answer.TheVariants.{Whole}
 use Rattle.cube_core.specs.declared.fact.Fact.{Fact}
@@ -27,11 +28,12 @@ use Rattle.cube_core.specs.declared.key.Key.{Key}
 use Rattle.cube_core.specs.declared.key.Row.{Row}
 use Rattle.cube_core.proofs.CommonDivisorLaws.{divides-coprime}
 use Rattle.cube_core.proofs.ListLaws.{AllByRecursion-Contains, Contains-AllByRecursion, map-Contains, filter-passed}
-use Rattle.cube_core.proofs.ListLaws.{filter-failed}
+use Rattle.cube_core.proofs.ListLaws.{Contains-head, Contains-nil, filter-failed}
 use Rattle.cube_merge.specs.Lawful.{IsCount, IsNumber, IsValue, IsFraction, IsOfKind, IsLawfulRow}
 use Rattle.cube_merge.specs.Lawful.{IsNoZero, CountsFacts, IsInOrder, IsAtLeast, IsWithin}
 use Rattle.cube_merge.specs.Lawful.{IsNoneAmong, TellsNone, measure_of, tells_none}
 use Rattle.cube_laws.specs.Told.{HasSmallValues, AreCountable, CanBePrinted}
+use Rattle.cube_laws.proofs.HolisticLaws.{IsDistinct-length, IsPercentile-Contains}
 use Rattle.cube_laws.proofs.KeyLaws.{IsTold-is_cell}
 
 -- ---- sizes
@@ -115,6 +117,13 @@ IsBest-IsValue R [] a small h = subst IsValue (sym h) tt
 IsBest-IsValue R (v ∷ vs) a small h =
     subst IsValue (sym h.1) (AllByRecursion-Contains (FitsSigned w64) (v ∷ vs) h.0 small h.2)
 
+IsPercentile-IsValue : (units places : ℕ) (values : List ℤ) (a : Answer) → AllByRecursion (FitsSigned w64) values
+    → IsPercentile units places values a → IsValue a
+IsPercentile-IsValue units places [] a small h = subst IsValue (sym h) tt
+IsPercentile-IsValue units places (v ∷ vs) a small h =
+    let (w, is, among) = IsPercentile-Contains units places v vs a h in
+    subst IsValue (sym is) (AllByRecursion-Contains (FitsSigned w64) (v ∷ vs) w small among)
+
 IsMean-IsFraction : (values : List ℤ) (a : Answer) → length values < 2 ^ 64 → AllByRecursion (FitsSigned w64) values
     → IsMean values a → IsFraction a
 IsMean-IsFraction [] a few small h = subst IsFraction (sym h) tt
@@ -186,6 +195,15 @@ IsAnswer-IsOfKind group (Avg m) a countable h =
       length-values_of-le m group,
       countable.few,
     )) (values_of-small m group countable.small) h
+IsAnswer-IsOfKind group (CountDistinct m) a countable (numbers, sorted, same, is) =
+    subst IsCount (sym is) (omega (
+      arith,
+      IsDistinct-length numbers (values_of m group) sorted (λ x there. (same x).0 there),
+      length-values_of-le m group,
+      countable.few,
+    ))
+IsAnswer-IsOfKind group (PercentileDisc m units places) a countable h =
+    IsPercentile-IsValue units places (values_of m group) a (values_of-small m group countable.small) h
 
 AreAnswers-AreOfKind : (group : List Fact) (aggregates : List Agg) (answers : List Answer) → AreCountable group
     → AreAnswers group aggregates answers → AllZip IsOfKind aggregates answers
@@ -225,6 +243,8 @@ IsAnswer-CountsFacts group (Sum m) a some h = tt
 IsAnswer-CountsFacts group (Min m) a some h = tt
 IsAnswer-CountsFacts group (Max m) a some h = tt
 IsAnswer-CountsFacts group (Avg m) a some h = tt
+IsAnswer-CountsFacts group (CountDistinct m) a some h = tt
+IsAnswer-CountsFacts group (PercentileDisc m units places) a some h = tt
 
 AreAnswers-CountFacts : (group : List Fact) (aggregates : List Agg) (answers : List Answer) → 0 < length group
     → AreAnswers group aggregates answers → AllZip CountsFacts aggregates answers
@@ -253,6 +273,8 @@ IsAnswer-IsAtLeast group m least (Max other) a h k =
     λ same. IsBest-IsInOrder (values_of m group) least a h
     (subst (λ n. IsBest (λ m x. x ≤ℤ m) (values_of n group) a) same k)
 IsAnswer-IsAtLeast group m least (Avg other) a h k = tt
+IsAnswer-IsAtLeast group m least (CountDistinct other) a h k = tt
+IsAnswer-IsAtLeast group m least (PercentileDisc other units places) a h k = tt
 
 AreAnswers-AreAtLeast : (group : List Fact) (m : ℕ) (least : Answer) (aggregates : List Agg) (answers : List Answer)
     → IsAnswer group (Min m) least → AreAnswers group aggregates answers
@@ -274,6 +296,8 @@ module _ (group : List Fact) (aggregates : List Agg) (answers : List Answer)
   IsAnswer-IsWithin (Min m) a h = AreAnswers-AreAtLeast group m a aggregates answers h all
   IsAnswer-IsWithin (Max m) a h = tt
   IsAnswer-IsWithin (Avg m) a h = tt
+  IsAnswer-IsWithin (CountDistinct m) a h = tt
+  IsAnswer-IsWithin (PercentileDisc m units places) a h = tt
 
   AreAnswers-AreWithin : (some : List Agg) (their : List Answer) → AreAnswers group some their
       → AllZip (IsWithin aggregates answers) some their
@@ -300,6 +324,12 @@ none-of-best : (R : ℤ → ℤ → Type 0) (values : List ℤ) (a : Answer) →
 none-of-best R [] a h none = refl
 none-of-best R (v ∷ vs) a h none = absurd (false≢true (ap tells_none (sym h.1) ∙ none))
 
+-- what is all in an empty list is empty
+empty-same : (xs ys : List ℤ) → xs ≡ [] → ((y : ℤ) → Contains ys y → Contains xs y) → ys ≡ []
+empty-same xs [] empty within = refl
+empty-same xs (y ∷ ys) empty within =
+    absurd (Contains-nil y (subst (λ zs. Contains zs y) empty (within y (Contains-head y ys))))
+
 -- so does an answer of a measure
 tells_none-values : (group : List Fact) (m : ℕ) (agg : Agg) (a : Answer) → IsAnswer group agg a
     → measure_of agg ≡ Some m → tells_none a ≡ true → values_of m group ≡ []
@@ -321,6 +351,15 @@ tells_none-values group m (Avg k) a h is none =
       by_values : (values : List ℤ) → IsMean values a → values ≡ []
       by_values [] s = refl
       by_values (v ∷ vs) s = absurd (false≢true (ap tells_none (sym s.2) ∙ none))
+tells_none-values group m (CountDistinct k) a (numbers, sorted, same, counted) is none =
+    subst (λ n. values_of n group ≡ []) (some-same k m is)
+    (empty-same numbers (values_of k group) (none-of-length numbers (ap tells_none (sym counted) ∙ none))
+    (λ x there. (same x).1 there))
+tells_none-values group m (PercentileDisc k units places) a h is none =
+    subst (λ n. values_of n group ≡ []) (some-same k m is) (by_values (values_of k group) h) where
+      by_values : (values : List ℤ) → IsPercentile units places values a → values ≡ []
+      by_values [] s = refl
+      by_values (v ∷ vs) s = absurd (false≢true (ap tells_none (sym s.1) ∙ none))
 
 values-tells_none : (group : List Fact) (m : ℕ) (agg : Agg) (a : Answer) → values_of m group ≡ []
     → IsAnswer group agg a → TellsNone m agg a
@@ -335,6 +374,12 @@ values-tells_none group m (Max k) a empty h is =
     ap tells_none (subst (λ values. IsBest (λ m x. x ≤ℤ m) values a) (none-at group k m empty is) h)
 values-tells_none group m (Avg k) a empty h is =
     ap tells_none (subst (λ values. IsMean values a) (none-at group k m empty is) h)
+values-tells_none group m (CountDistinct k) a empty (numbers, sorted, same, counted) is =
+    ap tells_none counted
+    ∙ ap (λ (l : List ℤ). length l == 0)
+    (empty-same (values_of k group) numbers (none-at group k m empty is) (λ x there. (same x).0 there))
+values-tells_none group m (PercentileDisc k units places) a empty h is =
+    ap tells_none (subst (λ values. IsPercentile units places values a) (none-at group k m empty is) h)
 
 AreAnswers-TellNone : (group : List Fact) (m : ℕ) (aggregates : List Agg) (answers : List Answer)
     → values_of m group ≡ [] → AreAnswers group aggregates answers → AllZip (TellsNone m) aggregates answers
@@ -358,6 +403,9 @@ module _ (group : List Fact) (aggregates : List Agg) (answers : List Answer)
   IsAnswer-IsNoneAmong (Min m) a h none = none-of_measure m (Min m) a h refl none
   IsAnswer-IsNoneAmong (Max m) a h none = none-of_measure m (Max m) a h refl none
   IsAnswer-IsNoneAmong (Avg m) a h none = none-of_measure m (Avg m) a h refl none
+  IsAnswer-IsNoneAmong (CountDistinct m) a h none = none-of_measure m (CountDistinct m) a h refl none
+  IsAnswer-IsNoneAmong (PercentileDisc m units places) a h none =
+      none-of_measure m (PercentileDisc m units places) a h refl none
 
   AreAnswers-AreNone : (some : List Agg) (their : List Answer) → AreAnswers group some their
       → AllZip (IsNoneAmong aggregates answers) some their

@@ -1,10 +1,10 @@
 -- The answers of groups, against the answer of the groups joined: of sums the sum, of least values the least.
-use Rattle.std.proofs.Common.{◌≡◌, ℤ, ◌+ℤ◌, List, [], ◌∷◌, ◌++◌, length, flat_map, Contains, ◌↔◌, ◌⊎◌, refl, sym, ap}
+use Rattle.std.proofs.Common.{◌≡◌, ℕ, ℤ, ◌+ℤ◌, List, [], ◌∷◌, ◌++◌, length, flat_map, Contains, ◌↔◌, ◌⊎◌, refl, sym, ap}
 use Rattle.std.proofs.Common.{◌∙◌, subst, inl, inr, arith, length-append}
 use Rattle.std.specs.List.{AllByRecursion, cons_option, filter_map}
 use Rattle.std.proofs.lemmas.Int.{ints}
 use Rattle.std.proofs.lemmas.List.Elements.{Contains-append_left, Contains-append_right, Contains-append_cases}
-use Rattle.cube_core.specs.Answer.{IsSum, IsBest}
+use Rattle.cube_core.specs.Answer.{IsSum, IsBest, IsPercentile}
 use Rattle.cube_core.specs.Group.{total_of}
 use Rattle.cube_core.specs.Merged.{number_in}
 use Rattle.cube_core.specs.declared.aggregate.Answer.{Answer}
@@ -54,6 +54,13 @@ pub IsBest-Says : (R : ℤ → ℤ → Type 0) (values : List ℤ) (a : Answer) 
 unfolding Says
 IsBest-Says R [] a h = h
 IsBest-Says R (v ∷ vs) a h = (h.0, h.1)
+
+-- and a percentile
+pub IsPercentile-Says : (units places : ℕ) (values : List ℤ) (a : Answer) → IsPercentile units places values a
+    → Says values a
+unfolding Says
+IsPercentile-Says units places [] a h = h
+IsPercentile-Says units places (v ∷ vs) a h = (h.0, h.1)
 
 module _ (R : ℤ → ℤ → Type 0) where
   -- an answer that is best is one of its values, and no value is better

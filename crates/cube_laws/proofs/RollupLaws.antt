@@ -24,7 +24,8 @@ use Rattle.cube_laws.proofs.RowOrderLaws.{length-Reordered, values_of-Reordered}
 use Rattle.cube_laws.proofs.RowOrderLaws.{IsSum-Reordered, IsBest-Reordered}
 use Rattle.cube_laws.proofs.CountLaws.{AreRows-answer_at}
 use Rattle.cube_laws.proofs.GroupCountLaws.{joined_groups}
-use Rattle.cube_laws.proofs.RollupBestLaws.{Says, IsSum-Says, IsBest-Says, numbers_among-none, numbers_among-total_of}
+use Rattle.cube_laws.proofs.RollupBestLaws.{Says, IsSum-Says, IsBest-Says, IsPercentile-Says, numbers_among-none}
+use Rattle.cube_laws.proofs.RollupBestLaws.{numbers_among-total_of}
 use Rattle.cube_laws.proofs.RollupBestLaws.{IsBest-numbers_among, IsSum-total_of, Says-Null, Says-all_Null}
 use Rattle.cube_laws.proofs.RollupKeyLaws.{joined_groups-rows_below}
 use Rattle.cube_core.proofs.ListLaws.{Contains-AllByRecursion, Contains-filter, sum_by-map, sum_by-same}
@@ -46,6 +47,8 @@ measure_in (agg.Sum m) = m
 measure_in (agg.Min m) = m
 measure_in (agg.Max m) = m
 measure_in (agg.Avg m) = m
+measure_in (agg.CountDistinct m) = m
+measure_in (agg.PercentileDisc m units places) = m
 
 -- what an answer to an aggregate of numbers says
 IsAnswer-Says : (group : List Fact) (aggregate : Agg) (a : Answer) → gives_numbers aggregate ≡ true →
@@ -57,6 +60,9 @@ IsAnswer-Says group (agg.Sum m) a numbers h = IsSum-Says (values_of m group) a h
 IsAnswer-Says group (agg.Min m) a numbers h = IsBest-Says (λ m x. m ≤ℤ x) (values_of m group) a h
 IsAnswer-Says group (agg.Max m) a numbers h = IsBest-Says (λ m x. x ≤ℤ m) (values_of m group) a h
 IsAnswer-Says group (agg.Avg m) a numbers h = cc
+IsAnswer-Says group (agg.CountDistinct m) a numbers h = cc
+IsAnswer-Says group (agg.PercentileDisc m units places) a numbers h =
+    IsPercentile-Says units places (values_of m group) a h
 
 module _ (s : Layout) (facts : List Fact) (rows : List Row) (row : Row) (dimension place : ℕ)
     (is : IsRolledUp s facts rows row dimension) where

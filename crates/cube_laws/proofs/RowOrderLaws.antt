@@ -1,17 +1,18 @@
 -- Facts in another order have the same groups, up to order, and so the same answers and rows.
-use Rattle.std.proofs.Common.{◌≡◌, ℕ, zero, suc, ◌<◌, ◌≤ℤ◌, ℤ, ◌+ℤ◌, Bool, true, false, cond, List, [], ◌∷◌, length}
-use Rattle.std.proofs.Common.{map, get_or, set, filter, filter_map, Option, Some, None, Contains, IsPermutation, IsTrue}
-use Rattle.std.proofs.Common.{◌↔◌, ◌||◌, ◌&&◌, refl, ap, ◌∙◌, subst, subst₂, arith, swap}
-use Rattle.std.specs.List.{AllByRecursion, cons_option}
+use Rattle.std.proofs.Common.{◌≡◌, ℕ, suc, ◌≤ℤ◌, ℤ, ◌+ℤ◌, Bool, cond, List, [], ◌∷◌, length}
+use Rattle.std.proofs.Common.{map, filter_map, Option, Some, None, Contains, IsPermutation, IsTrue}
+use Rattle.std.proofs.Common.{◌↔◌, ◌||◌, ◌&&◌, refl, sym, ap, ◌∙◌, subst, subst₂, arith}
+use Rattle.std.specs.List.{AllByRecursion, cons_option, count_by}
+use Rattle.std.specs.Ordering.{int_cmp, is_lt, is_le}
 use Rattle.std.proofs.lemmas.Int.{ints}
 use Rattle.std.proofs.lemmas.List.Elements.{All-from_recursion, recursion_from_All}
-use Rattle.std.proofs.lemmas.List.Sorted.{IsPermutation-keeps, IsPermutation-refl, IsPermutation-cons}
-use Rattle.std.proofs.lemmas.List.Sorted.{IsPermutation-trans, IsPermutation-middle, All-permutation}
-use Rattle.std.proofs.lemmas.List.Sorted.{Contains-permutation, list_any-IsPermutation}
+use Rattle.std.proofs.lemmas.List.Sorted.{All-permutation}
+use Rattle.std.proofs.lemmas.List.Sorted.{Contains-permutation, list_any-IsPermutation, sum_by-IsPermutation}
 use Rattle.cube_core.specs.Layout.{Layout}
 use Rattle.cube_core.proofs.ReorderedLaws.{Reordered, none, next, exchange, both, Reordered-refl, IsPermutation-Reordered}
 use Rattle.cube_core.proofs.ReorderedLaws.{Reordered-sym, Reordered-IsPermutation, filter-Reordered}
-use Rattle.cube_core.specs.Answer.{IsSum, IsBest, IsMean, IsAnswer, AreAnswers}
+use Rattle.cube_core.specs.Answer.{IsSum, IsBest, IsMean, IsAnswer, AreAnswers, IsDistinctCount, IsPercentile, StandsAt}
+use Rattle.cube_core.specs.Answer.{percentile_place}
 use Rattle.cube_core.specs.Covers.{covers}
 use Rattle.cube_core.specs.Cube.{AreRowsOver, HasAnswers, key_of, is_cell, is_total}
 use Rattle.cube_core.specs.Fraction.{IsInLowestTerms}
@@ -108,6 +109,42 @@ IsMean-Reordered (v ∷ vs) (w ∷ ws) a r h = (
   subst₂ (λ total count. IsInLowestTerms total count h.0 h.1) (total_of-Reordered r) (length-Reordered r) h.3,
 )
 
+-- as many elements pass a test
+count_by-Reordered : {X : Type 0} (p : X → Bool) {xs ys : List X} → Reordered xs ys → count_by p xs ≡ count_by p ys
+count_by-Reordered p {xs} {ys} r =
+    sym (sum_by-IsPermutation (λ x. cond (p x) 1 0) xs ys (Reordered-IsPermutation r))
+
+StandsAt-Reordered : (place : ℕ) (values values' : List ℤ) (v : ℤ) → Reordered values values'
+    → StandsAt place values v → StandsAt place values' v
+StandsAt-Reordered place values values' v r stands = record {
+  fewer = omega (arith, stands.fewer, count_by-Reordered (λ x. is_lt (int_cmp x v)) r);
+  as_many = omega (arith, stands.as_many, count_by-Reordered (λ x. is_le (int_cmp x v)) r);
+}
+
+IsDistinctCount-Reordered : (values values' : List ℤ) (a : Answer) → Reordered values values'
+    → IsDistinctCount values a → IsDistinctCount values' a
+IsDistinctCount-Reordered values values' a r (numbers, sorted, same, is) = (
+  numbers,
+  sorted,
+  λ x. (
+    λ there. Contains-permutation values values' x (Reordered-IsPermutation r) ((same x).0 there),
+    λ there. (same x).1 (Contains-permutation values' values x (Reordered-IsPermutation (Reordered-sym r)) there),
+  ),
+  is,
+)
+
+IsPercentile-Reordered : (units places : ℕ) (values values' : List ℤ) (a : Answer) → Reordered values values'
+    → IsPercentile units places values a → IsPercentile units places values' a
+IsPercentile-Reordered units places [] [] a r h = h
+IsPercentile-Reordered units places [] (w ∷ ws) a r h = absurd (omega (arith, length-Reordered r))
+IsPercentile-Reordered units places (v ∷ vs) [] a r h = absurd (omega (arith, length-Reordered r))
+IsPercentile-Reordered units places (v ∷ vs) (w ∷ ws) a r (x, is, stands) = (
+  x,
+  is,
+  StandsAt-Reordered (percentile_place units places (length (w ∷ ws))) (v ∷ vs) (w ∷ ws) x r
+      (subst (λ (n : ℕ). StandsAt (percentile_place units places n) (v ∷ vs) x) (length-Reordered r) stands),
+)
+
 -- an answer over a group is one over the group in another order
 IsAnswer-Reordered : (group group' : List Fact) (aggregate : Agg) (a : Answer) → Reordered group group' →
     IsAnswer group aggregate a → IsAnswer group' aggregate a
@@ -121,6 +158,10 @@ IsAnswer-Reordered group group' (agg.Max m) a r h =
     IsBest-Reordered (λ m x. x ≤ℤ m) (values_of m group) (values_of m group') a (values_of-Reordered m r) h
 IsAnswer-Reordered group group' (agg.Avg m) a r h =
     IsMean-Reordered (values_of m group) (values_of m group') a (values_of-Reordered m r) h
+IsAnswer-Reordered group group' (agg.CountDistinct m) a r h =
+    IsDistinctCount-Reordered (values_of m group) (values_of m group') a (values_of-Reordered m r) h
+IsAnswer-Reordered group group' (agg.PercentileDisc m units places) a r h =
+    IsPercentile-Reordered units places (values_of m group) (values_of m group') a (values_of-Reordered m r) h
 
 AreAnswers-Reordered : (group group' : List Fact) (aggregates : List Agg) (answers : List Answer)
     → Reordered group group' →

@@ -12,6 +12,7 @@ use Rattle.cube_core.specs.Group.{values_of, value_of, total_of}
 use Rattle.cube_core.specs.Merged.{count_answered, number_in, sum_of_counts, numbers_of, column, IsMeanOf, IsMerged}
 use Rattle.cube_core.specs.declared.aggregate.Agg.{Agg}
 use Rattle.cube_core.specs.declared.aggregate.Agg.TheVariants.{CountAll, Count, Sum, Min, Max, Avg}
+use Rattle.cube_core.specs.declared.aggregate.Agg.TheVariants.{CountDistinct, PercentileDisc}
 use Rattle.cube_core.specs.declared.aggregate.Answer.{Answer}
 use Rattle.cube_core.specs.declared.aggregate.Answer.TheVariants as answer
 use Rattle.cube_core.specs.declared.fact.Fact.{Fact}
@@ -186,6 +187,8 @@ module _ (given : List Agg) (shares : List Share) (each : AllByRecursion (Answer
       IsMeanOf-IsMean (values_of m all_facts) (total_of (numbers_of (column h.0 share_rows)))
       (sum_of_counts (column h.1 share_rows)) a
       (Sum-total_of h.0 m h.2) (Count-shares h.1 m h.3) h.4
+  IsMerged-shares (CountDistinct m) a h = absurd h
+  IsMerged-shares (PercentileDisc m units places) a h = absurd h
 
   pub AreMerged-shares : (wanted : List Agg) (answers : List Answer) → AllZip (IsMerged given share_rows) wanted answers
       → AreAnswers all_facts wanted answers
@@ -248,6 +251,8 @@ module _ (given : List Agg) (shares : List Share) (each : AllByRecursion (Answer
         (sum_of_counts (column made.1.0 share_rows)) a
         (Sum-total_of made.0.0 m made.0.1) (Count-shares made.1.0 m made.1.1) h,
   )
+  IsAnswer-shares (CountDistinct m) a made h = absurd made
+  IsAnswer-shares (PercentileDisc m units places) a made h = absurd made
 
   pub AreAnswers-shares : (wanted : List Agg) (answers : List Answer) → AllByRecursion (CanBeMadeOf given) wanted
       → AreAnswers all_facts wanted answers → AllZip (IsMerged given share_rows) wanted answers
@@ -293,6 +298,8 @@ IsMerged-IsPermutation given rows rows' (Avg m) a p h = (
       (subst (λ count. IsMeanOf (total_of (numbers_of (column h.0 rows))) count a)
       (sym (sum_of_counts-IsPermutation h.1 rows rows' p)) h.4),
 )
+IsMerged-IsPermutation given rows rows' (CountDistinct m) a p h = absurd h
+IsMerged-IsPermutation given rows rows' (PercentileDisc m units places) a p h = absurd h
 
 pub AreMerged-IsPermutation : (given : List Agg) (rows rows' : List Row) (wanted : List Agg) (answers : List Answer)
     → IsPermutation rows rows'

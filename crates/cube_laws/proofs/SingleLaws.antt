@@ -11,7 +11,8 @@ use Rattle.std.proofs.lemmas.List.{length-map}
 use Rattle.std.proofs.lemmas.Map.Steps.{le-length_from_below}
 use Rattle.std.proofs.lemmas.Nat.Gcd.{IsGcd-from_mod, IsGcd-from_zero}
 use Rattle.std.proofs.lemmas.Slice.Eq.{bytes_eq-Decides}
-use Rattle.cube_core.specs.Answer.{IsAnswer, IsSum, IsLeast, IsGreatest, IsMean, AreAnswers}
+use Rattle.cube_core.specs.Answer.{IsAnswer, IsSum, IsLeast, IsGreatest, IsMean, IsDistinctCount, IsPercentile}
+use Rattle.cube_core.specs.Answer.{AreAnswers}
 use Rattle.cube_core.specs.Covers.{covers, all_stand_for, stands_for}
 use Rattle.cube_core.specs.Cube.{AreRows, HasAnswers, key_of, is_cell, is_total}
 use Rattle.cube_core.specs.Group.{value_of}
@@ -19,6 +20,7 @@ use Rattle.cube_core.specs.GroupingSet.{all_sets, is_all_coord, is_among, mask_o
 use Rattle.cube_core.specs.Layout.{Layout, keeps}
 use Rattle.cube_core.specs.declared.aggregate.Agg.{Agg}
 use Rattle.cube_core.specs.declared.aggregate.Agg.TheVariants as agg
+use Rattle.cube_core.specs.declared.aggregate.Answer.{Answer}
 use Rattle.cube_core.specs.declared.aggregate.Answer.TheVariants as answer
 use Rattle.cube_core.specs.declared.fact.Fact.{Fact}
 use Rattle.cube_core.specs.declared.key.Coord.{Coord}
@@ -36,7 +38,8 @@ use Rattle.cube_laws.specs.Single.{HasValuesOrAll, coord_for, count_of_value, an
 use Rattle.cube_laws.specs.Single.{answer_of_fact, answer_of_none, all_coords, total_of_none}
 use Rattle.cube_laws.proofs.CellCountLaws.{AreRows-most_cells}
 use Rattle.cube_laws.proofs.CountLaws.{key_in_set}
-use Rattle.cube_laws.proofs.RowLaws.{AreAnswers-unique, AreRowsOver-unique}
+use Rattle.cube_laws.proofs.HolisticLaws.{IsPercentile-Contains}
+use Rattle.cube_laws.proofs.RowLaws.{AreRowsOver-unique, IsAnswer-unique}
 
 -- ---- the keys that cover a fact have its values or ALL
 stands_for-coord_for : (c : Coord) (value : Option (List ℕ)) → stands_for c value ≡ true
@@ -194,18 +197,45 @@ IsMean-one (Some value) = (
   },
 )
 
-IsAnswer-one : (fact : Fact) (aggregate : Agg) → IsAnswer (fact ∷ []) aggregate (answer_of_fact fact aggregate)
-IsAnswer-one fact agg.CountAll = refl
-IsAnswer-one fact (agg.Count m) = Count-one (value_of m fact)
-IsAnswer-one fact (agg.Sum m) = IsSum-one (value_of m fact)
-IsAnswer-one fact (agg.Min m) = IsLeast-one (value_of m fact)
-IsAnswer-one fact (agg.Max m) = IsGreatest-one (value_of m fact)
-IsAnswer-one fact (agg.Avg m) = IsMean-one (value_of m fact)
+IsDistinctCount-one : (value : Option ℤ) → IsDistinctCount (cons_option value []) (count_of_value value)
+unfolding IsStrictlySortedBy
+IsDistinctCount-one None = ([], tt, λ x. (λ h. h, λ h. h), refl)
+IsDistinctCount-one (Some value) = (value ∷ [], (tt, tt), λ x. (λ h. h, λ h. h), refl)
 
-AreAnswers-one : (fact : Fact) (aggregates : List Agg)
-    → AreAnswers (fact ∷ []) aggregates (map (answer_of_fact fact) aggregates)
-AreAnswers-one fact [] = tt
-AreAnswers-one fact (aggregate ∷ aggregates) = (IsAnswer-one fact aggregate, AreAnswers-one fact aggregates)
+IsPercentile-one : (units places : ℕ) (value : Option ℤ) (a : Answer)
+    → IsPercentile units places (cons_option value []) a → a ≡ answer_of_value value
+IsPercentile-one units places None a h = h
+IsPercentile-one units places (Some value) a h =
+    let (w, is, among) = IsPercentile-Contains units places value [] a h in
+    elim (Contains-cases value [] w among) [
+      | inl same ↦ is ∙ ap answer.Whole (sym same)
+      | inr none ↦ absurd (Contains-nil w none)
+    ]
+
+IsAnswer-one : (fact : Fact) (aggregate : Agg) (a : Answer) → IsAnswer (fact ∷ []) aggregate a
+    → a ≡ answer_of_fact fact aggregate
+IsAnswer-one fact agg.CountAll a h = h
+IsAnswer-one fact (agg.Count m) a h = h ∙ sym (Count-one (value_of m fact))
+IsAnswer-one fact (agg.Sum m) a h =
+    IsAnswer-unique (fact ∷ []) (agg.Sum m) a (answer_of_value (value_of m fact)) h (IsSum-one (value_of m fact))
+IsAnswer-one fact (agg.Min m) a h =
+    IsAnswer-unique (fact ∷ []) (agg.Min m) a (answer_of_value (value_of m fact)) h (IsLeast-one (value_of m fact))
+IsAnswer-one fact (agg.Max m) a h =
+    IsAnswer-unique (fact ∷ []) (agg.Max m) a (answer_of_value (value_of m fact)) h (IsGreatest-one (value_of m fact))
+IsAnswer-one fact (agg.Avg m) a h =
+    IsAnswer-unique (fact ∷ []) (agg.Avg m) a (mean_of_value (value_of m fact)) h (IsMean-one (value_of m fact))
+IsAnswer-one fact (agg.CountDistinct m) a h =
+    IsAnswer-unique (fact ∷ []) (agg.CountDistinct m) a (count_of_value (value_of m fact)) h
+    (IsDistinctCount-one (value_of m fact))
+IsAnswer-one fact (agg.PercentileDisc m units places) a h = IsPercentile-one units places (value_of m fact) a h
+
+AreAnswers-one : (fact : Fact) (aggregates : List Agg) (answers : List Answer)
+    → AreAnswers (fact ∷ []) aggregates answers → answers ≡ map (answer_of_fact fact) aggregates
+AreAnswers-one fact [] [] all = refl
+AreAnswers-one fact [] (a ∷ answers) all = absurd all
+AreAnswers-one fact (aggregate ∷ aggregates) [] all = absurd all
+AreAnswers-one fact (aggregate ∷ aggregates) (a ∷ answers) all =
+    ap₂ (λ x xs. x ∷ xs) (IsAnswer-one fact aggregate a all.0) (AreAnswers-one fact aggregates answers all.1)
 
 pub AreRows-answers : (s : Layout) (fact : Fact) (rows : List Row) → length fact.dims ≡ length s.dimensions
     → AreRows s (fact ∷ []) rows → AllByRecursion (λ row. row.answers ≡ map (answer_of_fact fact) s.aggregates) rows
@@ -215,10 +245,9 @@ AreRows-answers s fact rows wide are =
     is_cell-covers s fact row.key wide ((are.cells row.key).0 (map-Contains key_of rows row among)) in
     let answers =
     AllByRecursion-Contains (HasAnswers s.aggregates (fact ∷ [])) rows row are.answers among in
-    AreAnswers-unique (fact ∷ []) s.aggregates row.answers (map (answer_of_fact fact) s.aggregates)
+    AreAnswers-one fact s.aggregates row.answers
     (subst (λ group. AreAnswers group s.aggregates row.answers)
-    (filter-passed (covers row.key) fact [] found.1) answers)
-    (AreAnswers-one fact s.aggregates))
+    (filter-passed (covers row.key) fact [] found.1) answers))
 
 -- ---- the cube of no fact
 IsAnswer-none : (aggregate : Agg) → IsAnswer [] aggregate (answer_of_none aggregate)
@@ -228,6 +257,8 @@ IsAnswer-none (agg.Sum m) = refl
 IsAnswer-none (agg.Min m) = refl
 IsAnswer-none (agg.Max m) = refl
 IsAnswer-none (agg.Avg m) = refl
+IsAnswer-none (agg.CountDistinct m) = IsDistinctCount-one None
+IsAnswer-none (agg.PercentileDisc m units places) = refl
 
 AreAnswers-none : (aggregates : List Agg) → AreAnswers [] aggregates (map answer_of_none aggregates)
 AreAnswers-none [] = tt

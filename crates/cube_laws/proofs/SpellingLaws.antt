@@ -1,22 +1,26 @@
 -- In a schema no two aggregates share a spelling.
 use Rattle.std.proofs.Common.{◌≡◌, ℕ, ◌+◌, ◌<◌, true, false, not, zero, suc, List, [], ◌∷◌, ◌++◌, length, get_or, codes}
-use Rattle.std.proofs.Common.{Option, Some, None, option_map, add-zero, arith, refl, ap, ◌∙◌, sym, inl, inr}
+use Rattle.std.proofs.Common.{Option, Some, None, option_map, nat_lt, position, append_assoc, add-zero, arith, refl}
+use Rattle.std.proofs.Common.{ap, ◌∙◌, sym, inl, inr}
 use Rattle.std.specs.Str.{bytes_eq}
 use Rattle.std.specs.Option.{option_or}
 use Rattle.std.specs.List.{list_all, position_from}
 use Rattle.std.proofs.lemmas.Slice.Eq.{bytes_eq-Decides}
-use Rattle.std.proofs.lemmas.Bool.{false_from_ne_true, false≢true, not-true, and_parts, cases_Bool}
+use Rattle.std.proofs.lemmas.Bool.{false_from_ne_true, false≢true, not-true, and_parts, cases_Bool, or_left}
 use Rattle.std.proofs.lemmas.Bool.Decides.{nat_tests}
 use Rattle.std.proofs.lemmas.List.Sums.{AllPass-from_list_all}
 use Rattle.std.proofs.lemmas.Iterator.Adapters.{position_from-zero}
 use Rattle.std.proofs.lemmas.List.Folds.{list_all-append}
 use Rattle.cube_core.specs.Layout.{Layout, IsSchema, spelling_of, is_aggregate_of, is_listed, are_distinct}
-use Rattle.cube_core.specs.Layout.{is_lawful_name}
+use Rattle.cube_core.specs.Layout.{is_lawful_name, is_level, level_text, percentile_opening}
 use Rattle.cube_core.specs.SchemaDocument.{aggregate_spelled}
 use Rattle.cube_core.specs.declared.aggregate.Agg.{Agg}
 use Rattle.cube_core.specs.declared.aggregate.Agg.TheVariants.{CountAll, Count, Sum, Min, Max, Avg}
+use Rattle.cube_core.specs.declared.aggregate.Agg.TheVariants.{CountDistinct, PercentileDisc}
 use Rattle.cube_core.proofs.SchemaSpellingLaws.{aggregate_spelled_measure_in, measure_in, position-between}
 use Rattle.cube_core.proofs.SchemaSpellingLaws.{position-between_none, bytes_eq-between}
+use Rattle.cube_core.proofs.PercentileSpellingLaws.{percentiles_over-one}
+use Rattle.cube_laws.specs.Written.{is_told_apart}
 
 -- a text that is at a place of a list is listed
 is_listed-get_or : (text : List ℕ) (texts : List (List ℕ)) (m : ℕ) → m < length texts → text ≡ get_or texts m []
@@ -41,6 +45,36 @@ position_of-name (name ∷ names) (suc m) k distinct inside =
     ∙ is_listed-get_or name names m (omega arith) ((bytes_eq-Decides name (get_or names m [])).0 same))) in
     rw other (position_of-name names m (k + 1) others (omega arith) ∙ ap Some (omega arith))
 
+position-own : (measures : List (List ℕ)) (m : ℕ) → are_distinct measures ≡ true → m < length measures
+    → position (λ name. bytes_eq name (get_or measures m [])) measures ≡ Some m
+position-own measures m distinct inside =
+    position_from-zero (λ name. bytes_eq name (get_or measures m [])) measures
+    ∙ position_of-name measures m 0 distinct inside
+    ∙ ap Some (omega arith)
+
+-- what isn't listed stands at no place
+position_from-not_listed : (text : List ℕ) (names : List (List ℕ)) (k : ℕ) → is_listed text names ≡ false
+    → position_from (λ name. bytes_eq name text) k names ≡ None
+position_from-not_listed text [] k other = refl
+position_from-not_listed text (name ∷ names) k other = elim (cases_Bool (bytes_eq text name)) [
+  | inl same ↦ absurd (false≢true (sym other ∙ or_left (bytes_eq text name) (is_listed text names) same))
+  | inr apart ↦
+      let here : bytes_eq name text ≡ false =
+      false_from_ne_true _ (λ same. false≢true (sym apart
+      ∙ (bytes_eq-Decides text name).1 (sym ((bytes_eq-Decides name text).0 same)))) in
+      let rest : is_listed text names ≡ false = rw apart at other in
+      rw here (position_from-not_listed text names (k + 1) rest)
+]
+
+-- no count has the spelling of a distinct count that is told apart
+measure_in-apart : (measures : List (List ℕ)) (m : ℕ) → is_told_apart measures (CountDistinct m) ≡ true
+    → measure_in measures (spelling_of measures (CountDistinct m)) (codes "count(") ≡ None
+measure_in-apart measures m apart =
+    let argument : List ℕ = codes "distinct " ++ get_or measures m [] in
+    sym (position-between (codes "count(") (codes ")") (spelling_of measures (CountDistinct m)) argument measures refl)
+    ∙ position_from-zero (λ name. bytes_eq name argument) measures
+    ∙ position_from-not_listed argument measures 0 (not-true (is_listed argument measures) apart)
+
 -- the measure that a spelling names
 measure_in-own : (measures : List (List ℕ)) (m : ℕ) (opening : List ℕ) → are_distinct measures ≡ true
     → m < length measures
@@ -48,9 +82,7 @@ measure_in-own : (measures : List (List ℕ)) (m : ℕ) (opening : List ℕ) →
 measure_in-own measures m opening distinct inside =
     sym (position-between opening (codes ")") ((opening ++ get_or measures m []) ++ codes ")")
     (get_or measures m []) measures refl)
-    ∙ position_from-zero (λ name. bytes_eq name (get_or measures m [])) measures
-    ∙ position_of-name measures m 0 distinct inside
-    ∙ ap Some (omega arith)
+    ∙ position-own measures m distinct inside
 
 -- no measure is named by a text that another function begins
 measure_in-other : (measures : List (List ℕ)) (text opening : List ℕ)
@@ -78,12 +110,20 @@ is_lawful_name-star names m lawful inside =
     false_from_ne_true _
     (λ star. false≢true (ap is_lawful_name ((bytes_eq-Decides (codes "*") (get_or names m [])).0 star) ∙ this))
 
+-- what a percentile's spelling has in brackets: its level, a comma and a name
+percentile-argument : (units places : ℕ) (name : List ℕ)
+    → (codes "percentile_disc(" ++ (level_text places units ++ 44 ∷ name)) ++ codes ")"
+    ≡ (percentile_opening units places ++ name) ++ codes ")"
+percentile-argument units places name =
+    ap (λ t. t ++ codes ")") (sym (append_assoc (codes "percentile_disc(" ++ level_text places units) (codes ",") name
+    ∙ append_assoc (codes "percentile_disc(") (level_text places units) (44 ∷ name)))
+
 pub aggregate_spelled-spelling_of : (measures : List (List ℕ)) (agg : Agg) → list_all is_lawful_name measures ≡ true
-    → are_distinct measures ≡ true → is_aggregate_of (length measures) agg ≡ true
+    → are_distinct measures ≡ true → is_aggregate_of (length measures) agg ≡ true → is_told_apart measures agg ≡ true
     → aggregate_spelled measures (spelling_of measures agg) ≡ Some agg
-aggregate_spelled-spelling_of measures CountAll lawful distinct of =
+aggregate_spelled-spelling_of measures CountAll lawful distinct of apart =
     aggregate_spelled_measure_in measures (codes "count(*)")
-aggregate_spelled-spelling_of measures (Count m) lawful distinct of =
+aggregate_spelled-spelling_of measures (Count m) lawful distinct of apart =
     let inside : m < length measures = grind (arith, nat_tests) in
     let text : List ℕ = spelling_of measures (Count m) in
     let star : bytes_eq text (codes "count(*)") ≡ false =
@@ -91,20 +131,20 @@ aggregate_spelled-spelling_of measures (Count m) lawful distinct of =
     ∙ is_lawful_name-star measures m lawful inside in
     aggregate_spelled_measure_in measures text
     ∙ rw star (option_or-Some Count _ _ m (measure_in-own measures m (codes "count(") distinct inside))
-aggregate_spelled-spelling_of measures (Sum m) lawful distinct of =
+aggregate_spelled-spelling_of measures (Sum m) lawful distinct of apart =
     let inside : m < length measures = grind (arith, nat_tests) in
     let text : List ℕ = spelling_of measures (Sum m) in
     aggregate_spelled_measure_in measures text
     ∙ option_or-None Count _ _ _ (measure_in-other measures text (codes "count(") (λ name. refl))
     (option_or-Some Sum _ _ m (measure_in-own measures m (codes "sum(") distinct inside))
-aggregate_spelled-spelling_of measures (Min m) lawful distinct of =
+aggregate_spelled-spelling_of measures (Min m) lawful distinct of apart =
     let inside : m < length measures = grind (arith, nat_tests) in
     let text : List ℕ = spelling_of measures (Min m) in
     aggregate_spelled_measure_in measures text
     ∙ option_or-None Count _ _ _ (measure_in-other measures text (codes "count(") (λ name. refl))
     (option_or-None Sum _ _ _ (measure_in-other measures text (codes "sum(") (λ name. refl))
     (option_or-Some Min _ _ m (measure_in-own measures m (codes "min(") distinct inside)))
-aggregate_spelled-spelling_of measures (Max m) lawful distinct of =
+aggregate_spelled-spelling_of measures (Max m) lawful distinct of apart =
     let inside : m < length measures = grind (arith, nat_tests) in
     let text : List ℕ = spelling_of measures (Max m) in
     aggregate_spelled_measure_in measures text
@@ -112,7 +152,7 @@ aggregate_spelled-spelling_of measures (Max m) lawful distinct of =
     (option_or-None Sum _ _ _ (measure_in-other measures text (codes "sum(") (λ name. refl))
     (option_or-None Min _ _ _ (measure_in-other measures text (codes "min(") (λ name. refl))
     (option_or-Some Max _ _ m (measure_in-own measures m (codes "max(") distinct inside))))
-aggregate_spelled-spelling_of measures (Avg m) lawful distinct of =
+aggregate_spelled-spelling_of measures (Avg m) lawful distinct of apart =
     let inside : m < length measures = grind (arith, nat_tests) in
     let text : List ℕ = spelling_of measures (Avg m) in
     aggregate_spelled_measure_in measures text
@@ -120,7 +160,32 @@ aggregate_spelled-spelling_of measures (Avg m) lawful distinct of =
     (option_or-None Sum _ _ _ (measure_in-other measures text (codes "sum(") (λ name. refl))
     (option_or-None Min _ _ _ (measure_in-other measures text (codes "min(") (λ name. refl))
     (option_or-None Max _ _ _ (measure_in-other measures text (codes "max(") (λ name. refl))
-    (ap (option_map Avg) (measure_in-own measures m (codes "avg(") distinct inside)))))
+    (option_or-Some Avg _ _ m (measure_in-own measures m (codes "avg(") distinct inside)))))
+aggregate_spelled-spelling_of measures (CountDistinct m) lawful distinct of apart =
+    let inside : m < length measures = grind (arith, nat_tests) in
+    let text : List ℕ = spelling_of measures (CountDistinct m) in
+    aggregate_spelled_measure_in measures text
+    ∙ option_or-None Count _ _ _ (measure_in-apart measures m apart)
+    (option_or-None Sum _ _ _ (measure_in-other measures text (codes "sum(") (λ name. refl))
+    (option_or-None Min _ _ _ (measure_in-other measures text (codes "min(") (λ name. refl))
+    (option_or-None Max _ _ _ (measure_in-other measures text (codes "max(") (λ name. refl))
+    (option_or-None Avg _ _ _ (measure_in-other measures text (codes "avg(") (λ name. refl))
+    (option_or-Some CountDistinct _ _ m (measure_in-own measures m (codes "count(distinct ") distinct inside))))))
+aggregate_spelled-spelling_of measures (PercentileDisc m units places) lawful distinct of apart =
+    let (below, level) = and_parts (nat_lt m (length measures)) (is_level units places) of in
+    let inside : m < length measures = grind (arith, nat_tests, below) in
+    let text : List ℕ = spelling_of measures (PercentileDisc m units places) in
+    let argument : List ℕ = level_text places units ++ 44 ∷ get_or measures m [] in
+    aggregate_spelled_measure_in measures text
+    ∙ option_or-None Count _ _ _ (measure_in-other measures text (codes "count(") (λ name. refl))
+    (option_or-None Sum _ _ _ (measure_in-other measures text (codes "sum(") (λ name. refl))
+    (option_or-None Min _ _ _ (measure_in-other measures text (codes "min(") (λ name. refl))
+    (option_or-None Max _ _ _ (measure_in-other measures text (codes "max(") (λ name. refl))
+    (option_or-None Avg _ _ _ (measure_in-other measures text (codes "avg(") (λ name. refl))
+    (option_or-None CountDistinct _ _ _ (measure_in-other measures text (codes "count(distinct ") (λ name. refl))
+    (percentiles_over-one measures text argument units places (get_or measures m []) level
+    (percentile-argument units places (get_or measures m [])) refl
+    ∙ ap (option_map (λ k. PercentileDisc k units places)) (position-own measures m distinct inside)))))))
 
 -- the measures of a schema are lawful and differ, being its last names
 are_distinct-end : (front end : List (List ℕ)) → are_distinct (front ++ end) ≡ true → are_distinct end ≡ true
@@ -129,10 +194,10 @@ are_distinct-end (name ∷ front) end distinct = are_distinct-end front end
     (and_parts (not (is_listed name (front ++ end))) (are_distinct (front ++ end)) distinct).1
 
 pub aggregate_spelled-IsSchema : (s : Layout) (agg : Agg) → IsSchema s → is_aggregate_of (length s.measures) agg ≡ true
-    → aggregate_spelled s.measures (spelling_of s.measures agg) ≡ Some agg
-aggregate_spelled-IsSchema s agg is of =
+    → is_told_apart s.measures agg ≡ true → aggregate_spelled s.measures (spelling_of s.measures agg) ≡ Some agg
+aggregate_spelled-IsSchema s agg is of apart =
     let lawful : list_all is_lawful_name s.measures ≡ true =
     (and_parts (list_all is_lawful_name s.dimensions) (list_all is_lawful_name s.measures)
     (sym (list_all-append is_lawful_name s.dimensions s.measures) ∙ is.names_are_lawful)).1 in
     aggregate_spelled-spelling_of s.measures agg lawful
-    (are_distinct-end s.dimensions s.measures is.names_are_distinct) of
+    (are_distinct-end s.dimensions s.measures is.names_are_distinct) of apart

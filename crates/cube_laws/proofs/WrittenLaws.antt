@@ -14,7 +14,7 @@ use Rattle.cube_core.specs.SchemaDocument.{spellings_in, max_records_in, default
 use Rattle.cube_core.specs.SchemaDocument.{columns_in, decimals_in, least_measures_in, texts_at}
 use Rattle.cube_core.specs.SchemaDocument.{version_in, document_faults, has_fault, first_fault, layout_of, schema_of}
 use Rattle.cube_core.specs.Shard.{whole_feed}
-use Rattle.cube_laws.specs.Written.{WritesSchema}
+use Rattle.cube_laws.specs.Written.{WritesSchema, are_told_apart, is_told_apart}
 use Rattle.cube_core.specs.declared.aggregate.Agg.{Agg}
 use Rattle.cube_core.specs.declared.schema_fault.SchemaFault.{SchemaFault}
 use Rattle.cube_core.specs.declared.schema_fault.SchemaFault.TheVariants.{UnknownKey, Dimensions, Measures, Name}
@@ -25,22 +25,26 @@ use Rattle.cube_laws.proofs.SpellingLaws.{aggregate_spelled-IsSchema}
 -- the spellings of aggregates are read as these aggregates
 filter_map-spelling_of : (s : Layout) → IsSchema s → (aggregates : List Agg)
     → list_all (is_aggregate_of (length s.measures)) aggregates ≡ true
+    → list_all (is_told_apart s.measures) aggregates ≡ true
     → filter_map (aggregate_spelled s.measures) (map (spelling_of s.measures) aggregates) ≡ aggregates
-filter_map-spelling_of s is [] of = refl
-filter_map-spelling_of s is (agg ∷ aggregates) of =
+filter_map-spelling_of s is [] of apart = refl
+filter_map-spelling_of s is (agg ∷ aggregates) of apart =
     let (here, others) = and_parts (is_aggregate_of (length s.measures) agg)
     (list_all (is_aggregate_of (length s.measures)) aggregates) of in
-    rw (aggregate_spelled-IsSchema s agg is here)
-    (ap (λ rest. agg ∷ rest) (filter_map-spelling_of s is aggregates others))
+    let (one, more) = and_parts (is_told_apart s.measures agg) (list_all (is_told_apart s.measures) aggregates) apart in
+    rw (aggregate_spelled-IsSchema s agg is here one)
+    (ap (λ rest. agg ∷ rest) (filter_map-spelling_of s is aggregates others more))
 
 are_spellings-spelling_of : (s : Layout) → IsSchema s → (aggregates : List Agg)
     → list_all (is_aggregate_of (length s.measures)) aggregates ≡ true
+    → list_all (is_told_apart s.measures) aggregates ≡ true
     → are_spellings s.measures (map (spelling_of s.measures) aggregates) ≡ true
-are_spellings-spelling_of s is [] of = refl
-are_spellings-spelling_of s is (agg ∷ aggregates) of =
+are_spellings-spelling_of s is [] of apart = refl
+are_spellings-spelling_of s is (agg ∷ aggregates) of apart =
     let (here, others) = and_parts (is_aggregate_of (length s.measures) agg)
     (list_all (is_aggregate_of (length s.measures)) aggregates) of in
-    rw (aggregate_spelled-IsSchema s agg is here) (are_spellings-spelling_of s is aggregates others)
+    let (one, more) = and_parts (is_told_apart s.measures agg) (list_all (is_told_apart s.measures) aggregates) apart in
+    rw (aggregate_spelled-IsSchema s agg is here one) (are_spellings-spelling_of s is aggregates others more)
 
 -- a number of texts in its bounds
 is_some_up_to-length : (most : ℕ) (texts : List (List ℕ)) → 1 ≤ length texts → length texts ≤ most
@@ -79,9 +83,9 @@ least_measures-WritesSchema document s is writes = at (get_member (codes "feed")
         omega (arith, zero)
 
 pub WritesSchema-schema_of : (document : Members) (s : Layout) → IsSchema s → s.shard ≡ whole_feed
-    → s.max_record_bytes ≡ None → length s.aggregates ≤ 16
+    → s.max_record_bytes ≡ None → length s.aggregates ≤ 16 → are_told_apart s ≡ true
     → WritesSchema document s → schema_of document ≡ Ok s
-WritesSchema-schema_of document s is whole unbounded few writes =
+WritesSchema-schema_of document s is whole unbounded few apart writes =
     let dimensions : dimensions_in document ≡ s.dimensions = ap (λ o. unwrap_or o []) writes.dimensions in
     let measures : measures_in document ≡ s.measures = ap (λ o. unwrap_or o []) writes.measures in
     let texts : spellings_in document ≡ s.aggregate_texts = ap (λ o. unwrap_or o []) writes.aggregates in
@@ -97,9 +101,9 @@ WritesSchema-schema_of document s is whole unbounded few writes =
     let as_many : length s.aggregate_texts ≡ length s.aggregates =
     ap length is.aggregates_are_spelled ∙ length-map s.aggregates (spelling_of s.measures) in
     let all_spelled : are_spellings (measures_in document) (spellings_in document) ≡ true =
-    rw (measures, spelled) (are_spellings-spelling_of s is s.aggregates is.aggregates_are_of_measures) in
+    rw (measures, spelled) (are_spellings-spelling_of s is s.aggregates is.aggregates_are_of_measures apart) in
     let aggregates : filter_map (aggregate_spelled (measures_in document)) (spellings_in document) ≡ s.aggregates =
-    rw (measures, spelled) (filter_map-spelling_of s is s.aggregates is.aggregates_are_of_measures) in
+    rw (measures, spelled) (filter_map-spelling_of s is s.aggregates is.aggregates_are_of_measures apart) in
     let no_fault : first_fault document ≡ None =
     find-document_faults (has_fault document)
     (not_from_true _ writes.known_keys)

@@ -10,7 +10,7 @@ use Rattle.cube_core.specs.Sources.{IsPrintedOf}
 use Rattle.cube_core.specs.Text.{text_of_rows}
 use Rattle.cube_merge.specs.Lawful.{IsLawfulRow}
 use Rattle.cube_core.specs.declared.aggregate.Agg.{Agg}
-use Rattle.cube_core.specs.declared.aggregate.Agg.TheVariants.{Count, Sum, Avg}
+use Rattle.cube_core.specs.declared.aggregate.Agg.TheVariants.{Count, Sum, Avg, CountDistinct, PercentileDisc}
 use Rattle.cube_core.specs.declared.fact.Fact.{Fact}
 use Rattle.cube_core.specs.declared.key.Row.{Row}
 
@@ -30,9 +30,11 @@ abbrev pub Stands : List Agg → Agg → Type 0
 Stands given agg = (place : ℕ) × (slice_get given place ≡ Some agg)
 
 -- of answers to the given aggregates an answer to this one is made:
--- it is one of them, or a mean whose sum and count are
+-- it is one of them and neither a distinct count nor a percentile, or a mean whose sum and count are
 abbrev pub CanBeMadeOf : List Agg → Agg → Type 0
 CanBeMadeOf given (Avg m) = Stands given (Sum m) × Stands given (Count m)
+CanBeMadeOf given (CountDistinct m) = ⊥
+CanBeMadeOf given (PercentileDisc m units places) = ⊥
 CanBeMadeOf given agg = Stands given agg
 
 mutual

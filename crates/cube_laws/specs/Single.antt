@@ -45,6 +45,8 @@ answer_of_fact fact (agg.Sum m) = answer_of_value (get_or fact.measures m None)
 answer_of_fact fact (agg.Min m) = answer_of_value (get_or fact.measures m None)
 answer_of_fact fact (agg.Max m) = answer_of_value (get_or fact.measures m None)
 answer_of_fact fact (agg.Avg m) = mean_of_value (get_or fact.measures m None)
+answer_of_fact fact (agg.CountDistinct m) = count_of_value (get_or fact.measures m None)
+answer_of_fact fact (agg.PercentileDisc m units places) = answer_of_value (get_or fact.measures m None)
 
 -- what an aggregate answers of no fact
 abbrev pub answer_of_none : Agg → Answer
@@ -54,6 +56,8 @@ answer_of_none (agg.Sum m) = answer.Null
 answer_of_none (agg.Min m) = answer.Null
 answer_of_none (agg.Max m) = answer.Null
 answer_of_none (agg.Avg m) = answer.Null
+answer_of_none (agg.CountDistinct m) = answer.Count 0
+answer_of_none (agg.PercentileDisc m units places) = answer.Null
 
 -- so many coordinates that are all ALL
 abbrev pub all_coords : ℕ → List Coord

@@ -1,11 +1,24 @@
 -- What the laws of the schema document speak of (this project's choice).
-use Rattle.std.specs.Prelude.{◌≡◌, ◌<◌, ℕ, List, true, false, codes, Some, None}
+use Rattle.std.specs.Prelude.{◌≡◌, ◌<◌, ◌++◌, ℕ, Bool, List, [], true, false, not, codes, get_or, Some, None}
+use Rattle.std.specs.List.{list_all}
 use Rattle.toml.specs.Data.{Members, get_member}
-use Rattle.cube_core.specs.Layout.{Layout}
+use Rattle.cube_core.specs.Layout.{Layout, is_listed}
 use Rattle.cube_core.specs.SchemaDocument.{has_fault, has_known_keys, texts_at, max_records_in, grouping_sets_in}
 use Rattle.cube_core.specs.SchemaDocument.{version_in, columns_in, decimals_in}
+use Rattle.cube_core.specs.declared.aggregate.Agg.{Agg}
+use Rattle.cube_core.specs.declared.aggregate.Agg.TheVariants.{CountDistinct}
 use Rattle.cube_core.specs.declared.schema_fault.SchemaFault.{SchemaFault}
 use Rattle.cube_core.specs.declared.schema_fault.SchemaFault.TheVariants as fault
+
+-- whether the spelling of an aggregate is none of a count too: no measure is named as what a distinct count has
+-- in brackets
+abbrev pub is_told_apart : List (List ℕ) → Agg → Bool
+is_told_apart measures (CountDistinct m) = not (is_listed (codes "distinct " ++ get_or measures m []) measures)
+is_told_apart measures _ = true
+
+-- whether that is so of each aggregate of a schema
+abbrev pub are_told_apart : Layout → Bool
+are_told_apart s = list_all (is_told_apart s.measures) s.aggregates
 
 -- the document has no other keys than a schema's, and under each what the schema has there
 pub record WritesSchema (document : Members) (s : Layout) : Type 0 where

@@ -7,6 +7,7 @@ pub mod counts;
 pub mod decimals;
 pub mod feeds;
 pub mod fraction;
+pub mod holistic;
 pub mod keys;
 pub mod life;
 pub mod merging;

@@ -1,8 +1,8 @@
 //! How the cubes of parts of the facts make the cube of them all.
-ghost use Rattle.std.specs.Prelude.{◌≡◌, ◌≤◌, ℕ, List, IsPermutation, Some, length, map, true};
+ghost use Rattle.std.specs.Prelude.{◌≡◌, ◌≤◌, ℕ, List, IsPermutation, Some, length, map, false, true};
 ghost use Rattle.std.specs.List.{AllByRecursion, AllZip, list_all};
 ghost use Rattle.cube_core.specs.Cube.{AreRows, AreRowsOver};
-ghost use Rattle.cube_core.specs.Layout.{IsSchema, Layout};
+ghost use Rattle.cube_core.specs.Layout.{IsSchema, Layout, needs_numbers};
 ghost use Rattle.cube_core.specs.PartialForm.{partial_aggregates, partial_form};
 ghost use Rattle.cube_core.specs.Printed.{IsPrinted};
 ghost use Rattle.cube_core.specs.Sources.{IsPrintedOf};
@@ -28,24 +28,25 @@ pub fn cubes_add_up()
         AreRows (partial_form s) (joined parts) rows }
 {}
 
-/// Under the partial form of a schema each aggregate of the schema's can be made, and each of the partial form's, so that no
-/// merge from the one to the other is given up for its aggregates (this project's choice).
+/// Under the partial form of a schema without distinct counts and percentiles each aggregate of the schema's can be made, and
+/// each of the partial form's, so that no merge from the one to the other is given up for its aggregates (this project's
+/// choice).
 pub fn partial_form_makes_each_aggregate()
-    ensures whole { (s : Layout) →
+    ensures whole { (s : Layout) → needs_numbers s ≡ false →
         list_all (can_be_made (partial_aggregates s.aggregates)) s.aggregates ≡ true }
-    ensures partial { (s : Layout) → list_all
+    ensures partial { (s : Layout) → needs_numbers s ≡ false → list_all
         (can_be_made (partial_aggregates s.aggregates)) (partial_aggregates s.aggregates) ≡ true }
 {}
 
-/// And the rows of the cube of all facts are merged rows of those of the parts, and no others are,
-/// since cubes add up (Gray et al. 1997).
+/// And the rows of the cube of all facts are merged rows of those of the parts, where no aggregate is a distinct count or a
+/// percentile, and no others are, since cubes add up (Gray et al. 1997).
 pub fn whole_rows_are_merged_rows()
     ensures whole { (s : Layout) (parts : List (List Fact)) (cubes : List (List Row)) (rows : List Row) →
-        1 ≤ length parts → AllZip (AreRows (partial_form s)) parts cubes →
+        needs_numbers s ≡ false → 1 ≤ length parts → AllZip (AreRows (partial_form s)) parts cubes →
         AreRows s (joined parts) rows →
         AreMergedOf (partial_aggregates s.aggregates) s.aggregates cubes rows }
     ensures partial { (s : Layout) (parts : List (List Fact)) (cubes : List (List Row)) (rows : List Row) →
-        1 ≤ length parts → AllZip (AreRows (partial_form s)) parts cubes →
+        needs_numbers s ≡ false → 1 ≤ length parts → AllZip (AreRows (partial_form s)) parts cubes →
         AreRows (partial_form s) (joined parts) rows →
         AreMergedOf (partial_aggregates s.aggregates) (partial_aggregates s.aggregates) cubes rows }
 {}

@@ -53,8 +53,8 @@ pub fn greatest_values_roll_up()
         IsGreatest (numbers_at place (rows_below dimension row.key rows)) (answer_at place row) }
 {}
 
-/// A sum, a least and a greatest value are null exactly where those of all cells that drill down from them along one
-/// dimension are (SQL:1999: these aggregates skip nulls, and of no value they are null).
+/// A sum, a least and a greatest value and a percentile are null exactly where those of all cells that drill down from them
+/// along one dimension are (SQL:1999: these aggregates skip nulls, and of no value they are null).
 pub fn nulls_roll_up()
     ensures { (s : Layout) (facts : List Fact) (rows : List Row) (row : Row)
         (dimension place : ℕ) (aggregate : Agg) →

@@ -8,7 +8,7 @@ ghost use Rattle.cube_core.specs.Layout.{Layout, IsSchema, spelling_of, is_aggre
 ghost use Rattle.cube_core.specs.PartialForm.{partial_form};
 ghost use Rattle.cube_core.specs.Shard.{whole_feed};
 ghost use Rattle.cube_core.specs.SchemaDocument.{schema_of, schema_of_parts, named_parts, aggregate_spelled};
-ghost use Rattle.cube_laws.specs.Written.{GivesNames, IsFirstFault, WritesSchema};
+ghost use Rattle.cube_laws.specs.Written.{GivesNames, IsFirstFault, WritesSchema, are_told_apart, is_told_apart};
 ghost use Rattle.cube_core.specs.declared.aggregate.Agg.{Agg};
 ghost use Rattle.cube_core.specs.declared.fact.Fact.{Fact};
 ghost use Rattle.cube_core.specs.declared.key.Row.{Row};
@@ -16,11 +16,12 @@ ghost use Rattle.cube_core.specs.declared.schema_fault.SchemaFault.{SchemaFault}
 
 /// A document that writes a schema is read as that schema and no other: no schema is refused, and none is taken for
 /// another. A document has at most 16 aggregates, the partial form of a schema may have more; and it is of whole feeds, whose
-/// records have no bound.
+/// records have no bound. Where a measure is named `distinct ` and another's name, the count of the one and the distinct count
+/// of the other have one spelling, and the count is meant.
 pub fn written_schema_is_read()
     ensures { (document : Members) (s : Layout) →
         IsSchema s → s.shard ≡ whole_feed → s.max_record_bytes ≡ None → length s.aggregates ≤ 16 →
-        WritesSchema document s → schema_of document ≡ Ok s }
+        are_told_apart s ≡ true → WritesSchema document s → schema_of document ≡ Ok s }
 {}
 
 /// What is told of a document that is refused is its first fault: it has the fault, and none whose code has a smaller number;
@@ -39,10 +40,11 @@ pub fn each_schema_can_be_written()
 {}
 
 /// In a schema the spelling of an aggregate is read as that aggregate, so that no two share a spelling, whatever
-/// the names of the measures.
+/// the names of the measures: but that of a distinct count where a measure is named `distinct ` and the name of its own.
 pub fn spelling_is_of_one_aggregate()
     ensures { (s : Layout) (agg : Agg) →
         IsSchema s → is_aggregate_of (length s.measures) agg ≡ true →
+        is_told_apart s.measures agg ≡ true →
         aggregate_spelled s.measures (spelling_of s.measures agg) ≡ Some agg }
 {}
 

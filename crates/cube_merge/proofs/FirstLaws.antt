@@ -22,6 +22,7 @@ use Rattle.cube_core.specs.Order.{key_cmp}
 use Rattle.cube_core.specs.Text.{header_fields, line, row_line}
 use Rattle.cube_core.specs.declared.aggregate.Agg.{Agg}
 use Rattle.cube_core.specs.declared.aggregate.Agg.TheVariants.{CountAll, Count, Sum, Min, Max, Avg}
+use Rattle.cube_core.specs.declared.aggregate.Agg.TheVariants.{CountDistinct, PercentileDisc}
 use Rattle.cube_core.specs.declared.aggregate.Answer.{Answer}
 use Rattle.cube_core.specs.declared.aggregate.Answer.TheVariants as answer
 use Rattle.cube_core.specs.declared.key.Key.{Key}
@@ -233,6 +234,8 @@ AreInRange-IsPermutation given rows others same fit place agg there = by_agg agg
   by_agg (Min m) h = tt
   by_agg (Max m) h = tt
   by_agg (Avg m) h = tt
+  by_agg (CountDistinct m) h = tt
+  by_agg (PercentileDisc m units places) h = tt
 
 -- of no row nothing is too large
 none-in_range : (agg : Agg) → IsInRange agg []
@@ -242,6 +245,8 @@ none-in_range (Sum m) = record { sfits = lit< tt }
 none-in_range (Min m) = tt
 none-in_range (Max m) = tt
 none-in_range (Avg m) = tt
+none-in_range (CountDistinct m) = tt
+none-in_range (PercentileDisc m units places) = tt
 
 pub AreTooLarge-some : (given : List Agg) (rows : List Row) → AreTooLarge given rows → 0 < length rows
 AreTooLarge-some given [] large = absurd (large.too_large (none-in_range large.agg))

@@ -13,6 +13,7 @@ use Rattle.cube_core.specs.Merged.{MakesAnswer, IsMeanOf, IsMerged, column, coun
 use Rattle.cube_core.specs.Merged.{numbers_of}
 use Rattle.cube_core.specs.declared.aggregate.Agg.{Agg}
 use Rattle.cube_core.specs.declared.aggregate.Agg.TheVariants.{CountAll, Count, Sum, Min, Max, Avg}
+use Rattle.cube_core.specs.declared.aggregate.Agg.TheVariants.{CountDistinct, PercentileDisc}
 use Rattle.cube_core.specs.declared.aggregate.Answer.{Answer}
 use Rattle.cube_core.specs.declared.aggregate.Answer.TheVariants as answer
 use Rattle.cube_core.specs.declared.key.Row.{Row}
@@ -182,6 +183,8 @@ pub IsMerged-Made : (given : List Agg) (rows : List Row) (agg : Agg) (made : Lis
     → AreMadeOfRows given rows made → IsSourceOf given agg (source.Made place)
     → IsMerged given rows agg (get_or made place answer.Null)
 IsMerged-Made given rows (Avg m) made place are is = absurd is
+IsMerged-Made given rows (CountDistinct m) made place are is = absurd is
+IsMerged-Made given rows (PercentileDisc m units places) made place are is = absurd is
 IsMerged-Made given rows CountAll made place are is = (place, is, are place CountAll is)
 IsMerged-Made given rows (Count m) made place are is = (place, is, are place (Count m) is)
 IsMerged-Made given rows (Sum m) made place are is = (place, is, are place (Sum m) is)
@@ -207,6 +210,8 @@ IsMerged-Mean given rows (Count m) made sums counts a are is mean = absurd is
 IsMerged-Mean given rows (Sum m) made sums counts a are is mean = absurd is
 IsMerged-Mean given rows (Min m) made sums counts a are is mean = absurd is
 IsMerged-Mean given rows (Max m) made sums counts a are is mean = absurd is
+IsMerged-Mean given rows (CountDistinct m) made sums counts a are is mean = absurd is
+IsMerged-Mean given rows (PercentileDisc m units places) made sums counts a are is mean = absurd is
 
 -- one more source
 pub AllZip-take : {X Y : Type 0} (R : X → Y → Type 0) (xs : List X) (ys : List Y) (i : ℕ) (d : X) (y : Y)

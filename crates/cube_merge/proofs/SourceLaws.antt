@@ -1,9 +1,10 @@
 -- What can be made of given aggregates.
-use Rattle.std.proofs.Common.{◌≡◌, ◌∷◌, [], ℕ, zero, suc, true, List, Some, None, refl, sym, subst, slice_get}
+use Rattle.std.proofs.Common.{◌≡◌, ◌==◌, ◌&&◌, ◌∷◌, [], ℕ, zero, suc, true, List, Some, None, refl, sym, subst, slice_get}
 use Rattle.std.proofs.lemmas.Bool.{and_from, eq-eqb, or_left, or_right}
 use Rattle.cube_core.specs.PartialForm.{has_aggregate, is_aggregate}
 use Rattle.cube_core.specs.declared.aggregate.Agg.{Agg}
 use Rattle.cube_core.specs.declared.aggregate.Agg.TheVariants.{CountAll, Count, Sum, Min, Max, Avg}
+use Rattle.cube_core.specs.declared.aggregate.Agg.TheVariants.{CountDistinct, PercentileDisc}
 use Rattle.cube_merge.specs.Source.{IsSourceOf, can_be_made}
 use Rattle.cube_merge.specs.declared.source.Source.{Source}
 use Rattle.cube_merge.specs.declared.source.Source.TheVariants.{Made, Mean}
@@ -15,6 +16,10 @@ is_aggregate-self (Sum m) = eq-eqb m m refl
 is_aggregate-self (Min m) = eq-eqb m m refl
 is_aggregate-self (Max m) = eq-eqb m m refl
 is_aggregate-self (Avg m) = eq-eqb m m refl
+is_aggregate-self (CountDistinct m) = eq-eqb m m refl
+is_aggregate-self (PercentileDisc m units places) =
+    and_from (m == m && units == units) (places == places)
+    (and_from (m == m) (units == units) (eq-eqb m m refl) (eq-eqb units units refl)) (eq-eqb places places refl)
 
 same-some : (a b : Agg) → Some a ≡ Some b → a ≡ b
 same-some a b e = cc
@@ -36,6 +41,8 @@ IsSourceOf-can given (Avg m) (Mean sums counts) is =
     and_from (has_aggregate (Sum m) given) (has_aggregate (Count m) given) (has_aggregate-at given sums (Sum m) is.0)
     (has_aggregate-at given counts (Count m) is.1)
 IsSourceOf-can given (Avg m) (Made place) is = absurd is
+IsSourceOf-can given (CountDistinct m) source is = absurd is
+IsSourceOf-can given (PercentileDisc m units places) source is = absurd is
 IsSourceOf-can given CountAll (Made place) is = has_aggregate-at given place CountAll is
 IsSourceOf-can given CountAll (Mean sums counts) is = absurd is
 IsSourceOf-can given (Count m) (Made place) is = has_aggregate-at given place (Count m) is

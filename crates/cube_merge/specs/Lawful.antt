@@ -10,6 +10,7 @@ use Rattle.cube_core.specs.Merged.{IsMeanOf, count_answered}
 use Rattle.cube_core.specs.Takes.{null_text}
 use Rattle.cube_core.specs.declared.aggregate.Agg.{Agg}
 use Rattle.cube_core.specs.declared.aggregate.Agg.TheVariants.{CountAll, Count, Sum, Min, Max, Avg}
+use Rattle.cube_core.specs.declared.aggregate.Agg.TheVariants.{CountDistinct, PercentileDisc}
 use Rattle.cube_core.specs.declared.aggregate.Answer.{Answer}
 use Rattle.cube_core.specs.declared.aggregate.Answer.TheVariants as answer
 use Rattle.cube_core.specs.declared.key.Coord.{Coord}
@@ -63,6 +64,8 @@ IsOfKind (Sum m) a = IsNumber a
 IsOfKind (Min m) a = IsValue a
 IsOfKind (Max m) a = IsValue a
 IsOfKind (Avg m) a = IsFraction a
+IsOfKind (CountDistinct m) a = IsCount a
+IsOfKind (PercentileDisc m units places) a = IsValue a
 
 -- an answer isn't a count of 0
 abbrev pub IsNoZero : Answer → Type 0
@@ -79,6 +82,8 @@ CountsFacts (Sum m) a = ⊤
 CountsFacts (Min m) a = ⊤
 CountsFacts (Max m) a = ⊤
 CountsFacts (Avg m) a = ⊤
+CountsFacts (CountDistinct m) a = ⊤
+CountsFacts (PercentileDisc m units places) a = ⊤
 
 -- a least answer isn't above a greatest one, where both are numbers
 abbrev pub IsInOrder : Answer → Answer → Type 0
@@ -94,6 +99,8 @@ IsAtLeast m least (Count other) a = ⊤
 IsAtLeast m least (Sum other) a = ⊤
 IsAtLeast m least (Min other) a = ⊤
 IsAtLeast m least (Avg other) a = ⊤
+IsAtLeast m least (CountDistinct other) a = ⊤
+IsAtLeast m least (PercentileDisc other units places) a = ⊤
 
 -- an answer, where it is one to a least value, isn't above the greatest value of its measure among answers
 abbrev pub IsWithin : List Agg → List Answer → Agg → Answer → Type 0
@@ -103,6 +110,8 @@ IsWithin aggregates answers (Count m) a = ⊤
 IsWithin aggregates answers (Sum m) a = ⊤
 IsWithin aggregates answers (Max m) a = ⊤
 IsWithin aggregates answers (Avg m) a = ⊤
+IsWithin aggregates answers (CountDistinct m) a = ⊤
+IsWithin aggregates answers (PercentileDisc m units places) a = ⊤
 
 -- no least value among answers is above the greatest value of its measure
 abbrev pub AreInOrder : List Agg → List Answer → Type 0
@@ -123,6 +132,8 @@ measure_of (Sum m) = Some m
 measure_of (Min m) = Some m
 measure_of (Max m) = Some m
 measure_of (Avg m) = Some m
+measure_of (CountDistinct m) = Some m
+measure_of (PercentileDisc m units places) = Some m
 
 -- an answer, where it is one of this measure, tells that it has no value
 abbrev pub TellsNone : ℕ → Agg → Answer → Type 0
@@ -153,11 +164,13 @@ pub record IsLawfulRow (s : Layout) (row : Row) : Type 0 where
 -- the number by which an aggregate's place is found
 abbrev pub number_of : Agg → ℕ
 number_of CountAll = 0
-number_of (Count m) = m % 4 * 5 + 1
-number_of (Sum m) = m % 4 * 5 + 2
-number_of (Min m) = m % 4 * 5 + 3
-number_of (Max m) = m % 4 * 5 + 4
-number_of (Avg m) = m % 4 * 5 + 5
+number_of (Count m) = m % 4 * 6 + 1
+number_of (Sum m) = m % 4 * 6 + 2
+number_of (Min m) = m % 4 * 6 + 3
+number_of (Max m) = m % 4 * 6 + 4
+number_of (Avg m) = m % 4 * 6 + 5
+number_of (CountDistinct m) = m % 4 * 6 + 6
+number_of (PercentileDisc m units places) = m % 4 * 16 + units % 16 + 25
 
 -- an answer is the one at the place of its aggregate
 abbrev pub IsAtPlace : List ℕ → List Answer → Agg → Answer → Type 0
@@ -190,6 +203,8 @@ IsMeanByCount m mean sum (Sum other) a = ⊤
 IsMeanByCount m mean sum (Min other) a = ⊤
 IsMeanByCount m mean sum (Max other) a = ⊤
 IsMeanByCount m mean sum (Avg other) a = ⊤
+IsMeanByCount m mean sum (CountDistinct other) a = ⊤
+IsMeanByCount m mean sum (PercentileDisc other units places) a = ⊤
 
 -- a mean of a measure is this answer, where that is the measure's sum, by the measure's count among answers
 abbrev pub IsMeanOfSum : List Agg → List Answer → ℕ → Answer → Agg → Answer → Type 0
@@ -199,6 +214,8 @@ IsMeanOfSum aggregates answers m mean (Count other) a = ⊤
 IsMeanOfSum aggregates answers m mean (Min other) a = ⊤
 IsMeanOfSum aggregates answers m mean (Max other) a = ⊤
 IsMeanOfSum aggregates answers m mean (Avg other) a = ⊤
+IsMeanOfSum aggregates answers m mean (CountDistinct other) a = ⊤
+IsMeanOfSum aggregates answers m mean (PercentileDisc other units places) a = ⊤
 
 -- an answer, where it is a mean, is the sum by the count of its measure among answers
 abbrev pub IsMeanAmong : List Agg → List Answer → Agg → Answer → Type 0
@@ -208,6 +225,8 @@ IsMeanAmong aggregates answers (Count m) a = ⊤
 IsMeanAmong aggregates answers (Sum m) a = ⊤
 IsMeanAmong aggregates answers (Min m) a = ⊤
 IsMeanAmong aggregates answers (Max m) a = ⊤
+IsMeanAmong aggregates answers (CountDistinct m) a = ⊤
+IsMeanAmong aggregates answers (PercentileDisc m units places) a = ⊤
 
 -- each mean is the sum by the count of its measure, where these stand beside it
 abbrev pub AreMeans : List Agg → List Answer → Type 0

@@ -6,6 +6,7 @@ use Rattle.cube_core.specs.Group.{total_of}
 use Rattle.cube_core.specs.Merged.{column, sum_of_counts, numbers_of}
 use Rattle.cube_core.specs.declared.aggregate.Agg.{Agg}
 use Rattle.cube_core.specs.declared.aggregate.Agg.TheVariants.{CountAll, Count, Sum, Min, Max, Avg}
+use Rattle.cube_core.specs.declared.aggregate.Agg.TheVariants.{CountDistinct, PercentileDisc}
 use Rattle.cube_core.specs.declared.aggregate.Answer.{Answer}
 use Rattle.cube_core.specs.declared.key.Row.{Row}
 
@@ -17,6 +18,8 @@ IsInRange (Sum m) parts = FitsSigned w128 (total_of (numbers_of parts))
 IsInRange (Min m) parts = ⊤
 IsInRange (Max m) parts = ⊤
 IsInRange (Avg m) parts = ⊤
+IsInRange (CountDistinct m) parts = ⊤
+IsInRange (PercentileDisc m units places) parts = ⊤
 
 -- so is each count and each sum of the given aggregates that rows make
 abbrev pub AreInRange : List Agg → List Row → Type 0

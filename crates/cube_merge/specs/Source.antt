@@ -3,24 +3,29 @@ use Rattle.std.specs.Prelude.{◌≡◌, ◌&&◌, ⊤, Bool, false, List, Some,
 use Rattle.std.specs.List.{list_all}
 use Rattle.cube_core.specs.PartialForm.{has_aggregate}
 use Rattle.cube_core.specs.declared.aggregate.Agg.{Agg}
-use Rattle.cube_core.specs.declared.aggregate.Agg.TheVariants.{Count, Sum, Avg}
+use Rattle.cube_core.specs.declared.aggregate.Agg.TheVariants.{Count, Sum, Avg, CountDistinct, PercentileDisc}
 use Rattle.cube_merge.specs.declared.fault.MergeFault.{MergeFault}
 use Rattle.cube_merge.specs.declared.fault.MergeFault.TheVariants.{Aggregates}
 use Rattle.cube_merge.specs.declared.source.Source.{Source}
 use Rattle.cube_merge.specs.declared.source.Source.TheVariants.{Made, Mean}
 
--- the answer to an aggregate comes from here, among the given aggregates
+-- the answer to an aggregate comes from here, among the given aggregates; a distinct count and a percentile come
+-- from nowhere
 abbrev pub IsSourceOf : List Agg → Agg → Source → Type 0
 IsSourceOf given (Avg m) (Mean sums counts) =
     (slice_get given sums ≡ Some (Sum m)) × (slice_get given counts ≡ Some (Count m))
 IsSourceOf given (Avg m) (Made place) = ⊥
+IsSourceOf given (CountDistinct m) source = ⊥
+IsSourceOf given (PercentileDisc m units places) source = ⊥
 IsSourceOf given agg (Made place) = slice_get given place ≡ Some agg
 IsSourceOf given agg (Mean sums counts) = ⊥
 
 -- whether answers to an aggregate can be made of those to the given ones:
--- it stands among them, or is a mean whose sum and count do
+-- it stands among them and is neither a distinct count nor a percentile, or is a mean whose sum and count do
 abbrev pub can_be_made : List Agg → Agg → Bool
 can_be_made given (Avg m) = has_aggregate (Sum m) given && has_aggregate (Count m) given
+can_be_made given (CountDistinct m) = false
+can_be_made given (PercentileDisc m units places) = false
 can_be_made given agg = has_aggregate agg given
 
 -- where a merge is given up for its aggregates, one of the wanted ones can't be made of the given ones

@@ -22,7 +22,7 @@ pub(crate) fn made_of(aggregate: &Agg, answers: &[Answer]) -> Result<Answer, usi
         Agg::Sum(_) => sum_of(answers),
         Agg::Min(_) => Ok(least_of(answers)),
         Agg::Max(_) => Ok(greatest_of(answers)),
-        Agg::Avg(_) => Ok(Answer::Null),
+        Agg::Avg(_) | Agg::CountDistinct(_) | Agg::PercentileDisc { .. } => Ok(Answer::Null),
     }
 }
 

@@ -76,9 +76,11 @@ fn is_of_kind(aggregate: &Agg, answer: Answer) -> bool
     ensures { result ≡ true → IsOfKind aggregate.now answer }
 {
     match aggregate {
-        Agg::CountAll | Agg::Count(_) => matches!(answer, Answer::Count(_)),
+        Agg::CountAll | Agg::Count(_) | Agg::CountDistinct(_) => {
+            matches!(answer, Answer::Count(_))
+        }
         Agg::Sum(_) => is_number(answer),
-        Agg::Min(_) | Agg::Max(_) => is_value(answer),
+        Agg::Min(_) | Agg::Max(_) | Agg::PercentileDisc { .. } => is_value(answer),
         Agg::Avg(_) => is_fraction(answer),
     }
 }
@@ -226,7 +228,9 @@ fn measure_of(aggregate: &Agg) -> Option<usize>
         | Agg::Sum(measure)
         | Agg::Min(measure)
         | Agg::Max(measure)
-        | Agg::Avg(measure) => Some(*measure),
+        | Agg::Avg(measure)
+        | Agg::CountDistinct(measure)
+        | Agg::PercentileDisc { measure, .. } => Some(*measure),
     }
 }
 

@@ -6,7 +6,7 @@ use cube_core::Agg;
 use std::alloc::{AllocError, Global};
 
 // How many numbers aggregates have.
-const NUMBERS: usize = 21;
+const NUMBERS: usize = 89;
 
 /// The last place where each aggregate stands, by the aggregate's number. Only how soon a row is known to be right rests
 /// on it.
@@ -30,16 +30,20 @@ pub(crate) fn place_in(places: &[usize], aggregate: &Agg) -> usize
     }
 }
 
-// The number of an aggregate; those of the four measures of a schema differ.
+// The number of an aggregate; those of the four measures of a schema differ, and those of percentiles mostly.
 fn number_of(aggregate: &Agg) -> usize
     ensures { result ≡ number_of aggregate.now }
 {
     match aggregate {
         Agg::CountAll => 0,
-        Agg::Count(measure) => *measure % 4 * 5 + 1,
-        Agg::Sum(measure) => *measure % 4 * 5 + 2,
-        Agg::Min(measure) => *measure % 4 * 5 + 3,
-        Agg::Max(measure) => *measure % 4 * 5 + 4,
-        Agg::Avg(measure) => *measure % 4 * 5 + 5,
+        Agg::Count(measure) => *measure % 4 * 6 + 1,
+        Agg::Sum(measure) => *measure % 4 * 6 + 2,
+        Agg::Min(measure) => *measure % 4 * 6 + 3,
+        Agg::Max(measure) => *measure % 4 * 6 + 4,
+        Agg::Avg(measure) => *measure % 4 * 6 + 5,
+        Agg::CountDistinct(measure) => *measure % 4 * 6 + 6,
+        Agg::PercentileDisc { measure, units, .. } => {
+            *measure % 4 * 16 + usize::from(*units) % 16 + 25
+        }
     }
 }

@@ -75,6 +75,7 @@ fn source_of(given: &[Agg], wanted: &Agg) -> Option<Source>
         Agg::CountAll | Agg::Count(_) | Agg::Sum(_) | Agg::Min(_) | Agg::Max(_) => {
             Some(Source::Made(place_of(given, wanted)?))
         }
+        Agg::CountDistinct(_) | Agg::PercentileDisc { .. } => None,
     }
 }
 

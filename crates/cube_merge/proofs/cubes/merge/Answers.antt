@@ -11,6 +11,11 @@ use Rattle.cube_merge.proofs.FaultLaws.{FailsToMerge-inputs, FailsToMerge-open}
 use Rattle.cube_merge.proofs.LackLaws.{tells-inputs, tells-open}
 use Rattle.cube_merge.proofs.cubes.merge.Goals as goal
 
+pub merge_inputs-requires : goal.merge_inputs-requires
+merge_inputs-requires g c =
+    let some = rw (c.aggregates-3.ensures.value, c.aggregates-4.ensures.value) at c.in_ok-sources.ensures.some in
+    rw c.as_slice-2.ensures.value (rw c.in-Some.is at some)
+
 pub returns-clause-ok : goal.returns-clause-ok
 returns-clause-ok g c =
     let first = line (header_fields c.args.given.now) in
