@@ -18,3 +18,4 @@ pub mod BottomUp
 pub mod Ranking
 pub mod WalkParts
 pub mod FinestRows
+pub mod BaseCuboid

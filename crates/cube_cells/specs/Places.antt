@@ -7,8 +7,8 @@ use Rattle.cube_cells.specs.declared.cube.ordered.Place.{Place}
 use Rattle.cube_cells.specs.declared.cube.rows.Want.{Want}
 
 -- these are the places of the wanted ones of some cells, in their order, each with the ranks of its codes
-pub record ArePlacesOf {N : Type 0} (ranks : List (List ℕ)) (wants : List Want) (cells : CodedCells)
-    (places : List (Place N))
+pub record ArePlacesOf (ranks : List (List ℕ)) (wants : List Want) (cells : CodedCells)
+    (places : List Place)
     : Type 0 where
   pub cells_are : map (λ place. (place.codes.now, place.cell.now)) places
       ≡ filter (λ cell. are_wanted_codes wants cell.0.codes) cells

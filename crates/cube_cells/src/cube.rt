@@ -12,6 +12,7 @@ ghost use Rattle.cube_cells.specs.Codes.{IsDictionary, AreCodesOf, are_codes, co
 ghost use Rattle.cube_cells.specs.Count.{HasCellsOver};
 ghost use Rattle.cube_cells.specs.Cube.{Lattice, IsLattice, IsCubeOf, HoldsFact, AddsFact, TakesFact, AddsTexts, MayAddTexts, SameCells, cell_at, count_in, IsNewLattice};
 
+mod base_cuboid;
 mod bottom_up;
 mod cell_count;
 mod cell_key;
@@ -33,6 +34,7 @@ mod walk;
 mod walk_parts;
 
 use crate::cell::Cell;
+pub use base_cuboid::BaseCuboid;
 pub use bottom_up::TakesCells;
 use cell_key::CellKey;
 use codes::ALL;

@@ -7,7 +7,8 @@
 //! [`OrderedCells`] are its cells in key order, each a [`KeyedCell`].
 //! [`FinestCells`] are those of the finest grouping set alone; a walk over them hands the cells of a whole cube to what
 //! [`TakesCells`], and a question to them walks to the grouping sets alone that can answer it. [`RaisedCells`] cut such a
-//! walk into [`WalkPart`]s, which several threads may take.
+//! walk into [`WalkPart`]s, which several threads may take. A [`BaseCuboid`] is finest cells with as much of their values as
+//! the aggregates of the schema need.
 #![tactic(auto)]
 
 mod cell;
@@ -17,8 +18,8 @@ mod measure;
 
 pub use cell::Cell;
 pub use cube::{
-    Codes as KeyCodes, Cube, FinestCells, KeyedCell, OrderedCells, RaisedCells, SortedTexts,
-    TakesCells, WalkPart, row_of,
+    BaseCuboid, Codes as KeyCodes, Cube, FinestCells, KeyedCell, OrderedCells, RaisedCells,
+    SortedTexts, TakesCells, WalkPart, row_of,
 };
 pub use cube_core::{CoordRef, reduced};
 pub use cube_values::{Counted, Numbers, Summary};

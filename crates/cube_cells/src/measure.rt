@@ -1,9 +1,10 @@
 //! The values of one measure in a cell.
-ghost use Rattle.std.specs.Prelude.{◌≡◌, ◌<◌, ◌≤◌, ◌+◌, ◌+ℤ◌, ◌-ℤ◌, ◌^◌, List, IfNone, IfSome, OnOk, OnErr, ℤ, FitsSigned};
+ghost use Rattle.std.specs.Prelude.{◌≡◌, ◌<◌, ◌≤◌, ◌+◌, ◌+ℤ◌, ◌-ℤ◌, ◌^◌, true, List, IsTrue, IfNone, IfOk, IfSome, OnOk, OnErr, ℤ, FitsSigned};
 ghost use Rattle.std.specs.Int.{w128};
 ghost use Rattle.std.specs.Option.{ForSome};
-ghost use Rattle.cube_core.specs.Answer.{IsSum, IsLeast, IsGreatest, IsMean};
+ghost use Rattle.cube_core.specs.Answer.{IsSum, IsLeast, IsGreatest, IsMean, IsDistinctCount, IsPercentile, percentile_place};
 ghost use Rattle.cube_core.specs.Fraction.{IsInLowestTerms};
+ghost use Rattle.cube_core.specs.Layout.{is_level};
 ghost use Rattle.cube_core.specs.declared.aggregate.Answer.TheVariants.{Null, Whole};
 ghost use Rattle.cube_values.specs.Bag.{AddsBag, size_of, held_of};
 ghost use Rattle.cube_cells.specs.Tally.{AddsValue, IsBagOf, holds_value};
@@ -119,6 +120,28 @@ impl<N: Numbers> Measure<N> {
         let (p, q) = lowest_terms(self.sum, self.values.len());
         Answer::Ratio { p, q }
     }
+
+    /// How many different values there are. The only error is that memory ran out.
+    pub fn different(&self) -> Result<Answer, AllocError>
+        requires { IsTrue N.keeps }
+        ensures { IfOk result (λ answer. (values : List ℤ) → IsBagOf values self.now → IsDistinctCount values answer) }
+    {
+        let number = self.values.different()?;
+        Ok(Answer::Count(number))
+    }
+
+    /// The value at the place of a percentile of this level, null where there is none. It takes no memory.
+    pub fn percentile(&self, units: u16, places: u8) -> Answer
+        requires keeps { IsTrue N.keeps }
+        requires level { is_level units places ≡ true }
+        ensures { (values : List ℤ) → IsBagOf values self.now → IsPercentile units places values result }
+    {
+        if self.values.is_empty() {
+            return Answer::Null;
+        }
+        let place = percentile_place(units, places, self.values.len());
+        Answer::Whole(i128::from(self.values.at_place(place)))
+    }
 }
 
 impl Measure {
@@ -142,6 +165,19 @@ impl Measure {
             None => self.values.len() < facts,
         }
     }
+}
+
+// The place of a percentile of this level among so many values.
+fn percentile_place(units: u16, places: u8, count: u64) -> u64
+    requires some { 1 ≤ count }
+    requires level { is_level units places ≡ true }
+    ensures place { result ≡ percentile_place units places count }
+    ensures first { 1 ≤ result }
+    ensures last { result ≤ count }
+{
+    let scale = 10u128.pow(u32::from(places));
+    let place = (u128::from(units) * u128::from(count) + scale - 1) / scale;
+    place.max(1) as u64
 }
 
 // A sum by a count in lowest terms. Most cells of many have one value, and by 1 nothing is divided.

@@ -91,7 +91,7 @@ IsMean-Ratio (v ∷ values) bag sum p q is s some lowest =
     (p, q, refl, rw (total_of-IsSumOf (v ∷ values) bag sum is s, ← size_of-IsBagOf (v ∷ values) bag is) lowest)
 
 -- a number that is counted is in the list
-Contains-count_by : (x : ℤ) (values : List ℤ) → 0 < count_by (int_eq x) values → Contains values x
+pub Contains-count_by : (x : ℤ) (values : List ℤ) → 0 < count_by (int_eq x) values → Contains values x
 Contains-count_by x [] some = absurd (omega arith)
 Contains-count_by x (v ∷ values) some = elim (int_eq x v) as (λ b. int_eq x v ≡ b → Contains (v ∷ values) x) [
   | true ↦ λ same. (0, omega arith, sym (int_eq-same x v same))
@@ -101,7 +101,7 @@ Contains-count_by x (v ∷ values) some = elim (int_eq x v) as (λ b. int_eq x v
 ] refl
 
 -- a number in the list is counted
-All-count_by : (values : List ℤ) → All (λ x. 0 < count_by (int_eq x) values) values
+pub All-count_by : (values : List ℤ) → All (λ x. 0 < count_by (int_eq x) values) values
 All-count_by values = λ k d inside. omega (
   arith,
   get_or-le-sum_by (one_at (get_or values k d)) values k d inside,

@@ -1,8 +1,9 @@
 //! The finest cells of some facts in key order: all that a walk over their whole cube wants.
-ghost use Rattle.std.specs.Prelude.{◌≡◌, ◌<◌, ◌≤◌, ◌^◌, ◌∷◌, [], All, List, get_or, length, IfOk, OnOk};
+ghost use Rattle.std.specs.Prelude.{◌≡◌, ◌<◌, ◌≤◌, ◌^◌, ◌∷◌, [], true, All, List, get_or, length, IfOk, OnOk};
 ghost use Rattle.std.specs.Cmp.Lexicographic.{slice_cmp};
 ghost use Rattle.std.specs.List.Sorted.{IsPermutation, IsSortedBy};
 ghost use Rattle.std.specs.Ordering.{is_lt, nat_cmp};
+ghost use Rattle.cube_core.specs.Layout.{all_suffice};
 ghost use Rattle.cube_core.specs.Referred.{referred_coord};
 ghost use Rattle.cube_core.specs.declared.fact.Fact.{Fact};
 ghost use Rattle.cube_core.specs.declared.key.Coord.TheVariants as coord;
@@ -27,7 +28,7 @@ use std::alloc::{AllocError, Global};
 use std::marker::Model;
 
 /// The cells of some facts over the finest grouping set, in key order. A walk over them hands over the cells of all grouping
-/// sets of their schema, and no other cell is kept.
+/// sets of their schema, and no other cell is kept. Where an aggregate of the schema is holistic, each number is kept.
 #[derive(Drop)]
 pub struct FinestCells<N: Numbers> {
     pub(super) alloc: Global,
@@ -38,7 +39,8 @@ pub struct FinestCells<N: Numbers> {
 }
 
 impl<N: Numbers> Model for FinestCells<N> {
-    ghost use Rattle.std.specs.Prelude.{◌∷◌, [], length};
+    ghost use Rattle.std.specs.Prelude.{◌≡◌, ◌∷◌, [], true, length};
+    ghost use Rattle.cube_core.specs.Layout.{all_suffice};
     ghost use Rattle.cube_cells.specs.BottomUp.{AreToWalk, cells_of_items};
     ghost use Rattle.cube_cells.specs.Coded.{lattice_of};
     ghost use Rattle.cube_cells.specs.Cube.{Lattice};
@@ -49,7 +51,8 @@ impl<N: Numbers> Model for FinestCells<N> {
     ghost view = { λ c. lattice_of c.schema (finest_set (length c.schema.dimensions) ∷ []) c.facts c.texts.items
         (cells_of_items c.items.items) };
 
-    ghost invariant = { λ c. AreToWalk c.schema c.facts c.texts.items (cells_of_items c.items.items) };
+    ghost invariant = { λ c. AreToWalk c.schema c.facts c.texts.items (cells_of_items c.items.items)
+        × (all_suffice N.keeps c.schema ≡ true) };
 }
 
 impl<N: Numbers> FinestCells<N> {
@@ -58,6 +61,7 @@ impl<N: Numbers> FinestCells<N> {
     pub fn of(finest: Cube<N>) -> Result<FinestCells<N>, AllocError>
         requires sets { finest.sets ≡ finest_set (length finest.schema.dimensions) ∷ [] }
         requires facts { (facts : List Fact) × IsCubeOfAll facts finest }
+        requires numbers { all_suffice N.keeps finest.schema ≡ true }
         ensures schema { IfOk result (λ cells. cells.schema ≡ finest.schema) }
         ensures facts { IfOk result (λ cells.
             (facts : List Fact) → IsCubeOfAll facts finest → IsCubeOfAll facts cells) }
@@ -83,9 +87,10 @@ impl<N: Numbers> FinestCells<N> {
         })
     }
 
-    /// The schema of the facts.
+    /// The schema of the facts, of which each aggregate can be answered by what the cells keep.
     pub fn schema(&self) -> &Schema
-        ensures { result.now ≡ self.now.schema }
+        ensures schema { result.now ≡ self.now.schema }
+        ensures numbers { all_suffice N.keeps result.now ≡ true }
     {
         &self.schema
     }

@@ -1,5 +1,5 @@
 //! A cell with its key, read where they lie.
-ghost use Rattle.std.specs.Prelude.{◌≡◌, ◌<◌, ◌≤◌, [], List, length, get_or, IsTrue};
+ghost use Rattle.std.specs.Prelude.{◌≡◌, ◌<◌, ◌≤◌, [], List, length, get_or, IsTrue, IfOk};
 ghost use Rattle.cube_core.specs.Answer.{IsAnswer};
 ghost use Rattle.cube_core.specs.Layout.{is_aggregate_of};
 ghost use Rattle.cube_core.specs.Referred.{referred_coord};
@@ -12,18 +12,18 @@ use super::codes::Codes;
 use super::dictionary::Dictionary;
 use crate::cell::Cell;
 use cube_core::{Agg, Answer, CoordRef};
-use cube_values::{Counted, Numbers};
+use std::alloc::AllocError;
 use std::marker::Model;
 
 /// A cell and its key. No text is copied, and no answer is kept.
 #[derive(Drop)]
-pub struct KeyedCell<'c, N: Numbers = Counted> {
+pub struct KeyedCell<'c> {
     pub(super) dictionaries: &'c [Dictionary],
     pub(super) codes: &'c Codes,
-    pub(super) cell: &'c Cell<N>,
+    pub(super) cell: &'c Cell,
 }
 
-impl<'c, N: Numbers> Model for KeyedCell<'c, N> {
+impl<'c> Model for KeyedCell<'c> {
     ghost use Rattle.std.specs.Prelude.{◌≤◌, length};
     ghost use Rattle.cube_core.specs.declared.key.Key.{Key};
     ghost use Rattle.cube_cells.specs.Codes.{key_at};
@@ -36,7 +36,7 @@ impl<'c, N: Numbers> Model for KeyedCell<'c, N> {
     ghost invariant = { λ k. length k.dictionaries.now ≤ 8 };
 }
 
-impl<'c, N: Numbers> KeyedCell<'c, N> {
+impl<'c> KeyedCell<'c> {
     /// How many coordinates the key has.
     pub fn dimensions(&self) -> usize
         ensures { result ≡ length self.now.0.coords }
@@ -52,13 +52,13 @@ impl<'c, N: Numbers> KeyedCell<'c, N> {
         coord_in(self.dictionaries, self.codes, dimension)
     }
 
-    /// The answer of an aggregate over any facts that the cell is the tally of.
-    pub fn answer(&self, aggregate: &Agg) -> Answer
+    /// The answer of an aggregate over any facts that the cell is the tally of. The only error is that memory ran out.
+    pub fn answer(&self, aggregate: &Agg) -> Result<Answer, AllocError>
         requires { IsTrue (is_aggregate_of (length self.now.1.bags) aggregate.now) }
-        ensures { (facts : List Fact) → IsTallyOf facts self.now.1 →
-            IsAnswer facts aggregate.now result }
+        ensures { IfOk result (λ answer. (facts : List Fact) → IsTallyOf facts self.now.1 →
+            IsAnswer facts aggregate.now answer) }
     {
-        self.cell.answer(aggregate)
+        self.cell.try_answer(aggregate)
     }
 }
 

@@ -4,7 +4,7 @@ ghost use Rattle.std.specs.List.{AllZip, list_all};
 ghost use Rattle.std.specs.List.Sorted.{IsPermutation, IsSortedBy};
 ghost use Rattle.std.specs.Ordering.{is_lt};
 ghost use Rattle.cube_core.specs.Order.{key_cmp};
-ghost use Rattle.cube_core.specs.Layout.{is_aggregate_of};
+ghost use Rattle.cube_core.specs.Layout.{is_aggregate_of, suffices};
 ghost use Rattle.cube_core.specs.declared.key.Key.{Key};
 ghost use Rattle.cube_cells.specs.Codes.{Dictionaries, coords_at, key_at};
 ghost use Rattle.cube_cells.specs.Rows.{AreAnswersOf, AreRowsInOrder, IsRowOf};
@@ -17,37 +17,37 @@ use super::keyed::KeyedCell;
 use super::ranks::KeyRanks;
 use crate::cell::Cell;
 use cube_core::{Agg, Key, Row, Sequence};
-use cube_values::{Counted, Numbers};
+use cube_values::Numbers;
 use std::alloc::{AllocError, Global};
 use std::marker::Model;
 
 /// Where a row comes from: a cell, and the ranks of its key.
 #[derive(Drop)]
-pub struct Place<'c, N: Numbers = Counted> {
+pub struct Place<'c> {
     pub ranks: KeyRanks,
     pub codes: &'c Codes,
-    pub cell: &'c Cell<N>,
+    pub cell: &'c Cell,
 }
 
 // A cell, and the codes of its key by these dictionaries.
 #[derive(Drop)]
-struct Coded<'c, N: Numbers> {
+struct Coded<'c> {
     dictionaries: &'c [Dictionary],
     codes: &'c Codes,
-    cell: &'c Cell<N>,
+    cell: &'c Cell,
 }
 
 /// Cells of a cube, or of several, in the order of their keys, with the aggregates that their rows answer.
 ///
 /// It holds no row: each cell and its key are read where they lie.
 #[derive(Drop)]
-pub struct OrderedCells<'c, N: Numbers = Counted> {
+pub struct OrderedCells<'c> {
     alloc: Global,
     aggregates: &'c [Agg],
-    cells: Vec<Coded<'c, N>>,
+    cells: Vec<Coded<'c>>,
 }
 
-impl<'c, N: Numbers> Model for OrderedCells<'c, N> {
+impl<'c> Model for OrderedCells<'c> {
     ghost use Rattle.std.specs.Prelude.{[], ◌≡◌, ◌≤◌, true, All, length, map};
     ghost use Rattle.std.specs.List.{list_all};
     ghost use Rattle.cube_core.specs.Layout.{is_aggregate_of};
@@ -66,14 +66,14 @@ impl<'c, N: Numbers> Model for OrderedCells<'c, N> {
         × (list_all (is_aggregate_of (length coded.cell.now.bags)) o.aggregates.now ≡ true)) o.cells.items };
 }
 
-impl<'c, N: Numbers> OrderedCells<'c, N> {
+impl<'c> OrderedCells<'c> {
     /// The cells of these places. The only error is that memory ran out.
     pub(super) fn of(
         alloc: Global,
         aggregates: &'c [Agg],
         dictionaries: &'c [Dictionary],
-        places: &[Place<'c, N>],
-    ) -> Result<OrderedCells<'c, N>, AllocError>
+        places: &[Place<'c>],
+    ) -> Result<OrderedCells<'c>, AllocError>
         requires dictionaries { length dictionaries.now ≤ 8 }
         requires aggregates { All (λ place. list_all
             (is_aggregate_of (length place.cell.now.bags)) aggregates.now ≡ true) places.now }
@@ -90,7 +90,7 @@ impl<'c, N: Numbers> OrderedCells<'c, N> {
     }
 
     /// Puts the cells of another cube after these, to be sorted with them. The only error is that memory ran out.
-    pub fn append(&mut self, other: OrderedCells<'c, N>) -> Result<(), AllocError>
+    pub fn append(&mut self, other: OrderedCells<'c>) -> Result<(), AllocError>
         requires { other.aggregates ≡ self.old.aggregates }
         ensures aggregates { self.new.aggregates ≡ self.old.aggregates }
         ensures cells { OnOk result (self.new.cells ≡ self.old.cells ++ other.entry.cells) }
@@ -135,7 +135,7 @@ impl<'c, N: Numbers> OrderedCells<'c, N> {
     }
 
     /// The cell at a place, counted from 0, with its key.
-    pub fn cell_at(&self, place: usize) -> KeyedCell<'_, N>
+    pub fn cell_at(&self, place: usize) -> KeyedCell<'_>
         requires { place < length self.now.cells }
         ensures cell { (unused : Key × Tally) → result ≡ get_or self.now.cells place unused }
         ensures aggregates { list_all (is_aggregate_of (length result.1.bags)) self.now.aggregates ≡ true }
@@ -173,11 +173,11 @@ impl<'c, N: Numbers> OrderedCells<'c, N> {
 
 // The cells of places. Neither a cell nor its codes are read, which lie in memory that no cache holds: who prints reads both
 // at once, and several print.
-fn coded_cells<'c, N: Numbers>(
+fn coded_cells<'c>(
     alloc: Global,
     dictionaries: &'c [Dictionary],
-    places: &[Place<'c, N>],
-) -> Result<Vec<Coded<'c, N>>, AllocError>
+    places: &[Place<'c>],
+) -> Result<Vec<Coded<'c>>, AllocError>
     ensures { IfOk result (λ cells. map {B = Dictionaries × (Codes × Tally)}
         (λ coded. (coded.dictionaries.now, (coded.codes.now, coded.cell.now))) cells.items
         ≡ map (λ place. (dictionaries.now, (place.codes.now, place.cell.now))) places.now) }
@@ -207,19 +207,20 @@ fn key_in(alloc: Global, dictionaries: &[Dictionary], codes: &Codes) -> Result<K
     })
 }
 
-/// The row of a key with a cell. The only error is that memory ran out.
+/// The row of a key with a cell, whose aggregates can be answered by what it keeps. The only error is that memory ran out.
 pub fn row_of<N: Numbers>(
     alloc: Global,
     aggregates: &[Agg],
     key: Key,
     cell: &Cell<N>,
 ) -> Result<Row, AllocError>
-    requires { list_all (is_aggregate_of (length cell.now.bags)) aggregates.now ≡ true }
+    requires measures { list_all (is_aggregate_of (length cell.now.bags)) aggregates.now ≡ true }
+    requires keeps { list_all (suffices N.keeps) aggregates.now ≡ true }
     ensures { IfOk result (IsRowOf aggregates.now (key, cell.now)) }
 {
     let mut answers = Vec::with_capacity(alloc, aggregates.len())?;
     for aggregate in aggregates {
-        answers.push(cell.answer(aggregate))?;
+        answers.push(cell.try_answer(aggregate)?)?;
     }
     Ok(Row {
         key,

@@ -12,7 +12,6 @@ use super::codes::ALL;
 use super::ordered::row_of;
 use super::rows::Want;
 use cube_core::{Coord, Key, Pattern, QueryFault, Row, Sequence};
-use cube_values::Numbers;
 use std::alloc::{AllocError, Global};
 
 /// What has texts with codes in some dimensions.
@@ -26,7 +25,7 @@ pub trait FindsCodes {
         ensures { IsCodeOf (get_or (dictionaries self.now) dimension []) coord.now result };
 }
 
-impl<N: Numbers> FindsCodes for Cube<N> {
+impl FindsCodes for Cube {
     ghost dictionaries = { λ cube. cube.dictionaries };
 
     fn code_in(&self, dimension: usize, coord: &Coord) -> u32 {
@@ -34,7 +33,7 @@ impl<N: Numbers> FindsCodes for Cube<N> {
     }
 }
 
-impl<N: Numbers> Cube<N> {
+impl Cube {
     /// The rows of the cells whose keys a pattern matches, in key order. The only error is that memory ran out.
     pub fn slice(&self, pattern: &Pattern) -> Result<Vec<Row>, AllocError>
         ensures rows { IfOk result (λ rows. AreRowsOf (matches pattern.now)

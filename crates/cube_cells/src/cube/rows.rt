@@ -24,7 +24,6 @@ use super::ordered::{OrderedCells, Place};
 use super::ranks::{Ranks, ranks_of, ranks_of_all};
 use crate::cell::Cell;
 use cube_core::Row;
-use cube_values::Numbers;
 use std::alloc::{AllocError, Global};
 
 /// What is wanted of the code of a dimension.
@@ -35,7 +34,7 @@ pub enum Want {
     Not(u32),
 }
 
-impl<N: Numbers> Cube<N> {
+impl Cube {
     /// The rows of all cells in key order: dimension by dimension, texts by their bytes, then null, then ALL.
     pub fn rows(&self) -> Result<Vec<Row>, AllocError>
         ensures rows { IfOk result (λ rows.
@@ -48,7 +47,7 @@ impl<N: Numbers> Cube<N> {
     }
 
     /// The cells in the order of their keys, for rows that are made one at a time. The only error is that memory ran out.
-    pub fn ordered(&self) -> Result<OrderedCells<'_, N>, AllocError>
+    pub fn ordered(&self) -> Result<OrderedCells<'_>, AllocError>
         ensures rows { IfOk result (λ ordered. (rows : List Row) → AreRowsInOrder ordered rows →
             AreRowsOf (λ key. true) self.now.schema.aggregates self.now.cells rows) }
         ensures cube { IfOk result (λ ordered. (rows : List Row) → AreRowsInOrder ordered rows →
@@ -82,7 +81,7 @@ impl<N: Numbers> Cube<N> {
     }
 
     // The cells whose codes are wanted, in the order of their keys.
-    fn ordered_where(&self, wants: &[Want]) -> Result<OrderedCells<'_, N>, AllocError>
+    fn ordered_where(&self, wants: &[Want]) -> Result<OrderedCells<'_>, AllocError>
         ensures rows { IfOk result (λ ordered. (test : Key → Bool) →
             AreWantsOf self.now.dictionaries test wants.now →
             (rows : List Row) → AreRowsInOrder ordered rows →
@@ -102,12 +101,12 @@ impl<N: Numbers> Cube<N> {
 }
 
 // The cells whose codes are wanted, by their keys.
-fn few_places_in_order<'c, N: Numbers>(
+fn few_places_in_order<'c>(
     alloc: Global,
     dictionaries: &[Dictionary],
-    levels: &'c [Level<N>],
+    levels: &'c [Level],
     wants: &[Want],
-) -> Result<Vec<Place<'c, N>>, AllocError>
+) -> Result<Vec<Place<'c>>, AllocError>
     ensures cells { IfOk result (λ places. IsPermutation
         (filter (λ cell. are_wanted_codes wants.now cell.0.codes) (cells_of levels.now))
         (map (λ place. (place.codes.now, place.cell.now)) places.items)) }
@@ -123,12 +122,12 @@ fn few_places_in_order<'c, N: Numbers>(
 }
 
 // The cells whose codes are wanted, by the ranks of their keys.
-fn places_in_order<'c, N: Numbers>(
+fn places_in_order<'c>(
     alloc: Global,
     ranks: &[Ranks],
-    levels: &'c [Level<N>],
+    levels: &'c [Level],
     wants: &[Want],
-) -> Result<Vec<Place<'c, N>>, AllocError>
+) -> Result<Vec<Place<'c>>, AllocError>
     requires ranks { length ranks.now ≤ 8 }
     ensures cells { IfOk result (λ places. IsPermutation
         (filter (λ cell. are_wanted_codes wants.now cell.0.codes) (cells_of levels.now))
@@ -144,12 +143,12 @@ fn places_in_order<'c, N: Numbers>(
 }
 
 // The cells whose codes are wanted.
-fn places_of<'c, N: Numbers>(
+fn places_of<'c>(
     alloc: Global,
     ranks: &[Ranks],
-    levels: &'c [Level<N>],
+    levels: &'c [Level],
     wants: &[Want],
-) -> Result<Vec<Place<'c, N>>, AllocError>
+) -> Result<Vec<Place<'c>>, AllocError>
     requires { length ranks.now ≤ 8 }
     ensures { IfOk result (λ places. ArePlacesOf ranks.now wants.now (cells_of levels.now) places.items) }
 {
@@ -161,10 +160,10 @@ fn places_of<'c, N: Numbers>(
 }
 
 // Puts the cells of a table whose codes are wanted at the end.
-fn push_places<'c, N: Numbers>(
-    places: &mut Vec<Place<'c, N>>,
+fn push_places<'c>(
+    places: &mut Vec<Place<'c>>,
     ranks: &[Ranks],
-    cells: &'c Cells<N>,
+    cells: &'c Cells,
     wants: &[Want],
 ) -> Result<(), AllocError>
     requires { length ranks.now ≤ 8 }

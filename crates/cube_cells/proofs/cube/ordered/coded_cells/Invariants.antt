@@ -5,7 +5,7 @@ use Rattle.cube_cells.specs.declared.cube.codes.Codes.{Codes}
 use Rattle.cube_cells.proofs.cube.ordered.coded_cells.Given as goal
 
 abbrev pub invariant-loop-place : goal.invariant-loop-place
-invariant-loop-place g l =
+invariant-loop-place l =
     map {B = Dictionaries × (Codes × Tally)} (λ coded. (
       coded.dictionaries.now,
       (coded.codes.now, coded.cell.now),

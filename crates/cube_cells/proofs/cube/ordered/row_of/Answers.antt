@@ -12,7 +12,7 @@ loop-aggregate-preserved g c =
     let inside : i < length aggregates = omega arith in
     λ facts tally. rw (c.in_ok-push.ensures.items, take_more aggregates i CountAll inside)
     (AllZip-push (IsAnswer facts) (take i aggregates) c.loop-aggregate.answers.items (get_or aggregates i CountAll)
-    c.answer.result (c.loop-aggregate.invariant facts tally) (c.answer.ensures facts tally))
+    c.in_ok-try_answer.field-0 (c.loop-aggregate.invariant facts tally) (c.in_ok-try_answer.ensures facts tally))
 
 pub loop-aggregate-init : goal.loop-aggregate-init
 loop-aggregate-init g c =

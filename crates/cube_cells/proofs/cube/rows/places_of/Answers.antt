@@ -11,7 +11,7 @@ use Rattle.cube_cells.proofs.Cells.TableLaws.{cells_of-take_more}
 use Rattle.cube_cells.proofs.cube.rows.places_of.Goals as goal
 
 pub loop-level-preserved : goal.loop-level-preserved
-loop-level-preserved g c =
+loop-level-preserved c =
     let i = c.loop-level.level-index in
     let levels = c.args.levels.now in
     let level = c.level-item.result in

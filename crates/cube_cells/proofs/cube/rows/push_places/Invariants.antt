@@ -5,7 +5,7 @@ use Rattle.cube_cells.specs.Rows.{are_wanted_codes}
 use Rattle.cube_cells.proofs.cube.rows.push_places.Given as goal
 
 abbrev pub invariant-loop-codes : goal.invariant-loop-codes
-invariant-loop-codes g l = record {
+invariant-loop-codes l = record {
   cells : map (λ place. (place.codes.now, place.cell.now)) l.places.items
       ++ filter (λ cell. are_wanted_codes l.wants cell.0.codes) l.codes-iterator
       ≡ map (λ place. (place.codes.now, place.cell.now)) l.initial.places.items

@@ -5,8 +5,8 @@ use Rattle.cube_cells.proofs.cube.finest_cells.FinestCells.coord.Goals as goal
 pub coord_of-requires-clause-few : goal.coord_of-requires-clause-few
 coord_of-requires-clause-few g c = rw c.deref.ensures.value (omega (
   arith,
-  c.self.invariant.coded.lattice.dictionaries,
-  c.self.invariant.coded.lattice.schema.dimensions_at_most,
+  c.self.invariant.0.coded.lattice.dictionaries,
+  c.self.invariant.0.coded.lattice.schema.dimensions_at_most,
 ))
 
 pub coord_of-requires-clause-within : goal.coord_of-requires-clause-within
@@ -21,8 +21,8 @@ returns g c =
       arith,
       inside,
       c.coord_of.ensures.eight,
-      c.self.invariant.coded.lattice.dictionaries,
-      c.self.invariant.coded.lattice.schema.dimensions_at_most,
+      c.self.invariant.0.coded.lattice.dictionaries,
+      c.self.invariant.0.coded.lattice.schema.dimensions_at_most,
     ) in
     (rw c.deref.ensures.value at c.coord_of.ensures.coord)
     ∙ rw (← c.self.view_is) (sym (get_or-coords_at dictionaries codes c.args.dimension inside within))

@@ -27,10 +27,13 @@ invariant_of-result g c =
     let of : IsCubeOfAll c.requires.facts.0 (lattice_of c.finest.inside.schema (finest_set n ∷ [])
     c.finest.inside.facts c.finest.inside.dictionaries.items c.remove-level.result.cells.entries) =
     rw (← c.finest.view_is, one, sole.1) at c.requires.facts.1 in
-    rw c.in_ok-texts.ensures
-    (AreToWalk-ranked c.finest.inside.schema c.finest.inside.facts c.finest.inside.dictionaries.items
-    c.remove-level.result.cells.entries c.in_ok-items.items.items c.in_ok-ranked.ranked.items c.requires.facts.0 coded of
-    c.in_ok-ranked.ensures (rw c.deref.ensures.value at c.in_ok-items.ensures.same) c.in_ok-items.ensures.order)
+    rw c.in_ok-texts.ensures (
+      AreToWalk-ranked c.finest.inside.schema c.finest.inside.facts c.finest.inside.dictionaries.items
+          c.remove-level.result.cells.entries c.in_ok-items.items.items c.in_ok-ranked.ranked.items c.requires.facts.0
+          coded of c.in_ok-ranked.ensures (rw c.deref.ensures.value at c.in_ok-items.ensures.same)
+          c.in_ok-items.ensures.order,
+      rw (← c.finest.view_is) at c.requires.numbers,
+    )
 
 pub returns-clause-facts : goal.returns-clause-facts
 returns-clause-facts g c = λ facts all.

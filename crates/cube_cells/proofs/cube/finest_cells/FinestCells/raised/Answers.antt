@@ -9,4 +9,4 @@ of-requires g c =
     let some : 0 < c.self.inside.facts = rw (← c.self.view_is) at c.requires in
     rw c.deref.ensures.value (rw (← c.self.view_is)
     (WalkGivesCube-AreToWalk c.self.inside.schema c.self.inside.facts c.self.inside.texts.items
-    (cells_of_items c.self.inside.items.items) c.in_ok-kept.kept.items c.self.invariant some masks))
+    (cells_of_items c.self.inside.items.items) c.in_ok-kept.kept.items c.self.invariant.0 some masks))

@@ -14,15 +14,15 @@ wants_below-requires g c =
     ap (λ (k : Key). length k.coords) c.in_ok-above.ensures ∙ length-set c.args.key.now.coords c.args.dim coord.All in
     let width : length c.args.key.now.coords ≡ length c.self.inside.schema.dimensions =
     c.requires.width ∙ sym (ap (λ (l : Lattice). length l.schema.dimensions) c.self.view_is) in
-    rw (← c.self.view_is, c.as_slice-coords.ensures) (long ∙ width ∙ sym c.self.invariant.coded.lattice.dictionaries)
+    rw (← c.self.view_is, c.as_slice-coords.ensures) (long ∙ width ∙ sym c.self.invariant.0.coded.lattice.dictionaries)
 
 pub rows_where-requires : goal.rows_where-requires
 rows_where-requires g c = rw c.deref.ensures.value (omega (
   arith,
   c.in_ok-wants.ensures.long,
   ap (λ (l : Lattice). length l.dictionaries) c.self.view_is,
-  c.self.invariant.coded.lattice.dictionaries,
-  c.self.invariant.coded.lattice.schema.dimensions_at_most,
+  c.self.invariant.0.coded.lattice.dictionaries,
+  c.self.invariant.0.coded.lattice.schema.dimensions_at_most,
 ))
 
 pub returns : goal.returns
@@ -35,7 +35,7 @@ returns g c = λ facts of.
     let width : length c.args.key.now.coords ≡ length c.self.inside.schema.dimensions =
     c.requires.width ∙ sym (ap (λ (l : Lattice). length l.schema.dimensions) c.self.view_is) in
     let wide : length above.coords ≡ length dictionaries =
-    rw (← c.self.view_is) (long ∙ width ∙ sym c.self.invariant.coded.lattice.dictionaries) in
+    rw (← c.self.view_is) (long ∙ width ∙ sym c.self.invariant.0.coded.lattice.dictionaries) in
     let below : AreWantsBelow dictionaries (length above.coords) above.coords wants =
     rw c.as_slice-coords.ensures at c.in_ok-wants.ensures.wants in
     rw (← c.in_ok-above.ensures) (IsRowOver-last c.args.self.now.schema.grouping_sets

@@ -4,6 +4,6 @@ use Rattle.cube_cells.proofs.cube.finest_cells.FinestCells.row_at.Goals as goal
 pub key_in-requires : goal.key_in-requires
 key_in-requires g c = rw c.deref.ensures.value (omega (
   arith,
-  c.self.invariant.coded.lattice.dictionaries,
-  c.self.invariant.coded.lattice.schema.dimensions_at_most,
+  c.self.invariant.0.coded.lattice.dictionaries,
+  c.self.invariant.0.coded.lattice.schema.dimensions_at_most,
 ))

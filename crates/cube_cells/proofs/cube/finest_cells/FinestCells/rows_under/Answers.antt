@@ -10,15 +10,15 @@ pub wants_below-requires : goal.wants_below-requires
 wants_below-requires g c =
     let wide : length c.args.key.now.coords ≡ length c.self.inside.schema.dimensions =
     c.requires.width ∙ sym (ap (λ (l : Lattice). length l.schema.dimensions) c.self.view_is) in
-    rw (← c.self.view_is, c.as_slice.ensures) (wide ∙ sym c.self.invariant.coded.lattice.dictionaries)
+    rw (← c.self.view_is, c.as_slice.ensures) (wide ∙ sym c.self.invariant.0.coded.lattice.dictionaries)
 
 pub rows_where-requires : goal.rows_where-requires
 rows_where-requires g c = rw c.deref.ensures.value (omega (
   arith,
   c.in_ok-wants.ensures.long,
   ap (λ (l : Lattice). length l.dictionaries) c.self.view_is,
-  c.self.invariant.coded.lattice.dictionaries,
-  c.self.invariant.coded.lattice.schema.dimensions_at_most,
+  c.self.invariant.0.coded.lattice.dictionaries,
+  c.self.invariant.0.coded.lattice.schema.dimensions_at_most,
 ))
 
 pub returns : goal.returns
@@ -36,8 +36,8 @@ returns g c =
     rw (← c.self.view_is, c.as_slice.ensures) at c.in_ok-wants.ensures.wants in
     let are : AreWantsOf c.args.self.now.dictionaries (drills_down dim key) c.in_ok-wants.wants.items =
     rw (← c.self.view_is)
-    (AreWantsOf-drills_down dictionaries key c.in_ok-wants.wants.items dim c.self.invariant.coded.texts
-    (wide ∙ sym c.self.invariant.coded.lattice.dictionaries) long
-    (omega (arith, below, c.self.invariant.coded.lattice.dictionaries)) c.requires.rolled wants) in
+    (AreWantsOf-drills_down dictionaries key c.in_ok-wants.wants.items dim c.self.invariant.0.coded.texts
+    (wide ∙ sym c.self.invariant.0.coded.lattice.dictionaries) long
+    (omega (arith, below, c.self.invariant.0.coded.lattice.dictionaries)) c.requires.rolled wants) in
     IfOk-weaker c.rows_where.result _ _
     (λ rows given. given (drills_down dim key) (rw c.deref.ensures.value are)) c.rows_where.ensures

@@ -12,7 +12,7 @@ pub returns-then-wanted-len : goal.returns-then-wanted-len
 returns-then-wanted-len g c = λ facts of.
     let pattern = c.args.pattern.now in
     rw (← c.self.view_is, c.new.ensures.items) (AreRowsWhere-nil c.self.inside.schema c.self.inside.facts
-    c.self.inside.texts.items (cells_of_items c.self.inside.items.items) (matches pattern) facts c.self.invariant
+    c.self.inside.texts.items (cells_of_items c.self.inside.items.items) (matches pattern) facts c.self.invariant.0
     (λ codes. matches-length c.self.inside.texts.items pattern codes
     (λ same. c.if-wanted-len.true (omega (arith, ap (λ ws. length ws) c.wanted-wanted.ensures, same, c.len.ensures))))
     (rw (← c.self.view_is) at of))
@@ -25,8 +25,8 @@ rows_where-requires g c = rw c.deref.ensures.value (omega (
   arith,
   c.in_ok-wants.ensures.long,
   ap (λ l. length l.dictionaries) c.self.view_is,
-  c.self.invariant.coded.lattice.dictionaries,
-  c.self.invariant.coded.lattice.schema.dimensions_at_most,
+  c.self.invariant.0.coded.lattice.dictionaries,
+  c.self.invariant.0.coded.lattice.schema.dimensions_at_most,
 ))
 
 pub returns : goal.returns

@@ -7,7 +7,7 @@ use Rattle.cube_cells.proofs.cube.finest_cells.FinestCells.walk.Goals as goal
 
 pub walk_sets-requires : goal.walk_sets-requires
 walk_sets-requires g c = rw (← c.self.view_is, c.grouping_sets.ensures.value)
-    c.self.invariant.coded.lattice.schema.sets_are_of_dimensions
+    c.self.invariant.0.coded.lattice.schema.sets_are_of_dimensions
 
 pub returns : goal.returns
 returns g c = on_ok_weaker c.walk_sets.result (λ walked. TakesCube-TakesSets g.S.TakesCells.takes c.args.self.now

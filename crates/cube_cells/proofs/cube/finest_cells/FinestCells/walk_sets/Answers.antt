@@ -11,14 +11,14 @@ returns-then-self-eq0 g c =
     on_ok_weaker c.take_if_kept.result (λ taken. rw (← c.self.view_is)
     (TakesSets-total g.S.TakesCells.takes c.self.inside.schema c.self.inside.facts c.self.inside.texts.items
     (cells_of_items c.self.inside.items.items) c.args.sets.now c.in_ok-kept.kept.items c.in_ok-cell.cell
-    c.args.sink.now c.take_if_kept.new.sink c.self.invariant c.if-self-eq0.true c.in_ok-kept.ensures
+    c.args.sink.now c.take_if_kept.new.sink c.self.invariant.0 c.if-self-eq0.true c.in_ok-kept.ensures
     c.in_ok-cell.ensures.tally width taken))
     (rw (c.deref.ensures.value, c.total.ensures) at c.take_if_kept.ensures)
 
 pub walk-requires-clause-items : goal.walk-requires-clause-items
 walk-requires-clause-items g c = rw (c.dimensions-dimensions.ensures.value, c.deref-3.ensures.value)
     (CanWalk-AreToWalk c.self.inside.schema c.self.inside.facts c.self.inside.texts.items
-    (cells_of_items c.self.inside.items.items) c.self.invariant)
+    (cells_of_items c.self.inside.items.items) c.self.invariant.0)
 
 pub returns : goal.returns
 returns g c =
@@ -28,5 +28,5 @@ returns g c =
     on_ok_weaker c.walk.result (λ walked. rw (← c.self.view_is)
     (TakesSets-TakesWalk g.S.TakesCells.takes c.self.inside.schema c.self.inside.facts c.self.inside.texts.items
     (cells_of_items c.self.inside.items.items) c.args.sets.now c.in_ok-kept.kept.items c.args.sink.now
-    c.walk.new.sink c.self.invariant some within c.in_ok-kept.ensures walked))
+    c.walk.new.sink c.self.invariant.0 some within c.in_ok-kept.ensures walked))
     (rw (c.dimensions-dimensions.ensures.value, c.deref-2.ensures.value, c.deref-3.ensures.value) at c.walk.ensures)

@@ -3,11 +3,11 @@ use Rattle.cube_cells.proofs.Codes.KeyLaws.{length-coords_at, get_or-coords_at}
 use Rattle.cube_cells.proofs.cube.keyed.KeyedCell.coord.Goals as goal
 
 pub coord_in-requires-clause-within : goal.coord_in-requires-clause-within
-coord_in-requires-clause-within g c =
+coord_in-requires-clause-within c =
     rw (← c.self.view_is, length-coords_at c.self.inside.dictionaries.now c.self.inside.codes.now.codes) at c.requires
 
 pub returns : goal.returns
-returns g c =
+returns c =
     let dictionaries = c.self.inside.dictionaries.now in
     let codes = c.self.inside.codes.now.codes in
     let inside : c.args.dimension < length dictionaries =

@@ -12,11 +12,11 @@ use Rattle.cube_cells.specs.Tally.{Tally}
 use Rattle.cube_cells.specs.declared.cube.ordered.Coded.{Coded}
 use Rattle.cube_cells.proofs.cube.ordered.OrderedCells.append.Goals as goal
 
-abbrev cell_of : {N : Type 0} → Coded N → Key × Tally
+abbrev cell_of : Coded → Key × Tally
 cell_of p = (key_at p.dictionaries.now p.codes.now.codes, p.cell.now)
 
 -- what the invariant says of a cell
-abbrev Fits : {N : Type 0} → List Agg → Coded N → Type 0
+abbrev Fits : List Agg → Coded → Type 0
 Fits aggregates p =
     (length p.dictionaries.now ≤ 8) × (list_all (is_aggregate_of (length p.cell.now.bags)) aggregates ≡ true)
 
@@ -27,7 +27,7 @@ All-appended P true xs ys left right = All-append P xs ys left right
 All-appended P false xs ys left right = left
 
 pub invariant_of-self : goal.invariant_of-self
-invariant_of-self g c =
+invariant_of-self c =
     let aggregates_of : CellsInOrder → List Agg = λ o. o.aggregates in
     let same : c.other.inside.aggregates.now ≡ c.self.inside.aggregates.now =
     ap aggregates_of c.other.view_is ∙ c.requires ∙ sym (ap aggregates_of c.self.view_is) in
@@ -38,7 +38,7 @@ invariant_of-self g c =
     (is_ok c.append.result) c.self.inside.cells.items c.other.inside.cells.items c.self.invariant right)
 
 pub invariant_of-self-2 : goal.invariant_of-self-2
-invariant_of-self-2 g c =
+invariant_of-self-2 c =
     let aggregates_of : CellsInOrder → List Agg = λ o. o.aggregates in
     let same : c.other.inside.aggregates.now ≡ c.self.inside.aggregates.now =
     ap aggregates_of c.other.view_is ∙ c.requires ∙ sym (ap aggregates_of c.self.view_is) in
@@ -49,7 +49,7 @@ invariant_of-self-2 g c =
     (is_ok c.append.result) c.self.inside.cells.items c.other.inside.cells.items c.self.invariant right)
 
 pub returns-clause-cells : goal.returns-clause-cells
-returns-clause-cells g c =
+returns-clause-cells c =
     rw (← c.self.view_is, ← c.other.view_is)
     (ap (map cell_of) c.in_ok-append.ensures.items
     ∙ map-append cell_of c.self.inside.cells.items c.other.inside.cells.items)

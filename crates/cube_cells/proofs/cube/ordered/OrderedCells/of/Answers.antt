@@ -9,7 +9,7 @@ use Rattle.cube_cells.proofs.Rows.RowLaws.{All-same, map-same}
 use Rattle.cube_cells.proofs.cube.ordered.OrderedCells.of.Goals as goal
 
 pub invariant_of-result : goal.invariant_of-result
-invariant_of-result g c =
+invariant_of-result c =
     let dictionaries = c.args.dictionaries.now in
     All-same {A = Dictionaries × (Codes × Tally)}
     (λ s. (length s.0 ≤ 8) × (list_all (is_aggregate_of (length s.1.1.bags)) c.args.aggregates.now ≡ true))
@@ -21,7 +21,7 @@ invariant_of-result g c =
     (λ k d inside. (c.requires.dictionaries, c.requires.aggregates k d inside))
 
 pub returns : goal.returns
-returns g c =
+returns c =
     let dictionaries = c.args.dictionaries.now in
     let decoded : Dictionaries × (Codes × Tally) → Key × Tally = λ s. (key_at s.0 s.1.0.codes, s.1.1) in (
       refl,

@@ -7,7 +7,7 @@ use Rattle.cube_core.proofs.ListLaws.{AllZip-push}
 use Rattle.cube_cells.proofs.cube.ordered.OrderedCells.rows.Goals as goal
 
 pub loop-place-preserved : goal.loop-place-preserved
-loop-place-preserved g c =
+loop-place-preserved c =
     let i = c.loop-place.place in
     let cells = c.args.self.now.cells in
     let aggregates = c.args.self.now.aggregates in

@@ -4,4 +4,4 @@ use Rattle.cube_cells.specs.Rows.{IsRowOf}
 use Rattle.cube_cells.proofs.cube.ordered.OrderedCells.rows.Given as goal
 
 abbrev pub invariant-loop-place : goal.invariant-loop-place
-invariant-loop-place g l = AllZip (IsRowOf l.self.aggregates) (take l.place l.self.cells) l.rows.items
+invariant-loop-place l = AllZip (IsRowOf l.self.aggregates) (take l.place l.self.cells) l.rows.items

@@ -13,27 +13,27 @@ use Rattle.cube_cells.proofs.Codes.RankLaws.{IsSortedBy-key}
 use Rattle.cube_cells.proofs.Rows.RowLaws.{IsSortedBy-map}
 use Rattle.cube_cells.proofs.cube.ordered.OrderedCells.sort.Goals as goal
 
-abbrev cell_of : {N : Type 0} → Coded N → Key × Tally
+abbrev cell_of : Coded → Key × Tally
 cell_of p = (key_at p.dictionaries.now p.codes.now.codes, p.cell.now)
 
 pub invariant_of-self : goal.invariant_of-self
-invariant_of-self g c =
-    All-permutation (λ (p : Coded _). (length p.dictionaries.now ≤ 8)
+invariant_of-self c =
+    All-permutation (λ (p : Coded). (length p.dictionaries.now ≤ 8)
     × (list_all (is_aggregate_of (length p.cell.now.bags)) c.self.inside.aggregates.now ≡ true))
     c.self.inside.cells.items c.sort_by.new.self.items c.sort_by.ensures.permutation c.self.invariant
 
 pub invariant_of-self-2 : goal.invariant_of-self-2
-invariant_of-self-2 g c =
-    All-permutation (λ (p : Coded _). (length p.dictionaries.now ≤ 8)
+invariant_of-self-2 c =
+    All-permutation (λ (p : Coded). (length p.dictionaries.now ≤ 8)
     × (list_all (is_aggregate_of (length p.cell.now.bags)) c.self.inside.aggregates.now ≡ true))
     c.self.inside.cells.items c.sort_by.new.self.items c.sort_by.ensures.permutation c.self.invariant
 
 pub returns-clause-same : goal.returns-clause-same
-returns-clause-same g c = rw (← c.self.view_is)
+returns-clause-same c = rw (← c.self.view_is)
     (IsPermutation-map cell_of c.self.inside.cells.items c.sort_by.new.self.items c.sort_by.ensures.permutation)
 
 pub returns-clause-order : goal.returns-clause-order
-returns-clause-order g c =
+returns-clause-order c =
     IsSortedBy-map cell_of (λ a b. is_lt (key_cmp (cell_of a).0 (cell_of b).0))
     (λ a b. is_lt (key_cmp a.0 b.0)) c.sort_by.new.self.items (λ a b in_a in_b. refl)
     (IsSortedBy-key key_cmp-IsTotalOrder

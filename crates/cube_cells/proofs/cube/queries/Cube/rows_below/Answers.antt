@@ -4,16 +4,16 @@ use Rattle.cube_core.specs.Query.{drills_down}
 use Rattle.cube_cells.specs.Cube.{Lattice}
 use Rattle.cube_cells.specs.Rows.{AreWantsOf, AreWantsBelow}
 use Rattle.cube_cells.proofs.Rows.DrillLaws.{AreWantsOf-drills_down}
-use Rattle.cube_cells.proofs.cube.Cube.rows_below.Goals as goal
+use Rattle.cube_cells.proofs.cube.queries.Cube.rows_below.Goals as goal
 
 pub wants_below-requires : goal.wants_below-requires
-wants_below-requires g c =
+wants_below-requires c =
     let wide : length c.args.key.now.coords ≡ length c.self.inside.schema.dimensions =
     c.requires.width ∙ sym (ap (λ (l : Lattice). length l.schema.dimensions) c.self.view_is) in
     rw (← c.self.view_is, c.as_slice.ensures) (wide ∙ sym c.self.invariant.coded.lattice.dictionaries)
 
 pub returns : goal.returns
-returns g c =
+returns c =
     let dictionaries = c.self.inside.dictionaries.items in
     let key = c.args.key.now in
     let dim = c.args.dim in
