@@ -65,30 +65,30 @@ at-place f g xs ys i x y same below within =
     sym (get_or-map f xs i x (f x) below) ∙ ap (λ zs. get_or zs i (f x)) same ∙ get_or-map g ys i y (f x) within
 
 -- the parts that were made, one after the other
-pub all-made : (gatherers : List (Gatherer DraftView)) (made : List (Option MadePart)) (built : BuiltView)
+pub all-made : {N : Type 0} (gatherers : List (Gatherer DraftView)) (made : List (Option (MadePart N))) (built : BuiltView)
     → length made ≡ length gatherers →
-    ((part : ℕ) (g : Gatherer DraftView) (d : Option MadePart) → part < length gatherers
+    ((part : ℕ) (g : Gatherer DraftView) (d : Option (MadePart N)) → part < length gatherers
     → IfSome (get_or made part d) (IsMadePart (get_or gatherers part g))) →
-    map (option_map (λ (part : MadePart). part.builder)) made ≡ map Some built.builders
-    → map (option_map (λ (part : MadePart). part.inlets.items)) made ≡ map Some built.inlets
+    map (option_map (λ (part : MadePart N). part.builder)) made ≡ map Some built.builders
+    → map (option_map (λ (part : MadePart N). part.inlets.items)) made ≡ map Some built.inlets
     → AreAllMade gatherers built
-all-made gatherers made built counted each builders inlets =
+all-made {N} gatherers made built counted each builders inlets =
     let as_many : length made ≡ length built.builders =
-    sym (length-map made (option_map (λ (part : MadePart). part.builder))) ∙ ap length builders
+    sym (length-map made (option_map (λ (part : MadePart N). part.builder))) ∙ ap length builders
     ∙ length-map built.builders Some in
     let linked : length made ≡ length built.inlets =
-    sym (length-map made (option_map (λ (part : MadePart). part.inlets.items))) ∙ ap length inlets
+    sym (length-map made (option_map (λ (part : MadePart N). part.inlets.items))) ∙ ap length inlets
     ∙ length-map built.inlets Some in
     let at : (part : ℕ) (g : Gatherer DraftView) (b : BuilderView) → part < length gatherers
-    → (x : MadePart) × IsMadePart (get_or gatherers part g) x × (x.builder ≡ get_or built.builders part b)
+    → (x : MadePart N) × IsMadePart (get_or gatherers part g) x × (x.builder ≡ get_or built.builders part b)
     × (x.inlets.items ≡ get_or built.inlets part []) =
     λ part g b below.
     let m = some_of made part (omega arith) in
-    made-some (λ (p : MadePart). p.builder) (λ (p : MadePart). p.inlets.items) (get_or made part m)
+    made-some (λ (p : MadePart N). p.builder) (λ (p : MadePart N). p.inlets.items) (get_or made part m)
     (get_or built.builders part b) (get_or built.inlets part []) (IsMadePart (get_or gatherers part g))
-    (at-place (option_map (λ (p : MadePart). p.builder)) Some made built.builders part m b builders (omega arith)
+    (at-place (option_map (λ (p : MadePart N). p.builder)) Some made built.builders part m b builders (omega arith)
     (omega arith))
-    (at-place (option_map (λ (p : MadePart). p.inlets.items)) Some made built.inlets part m [] inlets (omega arith)
+    (at-place (option_map (λ (p : MadePart N). p.inlets.items)) Some made built.inlets part m [] inlets (omega arith)
     (omega arith))
     (each part g m below) in
     record {

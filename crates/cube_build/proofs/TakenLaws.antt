@@ -8,6 +8,7 @@ use Rattle.cube_core.specs.Layout.{Layout}
 use Rattle.cube_core.specs.Run.{SourceBytes, AreGood, AreItemsOf}
 use Rattle.cube_core.specs.declared.change.Item.{Item}
 use Rattle.cube_core.specs.declared.condition.Condition.{Condition}
+use Rattle.cube_core.specs.declared.fact.Fact.{Fact}
 use Rattle.cube_core.proofs.ListLaws.{AllZip-length}
 use Rattle.cube_cells.specs.Cube.{IsNewLattice, Lattice, SameSets}
 use Rattle.cube_cells.specs.Fill.{IsCubeOfAll}
@@ -27,7 +28,7 @@ use Rattle.cube_build.specs.Interest.{BuildsWhere, PartStandsWhere}
 use Rattle.cube_build.specs.Parted.{IsPartOver}
 use Rattle.cube_build.specs.Parts.{AreParts, BuiltView}
 use Rattle.cube_build.specs.Shares.{TakenInParts}
-use Rattle.cube_build.specs.Taken.{IsFilledFrom, IsTakenPart, TakenView, TakesWhere}
+use Rattle.cube_build.specs.Taken.{IsFilledFrom, IsTaken, IsTakenPart, TakenView, TakesWhere}
 use Rattle.cube_build.specs.declared.making.MadePart.{MadePart}
 use Rattle.cube_build.proofs.InterestLaws.{lone-are-parts}
 
@@ -62,6 +63,24 @@ counts-new ledger seen cube same has = rw same (record {
   has = record { cells = has.facts.cells; facts_are = has.facts.facts_are };
 })
 
+-- finest cells with the facts of counts have those of their ledger
+pub finest-has : (refused ledger : LedgerView) (cube cells : Lattice) → AreCounts refused ledger cube
+    → cells.schema ≡ cube.schema → ((facts : List Fact) → IsCubeOfAll facts cube → IsCubeOfAll facts cells)
+    → HaveFactsOf ledger cells
+finest-has refused ledger cube cells are schema facts = record {
+  schema = schema ∙ are.schema;
+  facts = facts (all_facts ledger.accounts) (counts-all refused ledger cube are);
+}
+
+-- so they are what was taken
+pub finest-taken : (refused ledger counted : LedgerView) (cube cells : Lattice) (number : ℕ)
+    → AreCounts refused ledger cube → HaveFactsOf ledger cells → ledger ≡ counted
+    → number ≡ length (all_facts counted.accounts) → IsTaken refused ledger cells number
+finest-taken refused ledger counted cube cells number are has same number_is = record {
+  are = counts-cells refused ledger cube cells are has.schema has.facts;
+  number = number_is ∙ ap (λ (l : LedgerView). length (all_facts l.accounts)) (sym same) ∙ sym has.facts.facts_are;
+}
+
 -- ---- a part that was taken
 
 -- the counts have the facts of their ledger
@@ -71,8 +90,8 @@ has-own ledger counts are =
     subst (λ (l : LedgerView). HaveFactsOf l counts.cube) (sym are.ledger_is) are.has
 
 -- what has taken all feeds gives such a part
-taken-part : {B : Type 0} (stands : B → Arrivals → Type 0) (s : Layout) (conditions : List Condition)
-    (sources : SourceBytes) (feeds : List (List Item)) (gatherer : Gatherer B) (whole : LedgerView) (part : MadePart)
+taken-part : {B N : Type 0} (stands : B → Arrivals → Type 0) (s : Layout) (conditions : List Condition)
+    (sources : SourceBytes) (feeds : List (List Item)) (gatherer : Gatherer B) (whole : LedgerView) (part : MadePart N)
     → AreGood s sources → AllZip (AreItemsOf s) sources feeds → (takes : TakesFeeds stands feeds gatherer)
     → whole.schema ≡ s → length whole.accounts ≡ length sources → LedgerStandsAt whole takes.arrivals
     → AreFinestCounts (ledger_of_interest conditions whole) part.builder
@@ -99,8 +118,8 @@ taken-part stands s conditions sources feeds gatherer whole part good items take
     }
 
 -- so does a counter
-pub taken-counted : (s : Layout) (conditions : List Condition) (sources : SourceBytes)
-    (gatherer : Gatherer CounterView) (part : MadePart) → CountsFeeds s conditions sources gatherer
+pub taken-counted : {N : Type 0} (s : Layout) (conditions : List Condition) (sources : SourceBytes)
+    (gatherer : Gatherer CounterView) (part : MadePart N) → CountsFeeds s conditions sources gatherer
     → AreCountsOf gatherer.builder part.builder → part.inlets.items ≡ gatherer.inlets.items
     → IsTakenPart s conditions sources part
 taken-counted s conditions sources gatherer part feeds counts inlets =
@@ -113,8 +132,8 @@ taken-counted s conditions sources gatherer part feeds counts inlets =
     (at.conditions ∙ new.conditions_are) counts.are) inlets
 
 -- and a draft
-pub taken-kept : (s : Layout) (conditions : List Condition) (sources : SourceBytes)
-    (gatherers : List (Gatherer DraftView)) (gatherer : Gatherer DraftView) (part : MadePart)
+pub taken-kept : {N : Type 0} (s : Layout) (conditions : List Condition) (sources : SourceBytes)
+    (gatherers : List (Gatherer DraftView)) (gatherer : Gatherer DraftView) (part : MadePart N)
     → TakenInParts s sources 1 gatherers → gatherer ≡ get_or gatherers 0 gatherer
     → AreFinestCounts (ledger_of_interest conditions gatherer.builder.ledger) part.builder
     → part.inlets.items ≡ gatherer.inlets.items → IsTakenPart s conditions sources part
@@ -132,8 +151,14 @@ taken-kept s conditions sources gatherers gatherer part parts first counts inlet
     taken-part (StandsFrom draft) s conditions sources taken.feeds gatherer gatherer.builder.ledger part parts.good
     taken.items takes (from.schema ∙ new.schema) (from.all ∙ new.all) from.stands_at counts inlets
 
+-- its ledger has the schema of the feeds
+pub schema-taken : {N : Type 0} (s : Layout) (conditions : List Condition) (sources : SourceBytes) (part : MadePart N)
+    → IsTakenPart s conditions sources part → part.builder.ledger.schema ≡ s
+schema-taken s conditions sources part is =
+    ap (λ (l : LedgerView). l.schema) is.takes.stands.kept ∙ is.takes.stands.schema
+
 -- what a caller sees of a part that was taken, with its finest cells, has taken the feeds
-pub taken-seen : (s : Layout) (conditions : List Condition) (sources : SourceBytes) (part : MadePart)
+pub taken-seen : {N : Type 0} (s : Layout) (conditions : List Condition) (sources : SourceBytes) (part : MadePart N)
     (taken : TakenView) → IsTakenPart s conditions sources part → taken.ledger ≡ part.builder.ledger
     → HaveFactsOf part.builder.ledger taken.cells → taken.inlets ≡ part.inlets.items
     → TakesWhere s conditions sources taken
@@ -189,14 +214,14 @@ filled-alone finest counts filled =
     (subst (λ (l : LedgerView). HasFacts (all_facts l.accounts) counts.cube) (sym filled.ledger) filled.has)
 
 -- and has taken the feeds
-pub builds-filled : (s : Layout) (conditions : List Condition) (sources : SourceBytes) (part : MadePart)
+pub builds-filled : {N : Type 0} (s : Layout) (conditions : List Condition) (sources : SourceBytes) (part : MadePart N)
     (built : BuiltView) → IsTakenPart s conditions sources part → IsFilledFrom part built
     → BuildsWhere s conditions sources 1 built
 builds-filled s conditions sources part built is from =
     let takes = is.takes in
     let stands = takes.stands in
     let filled = from.filled in
-    let schema : part.builder.ledger.schema ≡ s = ap (λ (l : LedgerView). l.schema) stands.kept ∙ stands.schema in
+    let schema = schema-taken s conditions sources part is in
     let at : PartStandsWhere s conditions (length sources) 1 0 takes.arrivals from.counts part.inlets.items =
     record {
       whole = stands.whole;

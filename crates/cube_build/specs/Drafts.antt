@@ -62,6 +62,6 @@ pub record IsMadeOf (draft : DraftView) (builder : BuilderView) : Type 0 where
 
 -- a part was made of what was fed to its draft:
 -- its builder is made of the draft, and has the links by which the feeds came
-pub record IsMadePart (gatherer : Gatherer DraftView) (part : MadePart) : Type 0 where
+pub record IsMadePart {N : Type 0} (gatherer : Gatherer DraftView) (part : MadePart N) : Type 0 where
   pub builder : IsMadeOf gatherer.builder part.builder
   pub inlets : part.inlets.items ≡ gatherer.inlets.items

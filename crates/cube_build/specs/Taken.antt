@@ -52,17 +52,17 @@ pub record TakesWhere (s : Layout) (conditions : List Condition) (sources : Sour
   pub stands : TakenStandsWhere s conditions (length sources) taken arrivals
 
 -- what is seen of a part that was taken
-abbrev pub seen_of : MadePart → TakenView
+abbrev pub seen_of : {N : Type 0} → MadePart N → TakenView
 seen_of part = record { ledger = part.builder.ledger; cells = part.builder.cube; inlets = part.inlets.items }
 
 -- a part, whose cube is over the finest grouping set alone, has taken the feeds of all sources
-pub record IsTakenPart (s : Layout) (conditions : List Condition) (sources : SourceBytes) (part : MadePart)
+pub record IsTakenPart {N : Type 0} (s : Layout) (conditions : List Condition) (sources : SourceBytes) (part : MadePart N)
     : Type 0 where
   pub finest : IsOverFinest part.builder.cube
   pub takes : TakesWhere s conditions sources (seen_of part)
 
 -- what was built is a part alone, filled from one over the finest grouping set
-pub record IsFilledFrom (part : MadePart) (built : BuiltView) : Type 0 where
+pub record IsFilledFrom {N : Type 0} (part : MadePart N) (built : BuiltView) : Type 0 where
   pub counts : BuilderView
   pub builders : built.builders ≡ counts ∷ []
   pub inlets : built.inlets ≡ part.inlets.items ∷ []

@@ -10,7 +10,7 @@ ghost use Rattle.cube_ledger.specs.Ledger.{AllFit, AtSource, Enters, Exchanges, 
 
 use crate::fill::{fill_cube, fill_cube_with};
 use crate::joined::HoldsCube;
-use cube_cells::{Counted, Cube, Numbers, Summary};
+use cube_cells::Cube;
 use cube_core::{Fact, Item, Refusal, Schema, Text};
 use cube_ledger::{Ledger, Ruling};
 use std::alloc::{AllocError, Global};
@@ -22,12 +22,12 @@ use std::thread::Threads;
 /// It always stands at the arrival list that it was given (this project's choice). How the numbers of the cube's cells are
 /// kept is the parameter's: where each is kept, the builder takes items.
 #[derive(Drop)]
-pub struct Builder<N: Numbers = Counted> {
+pub struct Builder {
     ledger: Ledger,
-    cube: Cube<N>,
+    cube: Cube,
 }
 
-impl<N: Numbers> Model for Builder<N> {
+impl Model for Builder {
     ghost use Rattle.cube_build.specs.Builder.{BuilderView, IsBuilder};
 
     ghost Value = { BuilderView };
@@ -37,10 +37,10 @@ impl<N: Numbers> Model for Builder<N> {
     ghost invariant = { λ b. IsBuilder b.ledger b.cube };
 }
 
-impl<N: Numbers> HoldsCube<N> for Builder<N> {
+impl HoldsCube for Builder {
     ghost lattice = { λ b. b.cube };
 
-    fn held(&self) -> &Cube<N> {
+    fn held(&self) -> &Cube {
         &self.cube
     }
 }
@@ -174,15 +174,15 @@ impl Builder {
     }
 }
 
-impl Builder<Summary> {
+impl Builder {
     /// The builder of a ledger as [`Builder::of`] makes it, with the cells over the finest grouping set made by as many
     /// threads as this says. With one thread, or none, no thread is started.
     pub fn of_with<T: Threads + Sync>(
         rt: &T,
         threads: usize,
         ledger: Ledger,
-        cube: Cube<Summary>,
-    ) -> Result<Builder<Summary>, AllocError>
+        cube: Cube,
+    ) -> Result<Builder, AllocError>
         requires schema { cube.schema ≡ ledger.schema }
         requires empty { HasFacts [] cube }
         ensures ledger { IfOk result (λ builder. builder.ledger ≡ ledger) }
@@ -195,7 +195,7 @@ impl Builder<Summary> {
     }
 
     /// The ledger and the cube.
-    pub(crate) fn into_parts(self) -> (Ledger, Cube<Summary>)
+    pub(crate) fn into_parts(self) -> (Ledger, Cube)
         ensures ledger { result.0 ≡ self.ledger }
         ensures cube { result.1 ≡ self.cube }
         ensures is { IsBuilder self.ledger self.cube }
@@ -204,7 +204,7 @@ impl Builder<Summary> {
     }
 }
 
-impl<N: Numbers> Builder<N> {
+impl Builder {
     /// How many sources there are, numbered from 1.
     pub fn sources(&self) -> u32
         ensures { result ≡ length self.now.ledger.accounts }
@@ -228,7 +228,7 @@ impl<N: Numbers> Builder<N> {
     }
 
     /// The cube of the facts that are present in the books of all sources.
-    pub fn cube(&self) -> &Cube<N>
+    pub fn cube(&self) -> &Cube
         ensures cube { result.now ≡ self.now.cube }
         ensures has { HasFacts (all_facts self.now.ledger.accounts) result.now }
         ensures fit { AllFit self.now.ledger.schema (all_facts self.now.ledger.accounts) }

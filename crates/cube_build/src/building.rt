@@ -14,7 +14,7 @@ use crate::draft::{Draft, new_drafts};
 use crate::making::{MadePart, Making, make_all};
 use crate::shares::feed_in_shares;
 use crate::taken::take_part;
-use cube_cells::Summary;
+use cube_cells::{Counted, Numbers};
 use cube_core::{Condition, Schema};
 use cube_ledger::Ledger;
 use cube_rings::{FeedingFault, Gate, Gatherer, Settings, feed_all};
@@ -25,14 +25,19 @@ use std::thread::Threads;
 
 /// Feeds all sources to the drafts of as many parts as the settings have builders, or in shares where they have one, and
 /// more threads.
-pub(crate) fn feed_parts<T: Threads + Wait + Sync, R: Read + Drop + Send, G: Gate + Sync>(
+pub(crate) fn feed_parts<
+    T: Threads + Wait + Sync,
+    R: Read + Drop + Send,
+    G: Gate + Sync,
+    N: Numbers + Send,
+>(
     rt: &T,
     alloc: Global,
     schema: &Schema,
     readers: Vec<R>,
     settings: &Settings,
     gate: &G,
-) -> Result<Vec<Gatherer<Draft>>, FeedingFault>
+) -> Result<Vec<Gatherer<Draft<N>>>, FeedingFault>
     requires readers { (1 ≤ vec_len readers) × (vec_len readers ≤ 64) }
     ensures taken { IfOk result (λ gatherers. TakenInParts schema.now
         (map R.Read.remaining readers.items) settings.now.builders gatherers.items) }
@@ -60,7 +65,7 @@ pub(crate) fn feed_parts<T: Threads + Wait + Sync, R: Read + Drop + Send, G: Gat
 fn complete<T: Threads + Sync>(
     rt: &T,
     threads: usize,
-    gatherers: Vec<Gatherer<Draft>>,
+    gatherers: Vec<Gatherer<Draft<Counted>>>,
     making: &mut Making,
 ) -> Result<(), AllocError>
     requires builders { making.old.builders.items ≡ [] }
@@ -192,7 +197,7 @@ pub fn build_ledger<T: Threads + Sync>(
 }
 
 // A builder alone, without an inlet. The only error is that memory ran out.
-fn lone(alloc: Global, builder: Builder<Summary>) -> Result<Making, AllocError>
+fn lone(alloc: Global, builder: Builder) -> Result<Making, AllocError>
     ensures builders { IfOk result (λ making. making.builders.items ≡ builder ∷ []) }
     ensures links { IfOk result (λ making. making.links.items ≡ []) }
 {
@@ -202,7 +207,7 @@ fn lone(alloc: Global, builder: Builder<Summary>) -> Result<Making, AllocError>
 }
 
 // Keeps the facts of interest of every draft.
-fn keep_of_interest(gatherers: &mut [Gatherer<Draft>], conditions: &[Condition])
+fn keep_of_interest(gatherers: &mut [Gatherer<Draft<Counted>>], conditions: &[Condition])
     ensures { gatherers.new ≡ map (gathered_of_interest conditions.now) gatherers.old }
 {
     for gatherer in gatherers.iter_mut() {

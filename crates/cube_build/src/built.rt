@@ -10,7 +10,7 @@ ghost use Rattle.cube_build.specs.Parts.{AreParts, AreRowsOfRun, IsRowOfRun, sch
 use crate::counts::Counts;
 use crate::joined::{DrillDown, Slice, count_parts, ordered_parts, row_above, rows_of_parts};
 use crate::making::{Links, Making};
-use cube_cells::{OrderedCells, Summary};
+use cube_cells::OrderedCells;
 use cube_core::{Key, Pattern, QueryFault, Row, Schema};
 use cube_rings::{Inlet, Parcel};
 use std::alloc::AllocError;
@@ -92,7 +92,7 @@ impl Built {
     }
 
     /// The cells of all parts in key order, for rows that are made one at a time. The only error is that memory ran out.
-    pub fn ordered(&self) -> Result<OrderedCells<'_, Summary>, AllocError>
+    pub fn ordered(&self) -> Result<OrderedCells<'_>, AllocError>
         ensures { IfOk result (λ ordered. (rows : List Row) → AreRowsInOrder ordered rows →
             AreRows (schema_of_run self.now) (facts_of_run self.now) rows) }
     {

@@ -10,7 +10,7 @@ ghost use Rattle.cube_build.specs.Counting.{Admits, AreCountsOf, CountsItem, Not
 
 use crate::counts::Counts;
 use crate::trace::LedgerTrace;
-use cube_cells::{Cube, Summary};
+use cube_cells::{Cube, Numbers};
 use cube_core::{Change, Condition, Fact, Item, LineFault, Schema, Text, hold};
 use cube_feed::{FeedItem, TakesItems};
 use cube_ledger::{Ledger, Ruling};
@@ -23,16 +23,16 @@ use std::marker::Model;
 /// Contracts see the ledger of all that was taken. Of each source the weight of the last id is kept: where ids weigh the
 /// more the later they come, none is there twice.
 #[derive(Drop)]
-pub(crate) struct Counter<'c> {
+pub(crate) struct Counter<'c, N: Numbers> {
     conditions: &'c [Condition],
     weights: Vec<u64>,
     refused: Ledger,
-    cube: Cube<Summary>,
+    cube: Cube<N>,
     trace: LedgerTrace,
     is_spent: bool,
 }
 
-impl<'c> Model for Counter<'c> {
+impl<'c, N: Numbers> Model for Counter<'c, N> {
     ghost use Rattle.cube_build.specs.Counting.{CounterView, IsCounter};
 
     ghost Value = { CounterView };
@@ -47,7 +47,7 @@ impl<'c> Model for Counter<'c> {
         IsCounter c.is_spent c.conditions.now c.refused c.trace.ledger c.weights.items c.cube };
 }
 
-impl<'c> TakesItems for Counter<'c> {
+impl<'c, N: Numbers> TakesItems for Counter<'c, N> {
     ghost use Rattle.std.specs.Prelude.{length, false};
     ghost use Rattle.cube_build.specs.Counting.{CounterStandsFrom};
 
@@ -70,7 +70,7 @@ impl<'c> TakesItems for Counter<'c> {
     }
 }
 
-impl<'c> Counter<'c> {
+impl<'c, N: Numbers> Counter<'c, N> {
     /// A counter of so many sources that counts the facts of which all conditions hold. The only error is that memory ran
     /// out.
     pub fn new(
@@ -78,12 +78,12 @@ impl<'c> Counter<'c> {
         schema: &Schema,
         sources: u32,
         conditions: &'c [Condition],
-    ) -> Result<Counter<'c>, AllocError>
+    ) -> Result<Counter<'c, N>, AllocError>
         requires { sources ≤ 64 }
         ensures { IfOk result (IsNewCounter schema.now sources conditions.now) }
     {
         let refused = Ledger::new(alloc, schema, sources)?;
-        let whole: Cube<Summary> = Cube::of_part(alloc, schema, 0, 1)?;
+        let whole: Cube<N> = Cube::of_part(alloc, schema, 0, 1)?;
         let cube = whole.finest()?;
         let weights = vec![in alloc; 0u64; sources as usize]?;
         let trace = LedgerTrace::of(&refused);
@@ -177,7 +177,7 @@ impl<'c> Counter<'c> {
 
     /// The counter that has the sources of another of the same schema and conditions after its own. The only error is that
     /// memory ran out.
-    pub fn joined(self, more: Counter<'c>) -> Result<Counter<'c>, AllocError>
+    pub fn joined(self, more: Counter<'c, N>) -> Result<Counter<'c, N>, AllocError>
         requires unspent { (self.is_spent ≡ false) × (more.is_spent ≡ false) }
         requires schema { more.ledger.schema ≡ self.ledger.schema }
         requires conditions { more.conditions ≡ self.conditions }
@@ -208,7 +208,7 @@ impl<'c> Counter<'c> {
     }
 
     /// What was counted, over the finest grouping set alone. The only error is that memory ran out before.
-    pub fn finish(self) -> Result<Counts, AllocError>
+    pub fn finish(self) -> Result<Counts<N>, AllocError>
         ensures { IfOk result (AreCountsOf self.entry) }
     {
         if self.is_spent {
@@ -267,9 +267,9 @@ fn weight_with(weight: u64, byte: u8) -> u64
 
 // Adds the fact of an id of this weight, where it is of interest, if the last one weighs less and the fact fits. The only error
 // is that memory ran out, or that one of these doesn't hold; no cell is asked then.
-fn admit(
+fn admit<N: Numbers>(
     schema: &Schema,
-    cube: &mut Cube<Summary>,
+    cube: &mut Cube<N>,
     conditions: &[Condition],
     last: u64,
     weight: u64,
@@ -287,8 +287,8 @@ fn admit(
 
 // Adds a fact of which all conditions hold. The only error is that memory ran out, or of numbers to count the facts with;
 // no cell is asked then.
-fn gather_where(
-    cube: &mut Cube<Summary>,
+fn gather_where<N: Numbers>(
+    cube: &mut Cube<N>,
     conditions: &[Condition],
     fact: &Fact,
 ) -> Result<(), AllocError>
@@ -306,12 +306,12 @@ fn gather_where(
 }
 
 /// One counter of so many sources, in a list. The only error is that memory ran out.
-pub(crate) fn new_counters<'c>(
+pub(crate) fn new_counters<'c, N: Numbers>(
     alloc: Global,
     schema: &Schema,
     sources: u32,
     conditions: &'c [Condition],
-) -> Result<Vec<Counter<'c>>, AllocError>
+) -> Result<Vec<Counter<'c, N>>, AllocError>
     requires { sources ≤ 64 }
     ensures { IfOk result (λ counters. IsOneCounter schema.now sources conditions.now counters.items) }
 {

@@ -7,6 +7,7 @@ ghost use Rattle.cube_build.specs.CounterShares.{AreNewCounters, AreUnspent, IsC
 
 use crate::counter::Counter;
 use crate::shares::shares_of;
+use cube_cells::Numbers;
 use cube_core::{Condition, Schema};
 use cube_rings::{FeedingFault, Gate, Gatherer, Settings, feed_shares};
 use std::alloc::{AllocError, Global};
@@ -16,13 +17,13 @@ use std::thread::Threads;
 
 // New counters of so many shares, with so many sources together, each with as many as any other or one more. The only
 // error is that memory ran out.
-fn new_shares<'c>(
+fn new_shares<'c, N: Numbers>(
     alloc: Global,
     schema: &Schema,
     sources: u32,
     shares: u32,
     conditions: &'c [Condition],
-) -> Result<Vec<Counter<'c>>, AllocError>
+) -> Result<Vec<Counter<'c, N>>, AllocError>
     requires sources { sources ≤ 64 }
     requires shares { 1 ≤ shares }
     ensures { IfOk result (λ counters.
@@ -39,14 +40,14 @@ fn new_shares<'c>(
 }
 
 // Whether memory ran out for none of the counters.
-fn are_unspent(counters: &[Counter<'_>]) -> bool
+fn are_unspent<N: Numbers>(counters: &[Counter<'_, N>]) -> bool
     ensures { result ≡ list_all (λ counter. not counter.is_spent) counters.now }
 {
     counters.iter().all(|counter| !counter.is_spent())
 }
 
 // The counter that has the sources of all of these, in their order. The only error is that memory ran out.
-fn put_together<'c>(counters: Vec<Counter<'c>>) -> Result<Counter<'c>, AllocError>
+fn put_together<'c, N: Numbers>(counters: Vec<Counter<'c, N>>) -> Result<Counter<'c, N>, AllocError>
     requires unspent { AreUnspent counters.items }
     requires may { MayJoin counters.items }
     ensures { IfOk result (IsCounterOf counters.entry.items) }
@@ -60,9 +61,9 @@ fn put_together<'c>(counters: Vec<Counter<'c>>) -> Result<Counter<'c>, AllocErro
 }
 
 // The counter of all shares in the place of theirs. The only error is that memory ran out, now or before.
-fn counted_together<'c>(
-    whole: Gatherer<Vec<Counter<'c>>>,
-) -> Result<Gatherer<Counter<'c>>, AllocError>
+fn counted_together<'c, N: Numbers>(
+    whole: Gatherer<Vec<Counter<'c, N>>>,
+) -> Result<Gatherer<Counter<'c, N>>, AllocError>
     requires { AreUnspent whole.builder.items → MayJoin whole.builder.items }
     ensures { IfOk result (IsGathererOf whole.entry) }
 {
@@ -86,7 +87,13 @@ fn counted_together<'c>(
 
 /// Feeds 1 to 64 sources in as many shares as there are threads, 8 at most, each to a counter of its own, and gives the one
 /// counter that they become, with the links of all sources. The faults are those of `feed_all`.
-pub(crate) fn feed_counters<'c, T: Threads + Wait + Sync, R: Read + Drop + Send, G: Gate + Sync>(
+pub(crate) fn feed_counters<
+    'c,
+    T: Threads + Wait + Sync,
+    R: Read + Drop + Send,
+    G: Gate + Sync,
+    N: Numbers + Send,
+>(
     rt: &T,
     alloc: Global,
     schema: &Schema,
@@ -94,7 +101,7 @@ pub(crate) fn feed_counters<'c, T: Threads + Wait + Sync, R: Read + Drop + Send,
     settings: &Settings,
     gate: &G,
     conditions: &'c [Condition],
-) -> Result<Gatherer<Counter<'c>>, FeedingFault>
+) -> Result<Gatherer<Counter<'c, N>>, FeedingFault>
     requires readers { (1 ≤ vec_len readers) × (vec_len readers ≤ 64) }
     ensures counts { IfOk result
         (CountsFeeds schema.now conditions.now (map R.Read.remaining readers.items)) }

@@ -8,6 +8,7 @@ ghost use Rattle.cube_build.specs.Taken.{IsTakenPart};
 use crate::counter::{Counter, new_counters};
 use crate::counter_shares::feed_counters;
 use crate::making::MadePart;
+use cube_cells::Numbers;
 use cube_core::{Condition, Schema};
 use cube_rings::{FeedingFault, Gate, Gatherer, Settings, feed_all};
 use std::alloc::{AllocError, Global};
@@ -25,7 +26,13 @@ pub(crate) fn need_no_book(schema: &Schema) -> bool {
 }
 
 // Feeds all sources to a counter of the facts of interest, in shares where there are more threads than one.
-fn feed_counter<'c, T: Threads + Wait + Sync, R: Read + Drop + Send, G: Gate + Sync>(
+fn feed_counter<
+    'c,
+    T: Threads + Wait + Sync,
+    R: Read + Drop + Send,
+    G: Gate + Sync,
+    N: Numbers + Send,
+>(
     rt: &T,
     alloc: Global,
     schema: &Schema,
@@ -33,7 +40,7 @@ fn feed_counter<'c, T: Threads + Wait + Sync, R: Read + Drop + Send, G: Gate + S
     settings: &Settings,
     gate: &G,
     conditions: &'c [Condition],
-) -> Result<Gatherer<Counter<'c>>, FeedingFault>
+) -> Result<Gatherer<Counter<'c, N>>, FeedingFault>
     requires readers { (1 ≤ vec_len readers) × (vec_len readers ≤ 64) }
     ensures counts { IfOk result
         (CountsFeeds schema.now conditions.now (map R.Read.remaining readers.items)) }
@@ -51,7 +58,7 @@ fn feed_counter<'c, T: Threads + Wait + Sync, R: Read + Drop + Send, G: Gate + S
 }
 
 // What a counter counted, with its inlets. The only error is that memory ran out.
-fn counted(gatherer: Gatherer<Counter<'_>>) -> Result<MadePart, AllocError>
+fn counted<N: Numbers>(gatherer: Gatherer<Counter<'_, N>>) -> Result<MadePart<N>, AllocError>
     ensures counts { IfOk result (λ part. AreCountsOf gatherer.entry.builder part.builder) }
     ensures inlets { IfOk result (λ part. part.inlets.items ≡ gatherer.entry.inlets.items) }
 {
@@ -67,7 +74,12 @@ fn counted(gatherer: Gatherer<Counter<'_>>) -> Result<MadePart, AllocError>
 
 /// Takes feeds that need no book: each fact of interest is counted as it is taken. The faults are those of `feed_all`; `Full`
 /// also where an item of another kind came.
-pub(crate) fn count_where<T: Threads + Wait + Sync, R: Read + Drop + Send, G: Gate + Sync>(
+pub(crate) fn count_where<
+    T: Threads + Wait + Sync,
+    R: Read + Drop + Send,
+    G: Gate + Sync,
+    N: Numbers + Send,
+>(
     rt: &T,
     alloc: Global,
     schema: &Schema,
@@ -75,7 +87,7 @@ pub(crate) fn count_where<T: Threads + Wait + Sync, R: Read + Drop + Send, G: Ga
     settings: &Settings,
     gate: &G,
     conditions: &[Condition],
-) -> Result<MadePart, FeedingFault>
+) -> Result<MadePart<N>, FeedingFault>
     requires readers { (1 ≤ vec_len readers) × (vec_len readers ≤ 64) }
     ensures ok { IfOk result
         (IsTakenPart schema.now conditions.now (map R.Read.remaining readers.items)) }

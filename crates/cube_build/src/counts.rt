@@ -7,7 +7,7 @@ ghost use Rattle.cube_ledger.specs.Ledger.{AllFit, all_facts};
 use crate::builder::Builder;
 use crate::joined::HoldsCube;
 use crate::trace::LedgerTrace;
-use cube_cells::{Cube, Summary};
+use cube_cells::{Counted, Cube, Numbers};
 use cube_ledger::Ledger;
 use std::alloc::{AllocError, Global};
 use std::marker::Model;
@@ -16,13 +16,13 @@ use std::marker::Model;
 ///
 /// Contracts see the books too. Where a feed needs no book, nothing in memory is left of it.
 #[derive(Drop)]
-pub struct Counts {
+pub struct Counts<N: Numbers = Counted> {
     refused: Ledger,
-    cube: Cube<Summary>,
+    cube: Cube<N>,
     trace: LedgerTrace,
 }
 
-impl Model for Counts {
+impl<N: Numbers> Model for Counts<N> {
     ghost use Rattle.cube_build.specs.Builder.{BuilderView};
     ghost use Rattle.cube_build.specs.Counting.{AreCounts};
 
@@ -33,19 +33,30 @@ impl Model for Counts {
     ghost invariant = { λ c. AreCounts c.refused c.trace.ledger c.cube };
 }
 
-impl HoldsCube<Summary> for Counts {
+impl HoldsCube for Counts {
     ghost lattice = { λ c. c.cube };
 
-    fn held(&self) -> &Cube<Summary> {
+    fn held(&self) -> &Cube {
         &self.cube
     }
 }
 
 impl Counts {
+    /// The counts of a builder, which has the books.
+    pub(crate) fn of(builder: Builder) -> Counts
+        ensures { result ≡ builder }
+    {
+        let trace = LedgerTrace::of(builder.ledger());
+        let (ledger, cube) = builder.into_parts();
+        Counts::new(ledger, cube, trace)
+    }
+}
+
+impl<N: Numbers> Counts<N> {
     ghost use Rattle.cube_build.specs.Counting.{AreCounts};
 
     /// The counts of a ledger that clauses see, of which this has the refusals.
-    pub(crate) fn new(refused: Ledger, cube: Cube<Summary>, trace: LedgerTrace) -> Counts
+    pub(crate) fn new(refused: Ledger, cube: Cube<N>, trace: LedgerTrace) -> Counts<N>
         requires { AreCounts refused trace.ledger cube }
         ensures ledger { result.ledger ≡ trace.ledger }
         ensures cube { result.cube ≡ cube }
@@ -57,18 +68,9 @@ impl Counts {
         }
     }
 
-    /// The counts of a builder, which has the books.
-    pub(crate) fn of(builder: Builder<Summary>) -> Counts
-        ensures { result ≡ builder }
-    {
-        let trace = LedgerTrace::of(builder.ledger());
-        let (ledger, cube) = builder.into_parts();
-        Counts::new(ledger, cube, trace)
-    }
-
     /// The same counts over all grouping sets, whose cells are made of those over the finest one. The only error is that
     /// memory ran out.
-    pub(crate) fn filled(self, alloc: Global) -> Result<Counts, AllocError>
+    pub(crate) fn filled(self, alloc: Global) -> Result<Counts<N>, AllocError>
         requires { IsOverFinest self.cube }
         ensures { IfOk result (AreFilledFrom self) }
     {
@@ -78,7 +80,7 @@ impl Counts {
     }
 
     /// A ledger with the schema, the sources and the refusals, the cube, and the trace of the ledger.
-    pub(crate) fn into_parts(self) -> (Ledger, Cube<Summary>, LedgerTrace)
+    pub(crate) fn into_parts(self) -> (Ledger, Cube<N>, LedgerTrace)
         ensures cube { result.1 ≡ self.cube }
         ensures ledger { result.2.ledger ≡ self.ledger }
         ensures are { AreCounts result.0 result.2.ledger result.1 }
@@ -94,7 +96,7 @@ impl Counts {
     }
 
     /// The cube of the facts that were counted.
-    pub fn cube(&self) -> &Cube<Summary>
+    pub fn cube(&self) -> &Cube<N>
         ensures cube { result.now ≡ self.now.cube }
         ensures has { HasFacts (all_facts self.now.ledger.accounts) result.now }
         ensures fit { AllFit self.now.ledger.schema (all_facts self.now.ledger.accounts) }

@@ -11,7 +11,7 @@ use crate::builder::Builder;
 use crate::counts::Counts;
 use crate::fill::finest_with;
 use crate::trace::LedgerTrace;
-use cube_cells::{Cube, Summary};
+use cube_cells::{Counted, Cube, Numbers};
 use cube_core::{Condition, Schema};
 use cube_feed::{FeedItem, TakesItems};
 use cube_ledger::Ledger;
@@ -21,12 +21,12 @@ use std::thread::Threads;
 
 /// A ledger, and the cube that is filled with the facts of its books when all feeds have ended.
 #[derive(Drop)]
-pub(crate) struct Draft {
+pub(crate) struct Draft<N: Numbers> {
     ledger: Ledger,
-    cube: Cube<Summary>,
+    cube: Cube<N>,
 }
 
-impl Model for Draft {
+impl<N: Numbers> Model for Draft<N> {
     ghost use Rattle.cube_build.specs.Counting.{AreFinestCounts};
     ghost use Rattle.cube_build.specs.Drafts.{DraftView, IsDraft};
 
@@ -37,7 +37,7 @@ impl Model for Draft {
     ghost invariant = { λ d. IsDraft d.ledger d.cube };
 }
 
-impl TakesItems for Draft {
+impl<N: Numbers> TakesItems for Draft<N> {
     ghost use Rattle.std.specs.Prelude.{length, false};
     ghost use Rattle.cube_build.specs.Drafts.{StandsFrom};
 
@@ -60,7 +60,7 @@ impl TakesItems for Draft {
     }
 }
 
-impl Draft {
+impl<N: Numbers> Draft<N> {
     // The draft of a part of so many.
     fn new_part(
         alloc: Global,
@@ -68,7 +68,7 @@ impl Draft {
         sources: u32,
         part: u32,
         parts: u32,
-    ) -> Result<Draft, AllocError>
+    ) -> Result<Draft<N>, AllocError>
         requires sources { sources ≤ 64 }
         requires parts { parts ≤ 8 }
         requires part { part < parts }
@@ -85,7 +85,7 @@ impl Draft {
         alloc: Global,
         schema: &Schema,
         ledgers: Vec<Ledger>,
-    ) -> Result<Draft, AllocError>
+    ) -> Result<Draft<N>, AllocError>
         requires schema { All (λ ledger. ledger.schema ≡ schema.now) ledgers.items }
         requires most { sum_by (λ ledger. length ledger.accounts) ledgers.items ≤ 64 }
         ensures { IfOk result (IsDraftOf schema.now ledgers.items) }
@@ -96,7 +96,7 @@ impl Draft {
     }
 
     /// The draft of a ledger over all grouping sets of its schema. The only error is that memory ran out.
-    pub fn of_ledger(alloc: Global, ledger: Ledger) -> Result<Draft, AllocError>
+    pub fn of_ledger(alloc: Global, ledger: Ledger) -> Result<Draft<N>, AllocError>
         ensures ledger { IfOk result (λ draft. draft.ledger ≡ ledger) }
         ensures over { IfOk result (λ draft. IsPartOver ledger.schema 1 0 draft.cube) }
     {
@@ -123,22 +123,22 @@ impl Draft {
     {
         self.ledger.keep(conditions);
     }
+}
 
+impl Draft<Counted> {
     /// The builder of the ledger, with the cells over the finest grouping set made by so many threads. The only error is
     /// that memory ran out.
-    pub fn finish<T: Threads + Sync>(
-        self,
-        rt: &T,
-        threads: usize,
-    ) -> Result<Builder<Summary>, AllocError>
+    pub fn finish<T: Threads + Sync>(self, rt: &T, threads: usize) -> Result<Builder, AllocError>
         ensures { IfOk result (IsMadeOf self) }
     {
         Builder::of_with(rt, threads, self.ledger, self.cube)
     }
+}
 
+impl<N: Numbers + Send + Sync> Draft<N> {
     /// The counts of the ledger over the finest grouping set alone, made by so many threads. The only error is that memory
     /// ran out.
-    pub fn finest<T: Threads + Sync>(self, rt: &T, threads: usize) -> Result<Counts, AllocError>
+    pub fn finest<T: Threads + Sync>(self, rt: &T, threads: usize) -> Result<Counts<N>, AllocError>
         ensures { IfOk result (AreFinestCounts self.ledger) }
     {
         let cube = finest_with(rt, threads.max(1), &self.cube, &self.ledger)?;
@@ -148,12 +148,12 @@ impl Draft {
 }
 
 /// The drafts of so many parts, in their order. The only error is that memory ran out.
-pub(crate) fn new_drafts(
+pub(crate) fn new_drafts<N: Numbers>(
     alloc: Global,
     schema: &Schema,
     sources: u32,
     parts: u32,
-) -> Result<Vec<Draft>, AllocError>
+) -> Result<Vec<Draft<N>>, AllocError>
     requires sources { sources ≤ 64 }
     requires parts { parts ≤ 8 }
     ensures { IfOk result (λ drafts. AreNewDrafts schema.now sources parts parts drafts.items) }

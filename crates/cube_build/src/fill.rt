@@ -7,7 +7,7 @@ ghost use Rattle.cube_build.specs.Builder.{GainsFacts};
 ghost use Rattle.cube_ledger.specs.Ledger.{AllFit, all_facts};
 ghost use Rattle.cube_build.specs.Parted.{Fills};
 
-use cube_cells::{Cube, Summary};
+use cube_cells::{Cube, Numbers};
 use cube_core::Fact;
 use cube_ledger::{Book, Ledger};
 use std::alloc::AllocError;
@@ -65,7 +65,7 @@ pub fn add_counted(cube: &mut Cube, fact: &Fact) -> Result<(), AllocError>
 pub fn fill_cube_with<T: Threads + Sync>(
     rt: &T,
     threads: usize,
-    cube: &mut Cube<Summary>,
+    cube: &mut Cube,
     ledger: &Ledger,
 ) -> Result<(), AllocError>
     requires { cube.old.schema ≡ ledger.now.schema }
@@ -78,12 +78,12 @@ pub fn fill_cube_with<T: Threads + Sync>(
 
 /// The cube of the facts of all books of a ledger over the finest grouping set, with the schema of a cube, made by as
 /// many threads as this says. With one thread no thread is started. The only error is that memory ran out.
-pub(crate) fn finest_with<T: Threads + Sync>(
+pub(crate) fn finest_with<T: Threads + Sync, N: Numbers + Send + Sync>(
     rt: &T,
     threads: usize,
-    cube: &Cube<Summary>,
+    cube: &Cube<N>,
     ledger: &Ledger,
-) -> Result<Cube<Summary>, AllocError>
+) -> Result<Cube<N>, AllocError>
     requires threads { 0 < threads }
     requires schema { cube.now.schema ≡ ledger.now.schema }
     ensures schema { IfOk result (λ finest. finest.schema ≡ cube.now.schema) }

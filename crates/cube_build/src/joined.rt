@@ -11,21 +11,21 @@ ghost use Rattle.cube_cells.specs.Cube.{Lattice};
 ghost use Rattle.cube_cells.specs.Rows.{AreRowsInOrder};
 ghost use Rattle.cube_build.specs.Joined.{AnswersIn, AnswersInWhole, ArePartsOfOne, AreRowsOfWhole, EachSchema, HasCellsOfWhole, IsRowOfWhole, OrdersFirst};
 
-use cube_cells::{Cube, Numbers, OrderedCells};
+use cube_cells::{Cube, OrderedCells};
 use cube_core::{Key, Pattern, Row};
 use std::alloc::AllocError;
 
 /// What has a cube.
-pub trait HoldsCube<N: Numbers> {
+pub trait HoldsCube {
     ghost lattice: { Self → Lattice };
 
     /// Its cube.
-    fn held(&self) -> &Cube<N>
+    fn held(&self) -> &Cube
         ensures { result.now ≡ lattice self.now };
 }
 
 /// A question to a cube: that for its rows whose keys pass a test.
-pub trait AsksCube<N: Numbers> {
+pub trait AsksCube {
     // Which keys pass.
     ghost test: { Self → TheKey → Bool };
 
@@ -33,7 +33,7 @@ pub trait AsksCube<N: Numbers> {
     ghost can_ask: { Self → Layout → Type 0 };
 
     /// The rows of a cube whose keys pass. The only error is that memory ran out.
-    fn rows_of(&self, cube: &Cube<N>) -> Result<Vec<Row>, AllocError>
+    fn rows_of(&self, cube: &Cube) -> Result<Vec<Row>, AllocError>
         requires { can_ask self.now cube.now.schema }
         ensures { IfOk result (λ rows. AnswersIn (test self.now) cube.now rows.items) };
 }
@@ -44,12 +44,12 @@ pub struct Slice<'q> {
     pub pattern: &'q Pattern,
 }
 
-impl<'q, N: Numbers> AsksCube<N> for Slice<'q> {
+impl<'q> AsksCube for Slice<'q> {
     ghost test = { λ slice. matches slice.pattern.now };
 
     ghost can_ask = { λ _ _. Unit {0} };
 
-    fn rows_of(&self, cube: &Cube<N>) -> Result<Vec<Row>, AllocError> {
+    fn rows_of(&self, cube: &Cube) -> Result<Vec<Row>, AllocError> {
         cube.slice(self.pattern)
     }
 }
@@ -61,13 +61,13 @@ pub struct DrillDown<'q> {
     pub dim: usize,
 }
 
-impl<'q, N: Numbers> AsksCube<N> for DrillDown<'q> {
+impl<'q> AsksCube for DrillDown<'q> {
     ghost test = { λ drill. drills_down drill.dim drill.key.now };
 
     ghost can_ask = { λ drill s. (drill.dim < length s.dimensions)
         × (length drill.key.now.coords ≡ length s.dimensions) };
 
-    fn rows_of(&self, cube: &Cube<N>) -> Result<Vec<Row>, AllocError> {
+    fn rows_of(&self, cube: &Cube) -> Result<Vec<Row>, AllocError> {
         match cube.drill_down(self.key, self.dim) {
             Ok(rows) => Ok(rows),
             Err(_) => Err(AllocError),
@@ -76,7 +76,7 @@ impl<'q, N: Numbers> AsksCube<N> for DrillDown<'q> {
 }
 
 /// The rows of all parts that a question is for, in key order. The only error is that memory ran out.
-pub fn rows_of_parts<N: Numbers, P: HoldsCube<N>, Q: AsksCube<N>>(
+pub fn rows_of_parts<P: HoldsCube, Q: AsksCube>(
     parts: &[P],
     question: &Q,
 ) -> Result<Vec<Row>, AllocError>
@@ -109,7 +109,7 @@ fn in_key_order(rows: Vec<Row>) -> Result<Vec<Row>, AllocError>
 
 /// The row of a key with ALL in a dimension, counted from 0, by a look-up in each part; `None` exactly where that is no
 /// cell of the whole cube. The only error is that memory ran out.
-pub fn row_above<N: Numbers, P: HoldsCube<N>>(
+pub fn row_above<P: HoldsCube>(
     parts: &[P],
     key: &Key,
     dim: usize,
@@ -128,7 +128,7 @@ pub fn row_above<N: Numbers, P: HoldsCube<N>>(
 }
 
 /// How many cells all parts have. The only error is that numbers to count them with ran out.
-pub fn count_parts<N: Numbers, P: HoldsCube<N>>(parts: &[P]) -> Result<u64, AllocError>
+pub fn count_parts<P: HoldsCube>(parts: &[P]) -> Result<u64, AllocError>
     ensures { IfOk result (HasCellsOfWhole P.lattice parts.now) }
 {
     let mut number: u64 = 0;
@@ -142,9 +142,7 @@ pub fn count_parts<N: Numbers, P: HoldsCube<N>>(parts: &[P]) -> Result<u64, Allo
 }
 
 /// The cells of all parts in key order, for rows that are made one at a time. The only error is that memory ran out.
-pub fn ordered_parts<N: Numbers, P: HoldsCube<N>>(
-    parts: &[P],
-) -> Result<OrderedCells<'_, N>, AllocError>
+pub fn ordered_parts<P: HoldsCube>(parts: &[P]) -> Result<OrderedCells<'_>, AllocError>
     requires { ArePartsOfOne P.lattice parts.now }
     ensures { IfOk result (λ cells. (rows : List TheRow) → AreRowsInOrder cells rows →
         AreRowsOfWhole P.lattice parts.now rows) }
@@ -155,9 +153,9 @@ pub fn ordered_parts<N: Numbers, P: HoldsCube<N>>(
 }
 
 // Puts the cells of the other parts behind those of the first, and all in key order.
-fn join_others<'c, N: Numbers, P: HoldsCube<N>>(
+fn join_others<'c, P: HoldsCube>(
     parts: &'c [P],
-    cells: &mut OrderedCells<'c, N>,
+    cells: &mut OrderedCells<'c>,
 ) -> Result<(), AllocError>
     requires parts { ArePartsOfOne P.lattice parts.now }
     requires first { OrdersFirst P.lattice parts.now cells.old }

@@ -4,6 +4,7 @@ ghost use Rattle.cube_build.specs.Drafts.{IsMadePart};
 
 use crate::counts::Counts;
 use crate::draft::Draft;
+use cube_cells::{Counted, Numbers};
 use cube_rings::{Gatherer, Inlet, Parcel};
 use std::alloc::{AllocError, Global};
 use std::thread;
@@ -11,13 +12,17 @@ use std::thread::Threads;
 
 /// What was counted of a part, with the inlets by which the feeds came.
 #[derive(Drop)]
-pub(crate) struct MadePart {
-    pub builder: Counts,
+pub(crate) struct MadePart<N: Numbers = Counted> {
+    pub builder: Counts<N>,
     pub inlets: Vec<Inlet<Parcel>>,
 }
 
 // The builder of a part, whose cells over the finest grouping set so many threads make, unless memory runs out.
-fn make<T: Threads + Sync>(rt: &T, threads: usize, gatherer: Gatherer<Draft>) -> Option<MadePart>
+fn make<T: Threads + Sync>(
+    rt: &T,
+    threads: usize,
+    gatherer: Gatherer<Draft<Counted>>,
+) -> Option<MadePart>
     ensures { IfSome result (IsMadePart gatherer) }
 {
     let Gatherer {
@@ -37,7 +42,7 @@ fn make<T: Threads + Sync>(rt: &T, threads: usize, gatherer: Gatherer<Draft>) ->
 pub(crate) fn make_all<T: Threads + Sync>(
     rt: &T,
     threads: usize,
-    gatherers: Vec<Gatherer<Draft>>,
+    gatherers: Vec<Gatherer<Draft<Counted>>>,
 ) -> Result<Vec<Option<MadePart>>, AllocError>
     ensures count { IfOk result (λ made. vec_len made ≡ vec_len gatherers) }
     ensures each { IfOk result (λ made. (part : ℕ) (gatherer : _) (d : _) →

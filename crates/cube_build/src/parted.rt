@@ -11,7 +11,7 @@ ghost use Rattle.cube_build.specs.declared.parted.Part.{Part as ThePart};
 
 use crate::fill::{add_counted, fill_cube};
 use crate::joined::HoldsCube;
-use cube_cells::{Counted, Cube};
+use cube_cells::Cube;
 use cube_core::{Fact, Item, Text};
 use cube_ledger::{Ledger, Ruling};
 use std::alloc::{AllocError, Global};
@@ -31,7 +31,7 @@ pub struct Part {
     pub is_spent: bool,
 }
 
-impl HoldsCube<Counted> for Part {
+impl HoldsCube for Part {
     ghost lattice = { λ part. part.cube };
 
     fn held(&self) -> &Cube {

@@ -6,6 +6,7 @@ ghost use Rattle.cube_build.specs.Drafts.{IsDrafted};
 ghost use Rattle.cube_build.specs.Shares.{AreNewLedgers, TakenInParts};
 
 use crate::draft::Draft;
+use cube_cells::Numbers;
 use cube_core::Schema;
 use cube_ledger::Ledger;
 use cube_rings::{FeedingFault, Gate, Gatherer, Settings, feed_shares};
@@ -50,11 +51,11 @@ fn new_ledgers(
 
 // The builder of all shares, with a draft of their ledgers in the place of these, in a list. The only error is that memory ran
 // out.
-fn drafted(
+fn drafted<N: Numbers>(
     alloc: Global,
     schema: &Schema,
     whole: Gatherer<Vec<Ledger>>,
-) -> Result<Vec<Gatherer<Draft>>, AllocError>
+) -> Result<Vec<Gatherer<Draft<N>>>, AllocError>
     requires schema { All (λ ledger. ledger.schema ≡ schema.now) whole.builder.items }
     requires most { sum_by (λ ledger. length ledger.accounts) whole.builder.items ≤ 64 }
     ensures { IfOk result (λ gatherers. IsDrafted schema.now whole gatherers.items) }
@@ -78,14 +79,19 @@ fn drafted(
 
 /// Feeds 1 to 64 sources in as many shares as there are threads, 8 at most, and gives the draft of the ledgers of all
 /// shares, over all grouping sets, with the links of all sources. The faults are those of `feed_all`.
-pub(crate) fn feed_in_shares<T: Threads + Wait + Sync, R: Read + Drop + Send, G: Gate + Sync>(
+pub(crate) fn feed_in_shares<
+    T: Threads + Wait + Sync,
+    R: Read + Drop + Send,
+    G: Gate + Sync,
+    N: Numbers,
+>(
     rt: &T,
     alloc: Global,
     schema: &Schema,
     readers: Vec<R>,
     settings: &Settings,
     gate: &G,
-) -> Result<Vec<Gatherer<Draft>>, FeedingFault>
+) -> Result<Vec<Gatherer<Draft<N>>>, FeedingFault>
     requires readers { (1 ≤ vec_len readers) × (vec_len readers ≤ 64) }
     ensures taken { IfOk result (λ gatherers. TakenInParts schema.now
         (map R.Read.remaining readers.items) 1 gatherers.items) }

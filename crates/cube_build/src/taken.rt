@@ -1,6 +1,8 @@
 //! What one builder takes of the feeds of all sources.
-ghost use Rattle.std.specs.Prelude.{◌≡◌, ◌≤◌, [], length, map, vec_len, IfOk, IfErr};
+ghost use Rattle.std.specs.Prelude.{◌≡◌, ◌≤◌, [], true, false, length, map, vec_len, IfOk, IfErr};
+ghost use Rattle.cube_cells.specs.BaseCuboid.{cells_of_cuboid};
 ghost use Rattle.cube_cells.specs.Fill.{IsCubeOfAll};
+ghost use Rattle.cube_core.specs.Layout.{all_suffice};
 ghost use Rattle.cube_ledger.specs.Interest.{ledger_of_interest};
 ghost use Rattle.cube_ledger.specs.Ledger.{all_facts};
 ghost use Rattle.cube_rings.specs.FeedingAll.{ExplainsFeeding};
@@ -12,7 +14,7 @@ use crate::counting::{count_where, need_no_book};
 use crate::draft::Draft;
 use crate::making::MadePart;
 use crate::trace::LedgerTrace;
-use cube_cells::{FinestCells, Summary};
+use cube_cells::{BaseCuboid, Counted, FinestCells, Numbers, Summary};
 use cube_core::{Condition, Schema};
 use cube_ledger::Ledger;
 use cube_rings::{FeedingFault, Gate, Gatherer, Inlet, Parcel, Settings};
@@ -29,7 +31,7 @@ use std::thread::Threads;
 #[derive(Drop)]
 pub struct Taken {
     refused: Ledger,
-    cells: FinestCells<Summary>,
+    cells: BaseCuboid,
     facts: u64,
     trace: LedgerTrace,
     inlets: Vec<Inlet<Parcel>>,
@@ -37,21 +39,48 @@ pub struct Taken {
 
 impl Model for Taken {
     ghost use Rattle.cube_build.specs.Taken.{IsTaken, TakenView};
+    ghost use Rattle.cube_cells.specs.BaseCuboid.{cells_of_cuboid};
 
     ghost Value = { TakenView };
 
     ghost view = { λ t. record {
       ledger = t.trace.ledger;
-      cells = t.cells;
+      cells = cells_of_cuboid t.cells;
       inlets = t.inlets.items;
     } };
 
-    ghost invariant = { λ t. IsTaken t.refused t.trace.ledger t.cells t.facts };
+    ghost invariant = { λ t. IsTaken t.refused t.trace.ledger (cells_of_cuboid t.cells) t.facts };
 }
 
 impl Taken {
-    /// What was taken of a part whose cube is over the finest grouping set alone. The only error is that memory ran out.
-    pub(crate) fn of(part: MadePart) -> Result<Taken, AllocError>
+    /// What was taken of a part whose cube is over the finest grouping set alone, by summaries, which suffice for the
+    /// aggregates of its schema. The only error is that memory ran out.
+    fn of_summaries(part: MadePart<Summary>) -> Result<Taken, AllocError>
+        requires finest { IsOverFinest part.builder.cube }
+        requires numbers { all_suffice false part.builder.ledger.schema ≡ true }
+        ensures ledger { IfOk result (λ taken. taken.ledger ≡ part.builder.ledger) }
+        ensures cells { IfOk result (λ taken. HaveFactsOf part.builder.ledger taken.cells) }
+        ensures inlets { IfOk result (λ taken. taken.inlets ≡ part.inlets.items) }
+    {
+        let MadePart {
+            builder: counts,
+            inlets,
+        } = part;
+        let facts = counts.facts();
+        let (refused, cube, trace) = counts.into_parts();
+        let cells = BaseCuboid::Summaries(FinestCells::of(cube)?);
+        Ok(Taken {
+            refused,
+            cells,
+            facts,
+            trace,
+            inlets,
+        })
+    }
+
+    /// What was taken of a part whose cube is over the finest grouping set alone, by its numbers. The only error is that
+    /// memory ran out.
+    fn of_numbers(part: MadePart<Counted>) -> Result<Taken, AllocError>
         requires { IsOverFinest part.builder.cube }
         ensures ledger { IfOk result (λ taken. taken.ledger ≡ part.builder.ledger) }
         ensures cells { IfOk result (λ taken. HaveFactsOf part.builder.ledger taken.cells) }
@@ -63,7 +92,7 @@ impl Taken {
         } = part;
         let facts = counts.facts();
         let (refused, cube, trace) = counts.into_parts();
-        let cells = FinestCells::of(cube)?;
+        let cells = BaseCuboid::Numbers(FinestCells::of(cube)?);
         Ok(Taken {
             refused,
             cells,
@@ -81,10 +110,10 @@ impl Taken {
     }
 
     /// The cells of the facts that survive, over the finest grouping set alone.
-    pub fn cells(&self) -> &FinestCells<Summary>
-        ensures cells { result.now ≡ self.now.cells }
-        ensures schema { result.now.schema ≡ self.now.ledger.schema }
-        ensures facts { IsCubeOfAll (all_facts self.now.ledger.accounts) result.now }
+    pub fn cells(&self) -> &BaseCuboid
+        ensures cells { cells_of_cuboid result.now ≡ self.now.cells }
+        ensures schema { (cells_of_cuboid result.now).schema ≡ self.now.ledger.schema }
+        ensures facts { IsCubeOfAll (all_facts self.now.ledger.accounts) (cells_of_cuboid result.now) }
     {
         &self.cells
     }
@@ -123,8 +152,15 @@ pub fn take_where<T: Threads + Wait + Sync, R: Read + Drop + Send, G: Gate + Syn
         (TakesWhere schema.now conditions.now (map R.Read.remaining readers.items)) }
     ensures err { IfErr result (ExplainsFeeding schema.now (map R.Read.remaining readers.items)) }
 {
+    if schema.needs_numbers() {
+        let part = take_part(rt, alloc, schema, readers, settings, gate, conditions)?;
+        return match Taken::of_numbers(part) {
+            Ok(taken) => Ok(taken),
+            Err(_) => Err(FeedingFault::Full),
+        };
+    }
     let part = take_part(rt, alloc, schema, readers, settings, gate, conditions)?;
-    match Taken::of(part) {
+    match Taken::of_summaries(part) {
         Ok(taken) => Ok(taken),
         Err(_) => Err(FeedingFault::Full),
     }
@@ -142,14 +178,37 @@ pub fn take_ledger<T: Threads + Sync>(
     ensures cells { IfOk result (λ taken. HaveFactsOf ledger taken.cells) }
     ensures no_inlets { IfOk result (λ taken. taken.inlets ≡ []) }
 {
+    if ledger.schema().needs_numbers() {
+        Taken::of_numbers(part_of(rt, alloc, threads, ledger)?)
+    } else {
+        Taken::of_summaries(part_of(rt, alloc, threads, ledger)?)
+    }
+}
+
+// The counts of the facts in the books of a ledger over the finest grouping set, made by so many threads, without an inlet.
+// The only error is that memory ran out.
+fn part_of<T: Threads + Sync, N: Numbers + Send + Sync>(
+    rt: &T,
+    alloc: Global,
+    threads: usize,
+    ledger: Ledger,
+) -> Result<MadePart<N>, AllocError>
+    ensures counts { IfOk result (λ part. AreFinestCounts ledger part.builder) }
+    ensures no_inlets { IfOk result (λ part. part.inlets.items ≡ []) }
+{
     let draft = Draft::of_ledger(alloc, ledger)?;
     let builder = draft.finest(rt, threads)?;
     let inlets = Vec::new(alloc);
-    Taken::of(MadePart { builder, inlets })
+    Ok(MadePart { builder, inlets })
 }
 
 /// What one builder takes, with its counts over the finest grouping set alone. The faults are those of [`take_where`].
-pub(crate) fn take_part<T: Threads + Wait + Sync, R: Read + Drop + Send, G: Gate + Sync>(
+pub(crate) fn take_part<
+    T: Threads + Wait + Sync,
+    R: Read + Drop + Send,
+    G: Gate + Sync,
+    N: Numbers + Send + Sync,
+>(
     rt: &T,
     alloc: Global,
     schema: &Schema,
@@ -157,7 +216,7 @@ pub(crate) fn take_part<T: Threads + Wait + Sync, R: Read + Drop + Send, G: Gate
     settings: &Settings,
     gate: &G,
     conditions: &[Condition],
-) -> Result<MadePart, FeedingFault>
+) -> Result<MadePart<N>, FeedingFault>
     requires readers { (1 ≤ vec_len readers) × (vec_len readers ≤ 64) }
     requires one { settings.now.builders ≡ 1 }
     ensures ok { IfOk result
@@ -177,12 +236,12 @@ pub(crate) fn take_part<T: Threads + Wait + Sync, R: Read + Drop + Send, G: Gate
 
 // The counts of the facts of interest of what was gathered, made by so many threads, with the inlets. The only error is that
 // memory ran out.
-fn kept<T: Threads + Sync>(
+fn kept<T: Threads + Sync, N: Numbers + Send + Sync>(
     rt: &T,
     threads: usize,
-    gatherer: Gatherer<Draft>,
+    gatherer: Gatherer<Draft<N>>,
     conditions: &[Condition],
-) -> Result<MadePart, AllocError>
+) -> Result<MadePart<N>, AllocError>
     ensures counts { IfOk result (λ part.
         AreFinestCounts (ledger_of_interest conditions.now gatherer.builder.ledger) part.builder) }
     ensures inlets { IfOk result (λ part. part.inlets.items ≡ gatherer.inlets.items) }

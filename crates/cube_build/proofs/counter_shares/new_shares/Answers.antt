@@ -11,7 +11,7 @@ use Rattle.cube_build.proofs.ShareLaws.{all-left}
 use Rattle.cube_build.proofs.counter_shares.new_shares.Goals as goal
 
 pub loop-share-preserved : goal.loop-share-preserved
-loop-share-preserved c =
+loop-share-preserved g c =
     let loop = c.loop-share in
     let was = loop.invariant in
     let counter = c.in_ok-new.field-0 in

@@ -5,7 +5,7 @@ use Rattle.cube_build.specs.Counting.{IsNewCounter}
 use Rattle.cube_build.proofs.counter_shares.new_shares.Given as goal
 
 abbrev pub invariant-loop-share : goal.invariant-loop-share
-invariant-loop-share l =
+invariant-loop-share g l =
     (length l.counters.items ≡ l.share)
     × (sum_by counter_sources l.counters.items + l.left ≡ l.sources)
     × All (λ counter. IsNewCounter l.schema (counter_sources counter) l.conditions counter) l.counters.items

@@ -4,7 +4,7 @@ use Rattle.cube_build.specs.Drafts.{DraftView}
 use Rattle.cube_build.proofs.shares.drafted.Goals as goal
 
 pub returns : goal.returns
-returns c =
+returns g c =
     let gatherer : Gatherer DraftView = record {
       builder = c.in_ok-builder.builder;
       place = c.args.whole.place;

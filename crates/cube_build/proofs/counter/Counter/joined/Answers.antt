@@ -10,19 +10,19 @@ use Rattle.cube_build.proofs.CountingLaws.{counter-unspent, finest-all, long-ref
 use Rattle.cube_build.proofs.counter.Counter.joined.Goals as goal
 
 pub merged-requires-clause-schema : goal.merged-requires-clause-schema
-merged-requires-clause-schema c =
+merged-requires-clause-schema g c =
     let alike : c.others.inside.trace.ledger.schema ≡ c.self.inside.trace.ledger.schema =
     rw (← c.others.view_is, ← c.self.view_is) at c.requires.schema in
     c.others.invariant.schema ∙ alike ∙ sym c.self.invariant.schema
 
 pub merged-requires-clause-sets : goal.merged-requires-clause-sets
-merged-requires-clause-sets c = (c.self.invariant.counted (rw (← c.self.view_is) at c.requires.unspent.0)).sets
+merged-requires-clause-sets g c = (c.self.invariant.counted (rw (← c.self.view_is) at c.requires.unspent.0)).sets
 
 pub merged-requires-clause-more_sets : goal.merged-requires-clause-more_sets
-merged-requires-clause-more_sets c = (c.others.invariant.counted (rw (← c.others.view_is) at c.requires.unspent.1)).sets
+merged-requires-clause-more_sets g c = (c.others.invariant.counted (rw (← c.others.view_is) at c.requires.unspent.1)).sets
 
 pub merged-requires-clause-facts : goal.merged-requires-clause-facts
-merged-requires-clause-facts c = (
+merged-requires-clause-facts g c = (
   of_interest c.self.inside.conditions.now (all_facts c.self.inside.trace.ledger.accounts),
   finest-all c.self.inside.conditions.now c.self.inside.refused c.self.inside.trace.ledger
       c.self.inside.weights.items c.self.inside.cube
@@ -32,7 +32,7 @@ merged-requires-clause-facts c = (
 )
 
 pub merged-requires-clause-more_facts : goal.merged-requires-clause-more_facts
-merged-requires-clause-more_facts c = (
+merged-requires-clause-more_facts g c = (
   of_interest c.others.inside.conditions.now (all_facts c.others.inside.trace.ledger.accounts),
   finest-all c.others.inside.conditions.now c.others.inside.refused c.others.inside.trace.ledger
       c.others.inside.weights.items c.others.inside.cube
@@ -42,13 +42,13 @@ merged-requires-clause-more_facts c = (
 )
 
 pub append-requires-clause-schema : goal.append-requires-clause-schema
-append-requires-clause-schema c =
+append-requires-clause-schema g c =
     let alike : c.others.inside.trace.ledger.schema ≡ c.self.inside.trace.ledger.schema =
     rw (← c.others.view_is, ← c.self.view_is) at c.requires.schema in
     c.others.invariant.noted.schema ∙ alike ∙ sym c.self.invariant.noted.schema
 
 pub append-requires-clause-most : goal.append-requires-clause-most
-append-requires-clause-most c = omega (
+append-requires-clause-most g c = omega (
   arith,
   rw (← c.others.view_is, ← c.self.view_is) at c.requires.most,
   long-refused c.self.inside.refused c.self.inside.trace.ledger c.self.invariant.noted,
@@ -56,7 +56,7 @@ append-requires-clause-most c = omega (
 )
 
 pub invariant_of-result : goal.invariant_of-result
-invariant_of-result c =
+invariant_of-result g c =
     let unspent : c.self.inside.is_spent ≡ false = rw (← c.self.view_is) at c.requires.unspent.0 in
     let more_unspent : c.others.inside.is_spent ≡ false = rw (← c.others.view_is) at c.requires.unspent.1 in
     let alike : c.others.inside.trace.ledger.schema ≡ c.self.inside.trace.ledger.schema =
@@ -74,7 +74,7 @@ invariant_of-result c =
     c.others.inside.trace.ledger c.others.inside.weights.items c.others.inside.cube more_unspent c.others.invariant)))
 
 pub returns : goal.returns
-returns c =
+returns g c =
     let unspent : c.self.inside.is_spent ≡ false = rw (← c.self.view_is) at c.requires.unspent.0 in
     let joined : IsJoined (record {
       is_spent = c.self.inside.is_spent;

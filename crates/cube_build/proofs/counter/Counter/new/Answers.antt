@@ -4,7 +4,7 @@ use Rattle.cube_build.proofs.CountingLaws.{counter-new}
 use Rattle.cube_build.proofs.counter.Counter.new.Goals as goal
 
 pub invariant_of-result : goal.invariant_of-result
-invariant_of-result c =
+invariant_of-result g c =
     counter-new c.args.conditions.now c.in_ok-refused.refused c.of-trace.result.ledger c.args.sources
     c.in_ok-weights.weights.items c.in_ok-whole.whole c.in_ok-cube.cube c.of-trace.ensures
     c.in_ok-refused.ensures.accounts (search rules)
@@ -12,7 +12,7 @@ invariant_of-result c =
     c.in_ok-cube.ensures.cube
 
 pub returns : goal.returns
-returns c = record {
+returns g c = record {
   conditions_are = refl;
   schema = ap (λ (l : LedgerView). l.schema) c.of-trace.ensures ∙ c.in_ok-refused.ensures.schema;
   accounts = ap (λ (l : LedgerView). l.accounts) c.of-trace.ensures ∙ c.in_ok-refused.ensures.accounts;

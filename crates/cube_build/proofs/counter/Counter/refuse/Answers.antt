@@ -9,7 +9,7 @@ use Rattle.cube_build.proofs.counter.Counter.refuse.Goals as goal
 
 -- the source is one of the ledger's that is kept
 pub note_fault-requires : goal.note_fault-requires
-note_fault-requires c =
+note_fault-requires g c =
     let last : c.args.source ≤ length c.self.inside.trace.ledger.accounts =
     rw (← c.self.view_is) at c.requires.source.1 in
     let long = long-refused c.self.inside.refused c.self.inside.trace.ledger c.self.invariant.noted in
@@ -17,7 +17,7 @@ note_fault-requires c =
 
 -- the line fault is noted
 pub invariant_of-self : goal.invariant_of-self
-invariant_of-self c =
+invariant_of-self g c =
     let unspent : c.self.inside.is_spent ≡ false = rw (← c.self.view_is) at c.requires.unspent in
     let last : c.args.source ≤ length c.self.inside.trace.ledger.accounts =
     rw (← c.self.view_is) at c.requires.source.1 in
@@ -29,13 +29,13 @@ invariant_of-self c =
 
 -- memory ran out
 pub invariant_of-self-in-Err : goal.invariant_of-self-in-Err
-invariant_of-self-in-Err c =
+invariant_of-self-in-Err g c =
     rw c.in-Err.ensures.same (counter-spent c.self.inside.is_spent c.self.inside.conditions.now
     c.self.inside.refused c.self.inside.trace.ledger c.self.inside.weights.items c.self.inside.cube
     c.self.inside.cube refl c.self.invariant)
 
 pub returns-in-Ok-clause-counts : goal.returns-in-Ok-clause-counts
-returns-in-Ok-clause-counts c =
+returns-in-Ok-clause-counts g c =
     let unspent : c.self.inside.is_spent ≡ false = rw (← c.self.view_is) at c.requires.unspent in
     let old : CounterView = record {
       is_spent = c.self.inside.is_spent;
@@ -54,7 +54,7 @@ returns-in-Ok-clause-counts c =
     ∙ c.in-Ok.ensures.noted.coded))
 
 pub returns-in-Ok-clause-sources : goal.returns-in-Ok-clause-sources
-returns-in-Ok-clause-sources c =
+returns-in-Ok-clause-sources g c =
     let ledger = c.self.inside.trace.ledger in
     rw (← c.self.view_is)
     (ap (λ (l : LedgerView). length l.accounts) c.refusing-self-inside.ensures

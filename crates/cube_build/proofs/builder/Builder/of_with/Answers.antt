@@ -1,6 +1,6 @@
 use Rattle.std.proofs.Common.{◌∙◌, subst}
 use Rattle.cube_ledger.specs.Ledger.{AllFit, LedgerView, all_facts}
-use Rattle.cube_build.proofs.builder.Builder+Summary.of_with.Goals as goal
+use Rattle.cube_build.proofs.builder.Builder.of_with.Goals as goal
 
 pub invariant_of-result : goal.invariant_of-result
 invariant_of-result g c =
