@@ -10,7 +10,7 @@ ghost use Rattle.cube_live.specs.Shows.{AsksRows, IsTextWhere, asks_for, is_key}
 
 use crate::request::Question;
 use cube_build::{AsksCube, DrillDown, Parted, ordered_parts, rows_of_parts};
-use cube_cells::{Counted, Cube, row_of};
+use cube_cells::{Cube, row_of};
 use cube_core::{Key, Pattern, QueryFault, Row, Schema};
 use cube_text::{print_cells, print_rows};
 use std::alloc::{AllocError, Global};
@@ -62,7 +62,7 @@ struct Asked<'q> {
     question: &'q Question,
 }
 
-impl<'q> AsksCube<Counted> for Asked<'q> {
+impl<'q> AsksCube for Asked<'q> {
     ghost test = { λ asked. asks_for asked.question.now };
 
     ghost can_ask = { λ asked s. (asked.schema.now ≡ s)

@@ -11,7 +11,7 @@ ghost use Rattle.cube_cells.specs.Tally.{Tally};
 ghost use Rattle.cube_text.specs.Shape.{HasShapeOf};
 
 use crate::fields::{close_line, push_coord, push_grouping};
-use cube_cells::{CoordRef, KeyedCell, Numbers, OrderedCells};
+use cube_cells::{CoordRef, KeyedCell, OrderedCells};
 use cube_core::{Agg, Answer, Coord, Row, Schema};
 use cube_lines::{push_answer, push_header};
 use itoa::Buffer;
@@ -36,10 +36,10 @@ pub fn print_rows(alloc: Global, schema: &Schema, rows: &[Row]) -> Result<Vec<u8
 /// The header line of the schema, and a line for the row of each cell in the order given, with no list of the rows.
 ///
 /// The only error is that memory ran out.
-pub fn print_cells<N: Numbers>(
+pub fn print_cells(
     alloc: Global,
     schema: &Schema,
-    cells: &OrderedCells<'_, N>,
+    cells: &OrderedCells<'_>,
 ) -> Result<Vec<u8>, AllocError>
     ensures { IfOk result (λ text. IsTextOfCells schema.now cells.now text.items) }
 {
@@ -83,11 +83,11 @@ fn put_rows(text: &mut Vec<u8>, digits: &[u8], rows: &[Row]) -> Result<(), Alloc
 }
 
 // Puts the lines of the cells from a place to another, a block at a time.
-fn put_cells<N: Numbers>(
+fn put_cells(
     alloc: Global,
     text: &mut Vec<u8>,
     digits: &[u8],
-    cells: &OrderedCells<'_, N>,
+    cells: &OrderedCells<'_>,
     from: usize,
     to: usize,
 ) -> Result<(), AllocError>
@@ -106,11 +106,11 @@ fn put_cells<N: Numbers>(
 }
 
 // Puts the lines of the cells from a place to another, whose answers are found first.
-fn put_block<N: Numbers>(
+fn put_block(
     alloc: Global,
     text: &mut Vec<u8>,
     digits: &[u8],
-    cells: &OrderedCells<'_, N>,
+    cells: &OrderedCells<'_>,
     from: usize,
     to: usize,
 ) -> Result<(), AllocError>
@@ -127,9 +127,9 @@ fn put_block<N: Numbers>(
 }
 
 // The answers for the cells from a place to another, aggregate by aggregate.
-fn columns_of<N: Numbers>(
+fn columns_of(
     alloc: Global,
-    cells: &OrderedCells<'_, N>,
+    cells: &OrderedCells<'_>,
     from: usize,
     to: usize,
 ) -> Result<Vec<Vec<Answer>>, AllocError>
@@ -147,9 +147,9 @@ fn columns_of<N: Numbers>(
 
 // The answers of one of the aggregates for the cells from a place to another. Cells lie anywhere in memory, and nothing
 // is waited for between one and the next, so that several are fetched at a time.
-fn column_of<N: Numbers>(
+fn column_of(
     alloc: Global,
-    cells: &OrderedCells<'_, N>,
+    cells: &OrderedCells<'_>,
     which: usize,
     from: usize,
     to: usize,
@@ -164,16 +164,16 @@ fn column_of<N: Numbers>(
     let aggregate = &cells.aggregates()[which];
     let mut column = Vec::with_capacity(alloc, to - from)?;
     for place in from..to {
-        column.push(cells.cell_at(place).answer(aggregate))?;
+        column.push(cells.cell_at(place).answer(aggregate)?)?;
     }
     Ok(column)
 }
 
 // Puts the line of the cell at a place, whose answers the columns have at a place of theirs.
-fn put_cell<N: Numbers>(
+fn put_cell(
     text: &mut Vec<u8>,
     digits: &[u8],
-    cells: &OrderedCells<'_, N>,
+    cells: &OrderedCells<'_>,
     place: usize,
     columns: &[Vec<Answer>],
     at: usize,
@@ -194,7 +194,7 @@ fn put_cell<N: Numbers>(
     close_line(text, start)
 }
 
-fn put_key<N: Numbers>(text: &mut Vec<u8>, cell: &KeyedCell<'_, N>) -> Result<(), AllocError>
+fn put_key(text: &mut Vec<u8>, cell: &KeyedCell<'_>) -> Result<(), AllocError>
     ensures { OnOk result (AddsParts (map coord_text cell.now.0.coords) text.old.items text.new.items) }
 {
     for dimension in 0..cell.dimensions() {
@@ -203,10 +203,7 @@ fn put_key<N: Numbers>(text: &mut Vec<u8>, cell: &KeyedCell<'_, N>) -> Result<()
     Ok(())
 }
 
-fn put_key_groupings<N: Numbers>(
-    text: &mut Vec<u8>,
-    cell: &KeyedCell<'_, N>,
-) -> Result<(), AllocError>
+fn put_key_groupings(text: &mut Vec<u8>, cell: &KeyedCell<'_>) -> Result<(), AllocError>
     ensures { OnOk result (AddsParts (map grouping_text cell.now.0.coords) text.old.items text.new.items) }
 {
     for dimension in 0..cell.dimensions() {

@@ -5,6 +5,7 @@ ghost use Rattle.cube_core.specs.Referred.{referred_coord};
 ghost use Rattle.cube_core.specs.Text.{coord_text, digits_of_answers, grouping_text};
 ghost use Rattle.cube_core.specs.declared.fact.Fact.{Fact};
 ghost use Rattle.cube_core.specs.declared.key.Coord.TheVariants as coord;
+ghost use Rattle.cube_cells.specs.BaseCuboid.{cells_of_cuboid};
 ghost use Rattle.cube_cells.specs.Codes.{Dictionaries, coords_at, key_at};
 ghost use Rattle.cube_cells.specs.Fill.{IsCubeOfAll};
 ghost use Rattle.cube_lines.specs.Parts.{AddsParts};
@@ -16,7 +17,9 @@ ghost use Rattle.cube_text.specs.Walked.{AddsAnswers, IsTextOfPart};
 use crate::fields::{close_line, push_coord, push_grouping};
 use crate::print::text_of_header;
 use crate::shown::{Shown, all_shown, part_at};
-use cube_cells::{Cell, CoordRef, FinestCells, KeyCodes, Numbers, Summary, TakesCells, WalkPart};
+use cube_cells::{
+    BaseCuboid, Cell, CoordRef, FinestCells, KeyCodes, Numbers, TakesCells, WalkPart,
+};
 use cube_lines::{Pieces, push_answer};
 use itoa::Buffer;
 use std::alloc::{AllocError, Global};
@@ -77,7 +80,23 @@ pub fn print_walked_in_pieces<T: Threads + Sync>(
     rt: &T,
     alloc: Global,
     threads: usize,
-    cells: &FinestCells<Summary>,
+    cells: &BaseCuboid,
+) -> Result<Pieces, AllocError>
+    ensures { IfOk result (λ text. (facts : List Fact) → IsCubeOfAll facts (cells_of_cuboid cells.now) →
+        IsPrinted (cells_of_cuboid cells.now).schema facts text) }
+{
+    match cells {
+        BaseCuboid::Summaries(cells) => print_finest(rt, alloc, threads, cells),
+        BaseCuboid::Numbers(cells) => print_finest(rt, alloc, threads, cells),
+    }
+}
+
+// The text of the cube of the facts whose finest cells these are, in pieces that threads make.
+fn print_finest<T: Threads + Sync, N: Numbers + Send + Sync>(
+    rt: &T,
+    alloc: Global,
+    threads: usize,
+    cells: &FinestCells<N>,
 ) -> Result<Pieces, AllocError>
     ensures { IfOk result (λ text. (facts : List Fact) → IsCubeOfAll facts cells.now →
         IsPrinted cells.now.schema facts text) }
@@ -95,12 +114,12 @@ pub fn print_walked_in_pieces<T: Threads + Sync>(
 }
 
 // The lines of the rows of the cells of each part, each made on a thread of its own.
-fn texts_of_parts<T: Threads + Sync>(
+fn texts_of_parts<T: Threads + Sync, N: Numbers + Send + Sync>(
     rt: &T,
     alloc: Global,
-    cells: &FinestCells<Summary>,
+    cells: &FinestCells<N>,
     shown: &[Shown],
-    parts: &[WalkPart<'_, Summary>],
+    parts: &[WalkPart<'_, N>],
 ) -> Result<Vec<Result<Vec<u8>, AllocError>>, AllocError>
     ensures long { IfOk result (λ texts. length texts.items ≡ length parts.now) }
     ensures each { IfOk result (λ texts. (i : ℕ) (unused : _) (part : PartOfWalk) → i < length parts.now →
@@ -231,7 +250,7 @@ fn put_answers_of<N: Numbers>(
     let mut number = Buffer::new();
     for aggregate in schema.aggregates() {
         let digits = schema.digits_of(aggregate);
-        push_answer(text, &mut number, digits, &cell.answer(aggregate))?;
+        push_answer(text, &mut number, digits, &cell.try_answer(aggregate)?)?;
     }
     Ok(())
 }

@@ -1,6 +1,7 @@
 //! How many cells a cube may have.
 ghost use Rattle.std.specs.Prelude.{◌≡◌, ◌<◌, ◌≤◌, List, IfErr, OnOk};
 ghost use Rattle.cube_core.specs.declared.fact.Fact.{Fact};
+ghost use Rattle.cube_cells.specs.BaseCuboid.{cells_of_cuboid};
 ghost use Rattle.cube_cells.specs.Fill.{IsCubeOfAll};
 ghost use Rattle.cube_build.specs.Parts.{facts_of_run, schema_of_run};
 ghost use Rattle.cube_tool.specs.MaxCells.{HasCellsWithin, RefusesCells, cells_named, lawful_cells};
@@ -8,7 +9,7 @@ ghost use Rattle.cube_tool.specs.MaxCells.{HasCellsWithin, RefusesCells, cells_n
 use crate::command::failure::Failure;
 use crate::fault::RunFault;
 use cube_build::Built;
-use cube_cells::{FinestCells, Summary};
+use cube_cells::BaseCuboid;
 use cube_live::count_of;
 
 // The most that a word may name: 2 to the power 63, less 1.
@@ -38,11 +39,11 @@ fn lawful_cells(number: u64) -> Option<u64>
 
 /// Fails where the cube of the facts whose finest cells these are has more cells than it may have, where there is a bound, or
 /// where memory ran out. No cell is kept.
-pub fn refuse_cells(max_cells: Option<u64>, cells: &FinestCells<Summary>) -> Result<(), Failure>
-    ensures within { OnOk result ((facts : List Fact) → IsCubeOfAll facts cells.now →
-        HasCellsWithin max_cells cells.now.schema facts) }
-    ensures beyond { IfErr result (λ failure. (facts : List Fact) → IsCubeOfAll facts cells.now →
-        RefusesCells max_cells cells.now.schema facts failure) }
+pub fn refuse_cells(max_cells: Option<u64>, cells: &BaseCuboid) -> Result<(), Failure>
+    ensures within { OnOk result ((facts : List Fact) → IsCubeOfAll facts (cells_of_cuboid cells.now) →
+        HasCellsWithin max_cells (cells_of_cuboid cells.now).schema facts) }
+    ensures beyond { IfErr result (λ failure. (facts : List Fact) → IsCubeOfAll facts (cells_of_cuboid cells.now) →
+        RefusesCells max_cells (cells_of_cuboid cells.now).schema facts failure) }
 {
     let Some(most) = max_cells else {
         return Ok(());

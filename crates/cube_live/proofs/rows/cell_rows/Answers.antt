@@ -1,6 +1,10 @@
 use Rattle.std.proofs.lemmas.Result.{IfOk-weaker}
+use Rattle.cube_core.proofs.SufficesLaws.{all_suffice_kept}
 use Rattle.cube_live.proofs.RowLaws.{rows-one, rows-none}
 use Rattle.cube_live.proofs.rows.cell_rows.Goals as goal
+
+pub row_of-requires-clause-keeps : goal.row_of-requires-clause-keeps
+row_of-requires-clause-keeps c = rw c.aggregates.ensures.value (all_suffice_kept c.args.schema.now)
 
 pub returns : goal.returns
 returns c =

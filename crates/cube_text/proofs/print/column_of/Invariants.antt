@@ -3,5 +3,5 @@ use Rattle.cube_text.specs.Rows.{IsColumn}
 use Rattle.cube_text.proofs.print.column_of.Given as goal
 
 abbrev pub invariant-loop-place : goal.invariant-loop-place
-invariant-loop-place g l =
+invariant-loop-place l =
     (l.from + length l.column.items ≡ l.place) × IsColumn l.aggregate l.cells.cells l.from l.column.items

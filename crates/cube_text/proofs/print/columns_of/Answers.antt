@@ -4,7 +4,7 @@ use Rattle.cube_text.proofs.ColumnLaws.{AreColumns-push}
 use Rattle.cube_text.proofs.print.columns_of.Goals as goal
 
 pub loop-which-preserved : goal.loop-which-preserved
-loop-which-preserved g c =
+loop-which-preserved c =
     let o = c.args.cells.now in
     let inside : c.loop-which.which < length o.aggregates =
     rw c.aggregates-which-end.ensures at c.loop-which-test.true in

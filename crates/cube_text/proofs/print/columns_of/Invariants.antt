@@ -3,4 +3,4 @@ use Rattle.cube_text.specs.Rows.{AreColumns}
 use Rattle.cube_text.proofs.print.columns_of.Given as goal
 
 abbrev pub invariant-loop-which : goal.invariant-loop-which
-invariant-loop-which g l = AreColumns (take l.which l.cells.aggregates) l.cells.cells l.from l.to l.columns.items
+invariant-loop-which l = AreColumns (take l.which l.cells.aggregates) l.cells.cells l.from l.to l.columns.items

@@ -6,7 +6,7 @@ use Rattle.cube_text.proofs.PartLaws.{RowsGoOn-all}
 use Rattle.cube_text.proofs.print.print_cells.Goals as goal
 
 pub returns : goal.returns
-returns g c =
+returns c =
     let part = rw (c.as_slice.ensures.value, c.in_ok-digits.ensures.value) at c.in_ok-put_cells.ensures in
     record {
       rows = part.rows;

@@ -5,10 +5,10 @@ use Rattle.cube_text.proofs.PartLaws.{GoesOn-none, GoesOn-cell}
 use Rattle.cube_text.proofs.print.put_block.Goals as goal
 
 pub loop-place-init : goal.loop-place-init
-loop-place-init g c = GoesOn-none c.args.digits.now c.args.cells.now c.args.from c.args.text.now.items
+loop-place-init c = GoesOn-none c.args.digits.now c.args.cells.now c.args.from c.args.text.now.items
 
 pub loop-place-preserved : goal.loop-place-preserved
-loop-place-preserved g c =
+loop-place-preserved c =
     let i = c.loop-place.place in
     let o = c.args.cells.now in
     let inside : i < length o.cells = omega arith in

@@ -8,7 +8,7 @@ use Rattle.cube_text.proofs.FieldLaws.{parts-three}
 use Rattle.cube_text.proofs.print.put_cell.Goals as goal
 
 pub returns : goal.returns
-returns g c =
+returns c =
     let key = c.cell_at-cell.result.0 in
     let answers = answers_at c.args.columns.now c.args.at in
     let a = map coord_text key.coords in

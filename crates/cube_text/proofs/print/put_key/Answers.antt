@@ -4,7 +4,7 @@ use Rattle.cube_text.proofs.FieldLaws.{AddsParts-next}
 use Rattle.cube_text.proofs.print.put_key.Goals as goal
 
 pub loop-dimension-preserved : goal.loop-dimension-preserved
-loop-dimension-preserved g c =
+loop-dimension-preserved c =
     AddsParts-next coord_text c.args.cell.now.0.coords c.loop-dimension.dimension coord.All _
     c.args.text.now.items c.loop-dimension.text.items c.push_coord.new.text.items
     (rw c.dimensions-dimension-end.ensures at c.loop-dimension-test.true)

@@ -16,11 +16,11 @@ loop-aggregate-preserved g c =
     let i = c.loop-aggregate.aggregate-index in
     let items = c.aggregates-aggregate-items.result.now in
     let same : items ≡ s.aggregates = c.aggregates-aggregate-items.ensures.value
-    ∙ ap (λ (l : Layout). l.aggregates) c.schema-schema.ensures in
+    ∙ ap (λ (l : Layout). l.aggregates) c.schema-schema.ensures.schema in
     let inside : i < length s.aggregates = rw same at c.loop-aggregate-test.true in
     let k_is : c.digits_of-digits.result ≡ digits_of c.schema-schema.result.now (get_or items i CountAll) =
     search rules in
-    let a_is : IsAnswerOf (get_or items i CountAll) c.args.cell.now c.answer.result = search rules in
-    HasAnswersBelow-more s c.args.cell.now i c.digits_of-digits.result c.answer.result c.args.text.now.items
+    let a_is : IsAnswerOf (get_or items i CountAll) c.args.cell.now c.in_ok-try_answer.field-0 = search rules in
+    HasAnswersBelow-more s c.args.cell.now i c.digits_of-digits.result c.in_ok-try_answer.field-0 c.args.text.now.items
     c.loop-aggregate.text.items c.push_answer.new.text.items c.loop-aggregate.invariant inside
-    (rw (c.schema-schema.ensures, same) at k_is) (rw same at a_is) c.in_ok-push_answer.ensures
+    (rw (c.schema-schema.ensures.schema, same) at k_is) (rw same at a_is) c.in_ok-push_answer.ensures

@@ -6,6 +6,7 @@ use Rattle.cube_core.specs.Query.{AreRowsWhere, drill_fault, drills_down}
 use Rattle.cube_core.specs.declared.fact.Fact.{Fact}
 use Rattle.cube_core.specs.declared.key.Key.{Key}
 use Rattle.cube_core.specs.declared.key.Row.{Row}
+use Rattle.cube_cells.specs.BaseCuboid.{cells_of_cuboid}
 use Rattle.cube_cells.specs.Cube.{Lattice}
 use Rattle.cube_cells.specs.Fill.{IsCubeOfAll}
 use Rattle.cube_ledger.specs.Ledger.{all_facts}
@@ -25,10 +26,10 @@ DrillDown dimension key cells rows = (facts : List Fact) → IsCubeOfAll facts c
 -- they are given, where there is nothing for which they would be refused
 given : (g : Over) (c : In_ok-rows g)
     → (drill_fault c.args.taken.now.ledger.schema.grouping_sets c.args.dimension c.args.key.now ≡ None)
-    × DrillDown c.args.dimension c.args.key.now c.cells-cells.result.now c.in_ok-rows.rows
+    × DrillDown c.args.dimension c.args.key.now (cells_of_cuboid c.cells-cells.result.now) c.in_ok-rows.rows
 given g c =
-    drill-given (DrillDown c.args.dimension c.args.key.now c.cells-cells.result.now) c.args.dimension c.args.key.now
-    c.cells-cells.result.now.schema c.args.taken.now.ledger.schema c.in_ok-rows.rows c.cells-cells.ensures.schema
+    drill-given (DrillDown c.args.dimension c.args.key.now (cells_of_cuboid c.cells-cells.result.now)) c.args.dimension c.args.key.now
+    (cells_of_cuboid c.cells-cells.result.now).schema c.args.taken.now.ledger.schema c.in_ok-rows.rows c.cells-cells.ensures.schema
     c.in_ok-rows.ensures
 
 pub returns-in_err-rows : goal.returns-in_err-rows
@@ -36,8 +37,8 @@ returns-in_err-rows g c =
     let p = err_from_is_err_and c.from_residual.result c.from_residual.ensures.1 in
     rw (p.1, p.2) (
       refl,
-      drill-refused (DrillDown c.args.dimension c.args.key.now c.cells-cells.result.now) c.args.dimension c.args.key.now
-          c.cells-cells.result.now.schema c.args.taken.now.ledger.schema c.in_err-rows.field-0.0 c.cells-cells.ensures.schema
+      drill-refused (DrillDown c.args.dimension c.args.key.now (cells_of_cuboid c.cells-cells.result.now)) c.args.dimension c.args.key.now
+          (cells_of_cuboid c.cells-cells.result.now).schema c.args.taken.now.ledger.schema c.in_err-rows.field-0.0 c.cells-cells.ensures.schema
           c.in_err-rows.ensures,
     )
 
@@ -45,7 +46,7 @@ pub write_rows-requires : goal.write_rows-requires
 write_rows-requires g c =
     let facts = all_facts c.args.taken.now.ledger.accounts in
     rw (c.deref.ensures.value, c.schema.ensures, c.cells-cells.ensures.schema)
-    (shapes (drills_down c.args.dimension c.args.key.now) c.cells-cells.result.now.schema c.args.taken.now.ledger.schema facts
+    (shapes (drills_down c.args.dimension c.args.key.now) (cells_of_cuboid c.cells-cells.result.now).schema c.args.taken.now.ledger.schema facts
     c.in_ok-rows.rows.items c.cells-cells.ensures.schema c.cells-cells.ensures.facts.fit
     ((given g (goal.at.write_rows-requires g c).In_ok-rows).1 facts c.cells-cells.ensures.facts))
 
@@ -59,7 +60,7 @@ returns-in_err-write_rows g c =
     (Answers-text (Drill c.args.key.now c.args.dimension) ledger.schema facts (refusals_of_accounts ledger.accounts)
     c.in_err-write_rows.field-0.0 _ _ drilled.0
     (Writes-rows (Err c.in_err-write_rows.field-0.0) _ _ (drills_down c.args.dimension c.args.key.now)
-    c.cells-cells.result.now.schema ledger.schema facts c.in_ok-rows.rows.items c.cells-cells.ensures.schema
+    (cells_of_cuboid c.cells-cells.result.now).schema ledger.schema facts c.in_ok-rows.rows.items c.cells-cells.ensures.schema
     (drilled.1 facts c.cells-cells.ensures.facts)
     (Writes-weaker {T = Unit {0}} (Err c.in_err-write_rows.field-0.0) _ _
     (λ text is. rw (c.deref.ensures.value, c.schema.ensures, c.cells-cells.ensures.schema) at is)
@@ -70,7 +71,7 @@ returns g c =
     let ledger = c.args.taken.now.ledger in
     let facts = all_facts ledger.accounts in
     let drilled = given g (goal.at.returns g c).In_ok-rows in (
-      Writes-rows (Ok tt) _ _ (drills_down c.args.dimension c.args.key.now) c.cells-cells.result.now.schema ledger.schema facts
+      Writes-rows (Ok tt) _ _ (drills_down c.args.dimension c.args.key.now) (cells_of_cuboid c.cells-cells.result.now).schema ledger.schema facts
           c.in_ok-rows.rows.items c.cells-cells.ensures.schema (drilled.1 facts c.cells-cells.ensures.facts)
           (rw (c.deref.ensures.value, c.schema.ensures, c.cells-cells.ensures.schema) at c.in_ok-write_rows.ensures),
       drilled.0,

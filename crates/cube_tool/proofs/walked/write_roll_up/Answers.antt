@@ -1,6 +1,7 @@
 use Rattle.std.proofs.Common.{length, refl}
 use Rattle.std.proofs.lemmas.Result.{err_from_is_err_and}
 use Rattle.cube_core.specs.Query.{AreRowsWhere, rolled_up}
+use Rattle.cube_cells.specs.BaseCuboid.{cells_of_cuboid}
 use Rattle.cube_ledger.specs.Ledger.{all_facts}
 use Rattle.cube_live.specs.Shows.{is_key}
 use Rattle.cube_tool.proofs.AnsweringLaws.{AreRowsWhere-key, Writes-rows, shapes}
@@ -10,8 +11,8 @@ use Rattle.cube_tool.proofs.walked.write_roll_up.Goals as goal
 
 -- the rows are that of the rolled-up key, or none
 are : (g : Over) (c : In_ok-rows g)
-    → AreRowsWhere (is_key (rolled_up c.args.dimension c.args.key.now)) c.cells-cells.result.now.schema.grouping_sets
-    (length c.cells-cells.result.now.schema.dimensions) c.cells-cells.result.now.schema.aggregates
+    → AreRowsWhere (is_key (rolled_up c.args.dimension c.args.key.now)) (cells_of_cuboid c.cells-cells.result.now).schema.grouping_sets
+    (length (cells_of_cuboid c.cells-cells.result.now).schema.dimensions) (cells_of_cuboid c.cells-cells.result.now).schema.aggregates
     (all_facts c.args.taken.now.ledger.accounts) c.in_ok-rows.rows.items
 are g c =
     rw c.in_ok-rows.ensures (AreRowsWhere-key _ _ _ _ _ c.in_ok-row.row
@@ -20,7 +21,7 @@ are g c =
 pub write_rows-requires : goal.write_rows-requires
 write_rows-requires g c =
     rw (c.deref.ensures.value, c.schema.ensures, c.cells-cells.ensures.schema)
-    (shapes (is_key (rolled_up c.args.dimension c.args.key.now)) c.cells-cells.result.now.schema
+    (shapes (is_key (rolled_up c.args.dimension c.args.key.now)) (cells_of_cuboid c.cells-cells.result.now).schema
     c.args.taken.now.ledger.schema (all_facts c.args.taken.now.ledger.accounts) c.in_ok-rows.rows.items
     c.cells-cells.ensures.schema c.cells-cells.ensures.facts.fit (are g (goal.at.write_rows-requires g c).In_ok-rows))
 
@@ -37,6 +38,6 @@ returns-in_err-rows g c =
 pub returns : goal.returns
 returns g c =
     Writes-rows c.write_rows.result _ _ (is_key (rolled_up c.args.dimension c.args.key.now))
-    c.cells-cells.result.now.schema c.args.taken.now.ledger.schema (all_facts c.args.taken.now.ledger.accounts)
+    (cells_of_cuboid c.cells-cells.result.now).schema c.args.taken.now.ledger.schema (all_facts c.args.taken.now.ledger.accounts)
     c.in_ok-rows.rows.items c.cells-cells.ensures.schema (are g (goal.at.returns g c).In_ok-rows)
     (rw (c.deref.ensures.value, c.schema.ensures, c.cells-cells.ensures.schema) at c.write_rows.ensures)

@@ -1,4 +1,4 @@
-use Rattle.cube_live.proofs.rows.AskedAsksCubeCounted.rows_of.Goals as goal
+use Rattle.cube_live.proofs.rows.AskedAsksCube.rows_of.Goals as goal
 
 pub returns-in-Slice : goal.returns-in-Slice
 returns-in-Slice c = rw c.in-Slice.is (rw c.requires.0 at c.slice_rows.ensures)

@@ -6,7 +6,7 @@ use Rattle.std.proofs.lemmas.Result.{IfOk-weaker}
 use Rattle.std.proofs.lemmas.List.{get_or-map, length-map}
 use Rattle.cube_core.specs.Printed.{IsPrinted}
 use Rattle.cube_text.proofs.WalkedLaws.{AreTextsOfParts-each, GathersPieces-none, IsPrinted-AreTextsOfParts}
-use Rattle.cube_text.proofs.walked.print_walked_in_pieces.Goals as goal
+use Rattle.cube_text.proofs.walked.print_finest.Goals as goal
 
 pub returns-then-threads-le1 : goal.returns-then-threads-le1
 returns-then-threads-le1 g c = IfOk-weaker c.of.result _ _ (λ text gathers facts all.
@@ -32,4 +32,4 @@ returns g c = IfOk-weaker c.of-2.result _ _ (λ text gathers facts all.
     rw (← gathers.are) (get_or-map Ok gathers.pieces i piece (Ok piece) (omega (arith, inside, count))) in
     rw one at (each i (Ok piece) part inside)))
     (rw c.in_ok-raised.ensures at c.in_ok-parts.ensures) c.in_ok-shown.ensures
-    (rw c.schema.ensures at c.in_ok-header.ensures) gathers.text_is all) c.of-2.ensures
+    (rw c.schema.ensures.schema at c.in_ok-header.ensures) gathers.text_is all) c.of-2.ensures
