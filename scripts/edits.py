@@ -9,6 +9,12 @@ not prove a goal of, has a wrong body of its own. One that calls it is told so: 
 were refused. One that the prover can't read, as where it doesn't cover a form, is not refused.
 (`rt ci` and `rt must-fail` try the same edits one by one, after a check of the whole crate.) What was refused is kept on
 this machine, by a checksum of all that the try read.
+
+An edit whose text and whose file, with the contracts in it, are those with which it was refused before is not tried again:
+`refused_edits.txt` beside this file has a line for each that was, of its name and a checksum of both. `scripts/test.sh --anew`
+tries all. Once the gate has seen all edits refused, this writes the lines anew:
+
+    python3 -B scripts/edits.py
 """
 import collections
 import concurrent.futures
@@ -28,6 +34,7 @@ import programs
 
 ROOT = programs.ROOT
 PARTS = ("src", "specs", "proofs")
+RECORD = f"{ROOT}/scripts/refused_edits.txt"
 # (what the folders of tries are named)
 ROOM = "/must-fail-"
 KEPT = os.path.expanduser(f"{os.environ.get('XDG_CACHE_HOME') or '~/.cache'}/datacube/edits")
@@ -113,6 +120,8 @@ def tried(edits, copy, is_anew):
     kept = {it: f"{KEPT}/{sum_of(it, copy)}" for it in edits}
     known = [it for it in edits if not is_anew and os.path.exists(kept[it])]
     found = {it: Tried(True, True, f"{label_of(it)}: refused in an earlier run on this machine") for it in known}
+    same = [it for it in edits if not is_anew and it not in found and recorded().get(label_of(it)) == mark_of(it, copy)]
+    found |= {it: Tried(True, True, f"{label_of(it)}: refused before, and neither it nor its file has changed") for it in same}
     left = [it for it in edits if it not in found]
     while left:
         told = attempt(left, copy) or attempt(left[:1], copy)
@@ -124,6 +133,20 @@ def tried(edits, copy, is_anew):
         found |= told
         left = [it for it in left if it not in found]
     return found
+
+
+@functools.lru_cache
+def recorded():
+    """The marks with which edits were refused, by their labels."""
+    return dict(line.split() for line in programs.text_at(RECORD).splitlines())
+
+
+def mark_of(edit, copy):
+    """A checksum of an edit and of the files that it changes."""
+    found = hashlib.sha256(programs.read(edit))
+    for path, _, _ in changes_of(edit):
+        found.update(programs.read(f"{copy}/crates/{crate_of(edit)}/{path}"))
+    return found.hexdigest()
 
 
 def sum_of(edit, copy):
@@ -290,3 +313,13 @@ def libraries_of(copy, crate):
         below = [it for it in needs[ahead.pop()] if it in needs and it not in own]
         own, ahead = own + below, ahead + below
     return needs[crate], own
+
+
+def record():
+    """Writes the marks of all must-fail edits, which the gate has seen refused."""
+    names = sorted(glob.glob(f"{ROOT}/crates/*/must-fail/*.edit"))
+    programs.write(RECORD, "".join(f"{label_of(it)} {mark_of(it, ROOT)}\n" for it in names))
+
+
+if __name__ == "__main__":
+    record()
