@@ -42,6 +42,7 @@ OPTIONS = {
 # (what runs a command, and its options; those that take workloads end with None)
 COMMANDS = {
     "print": (runs.compare, "--runs", "--scale", "--threads", "--peers", "--beside", None),
+    "statistics": (runs.statistics, "--runs", "--scale", "--threads", "--peers", "--beside"),
     "growth": (plots.growth, "--runs", "--most", None),
     "threads": (plots.threads, "--runs", "--scale", "--peers", None),
     "steps": (runs.steps, "--scale", None),

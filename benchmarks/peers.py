@@ -54,9 +54,6 @@ class Postgres(sql.Server):
     def script(self, work, out):
         dimensions, measures = work.dimensions, work.measures
         columns = [f"{it} text" for it in dimensions] + [f"{it} bigint" for it in measures]
-        base = [f"{kind}({it}) AS {kind}_{it}" for it in measures for kind in OVER_CELLS]
-        again = lambda kind, it: f"{OVER_CELLS[kind]}({kind}_{it})" if it else "coalesce(sum(n), 0)"
-        shown = [*dimensions, *(f"grouping({it})" for it in dimensions), *answers(work, again)]
         order = [f'grouping({it}), {it} COLLATE "C" NULLS LAST' for it in dimensions]
         quoted = lambda text: "'" + text.replace("'", "''") + "'"
         return f"""
@@ -71,12 +68,31 @@ class Postgres(sql.Server):
             ) AS last WHERE op <> 'D';
             ANALYZE facts;
             COPY (
+                {self.cube(work)} ORDER BY {listed(order)}
+            ) TO {quoted(out)} (FORMAT csv, NULL '\\N');
+        """
+
+    def cube(self, work):
+        """The query for the cube of the facts, without an order."""
+        dimensions = work.dimensions
+        base = [f"{kind}({it}) AS {kind}_{it}" for it in work.measures for kind in OVER_CELLS]
+        again = lambda kind, it: f"{OVER_CELLS[kind]}({kind}_{it})" if it else "coalesce(sum(n), 0)"
+        shown = [*dimensions, *(f"grouping({it})" for it in dimensions), *answers(work, again)]
+        return f"""
                 WITH base AS MATERIALIZED (
                     SELECT {listed(dimensions)}, count(*) AS n, {listed(base)} FROM facts GROUP BY {listed(dimensions)}
                 )
-                SELECT {listed(shown)} FROM base GROUP BY CUBE ({listed(dimensions)}) ORDER BY {listed(order)}
-            ) TO {quoted(out)} (FORMAT csv, NULL '\\N');
-        """
+                SELECT {listed(shown)} FROM base GROUP BY CUBE ({listed(dimensions)})"""
+
+
+class PostgresOfValues(Postgres):
+    """The cube of the facts themselves, since distinct counts and percentiles aren't made of those of the finest cells."""
+
+    def cube(self, work):
+        dimensions = work.dimensions
+        calls = answers(work, lambda kind, it: sql.call_of(kind, it, ""))
+        shown = [*dimensions, *(f"grouping({it})" for it in dimensions), *calls]
+        return f"SELECT {listed(shown)} FROM facts GROUP BY CUBE ({listed(dimensions)})"
 
 
 CLICKHOUSE = """<yandex>
@@ -158,11 +174,11 @@ x <- rbindlist(lapply(c({feeds}), function(feed) {{
              colClasses = list(character = c("op", "id", dims), numeric = c({measures})))
   unique(y, by = "id", fromLast = TRUE)[op != "D"]
 }}))
-base <- x[, list(n = .N, {base}), by = dims]
+base <- {base}
 sets <- lapply(0:(2^length(dims) - 1), function(mask) {{
   is_kept <- bitwAnd(bitwShiftR(mask, seq_along(dims) - 1L), 1L) == 1L
   kept <- dims[is_kept]
-  set <- if (length(kept)) base[, list(n = sum(n), {again}), by = kept] else base[, list(n = sum(n), {again})]
+  set <- if (length(kept)) base[, list({again}), by = kept] else base[, list({again})]
   for (at in seq_along(dims)) {{
     if (!is_kept[at]) set(set, j = dims[at], value = NA_character_)
     set(set, j = paste0("grouping_", dims[at]), value = as.integer(!is_kept[at]))
@@ -195,25 +211,49 @@ class DataTable:
         pass
 
     def run(self, work, out):
-        call = lambda kind, of: ".N" if kind == "count" else f"{kind}({of})"
-        pairs = [(kind, it) for it in work.measures for kind in OVER_CELLS]
         quoted = lambda names: listed(f'"{it}"' for it in names)
+        base, again, shown = self.job(work)
         programs.write(f"{self.room}/job.R", TABLE.format(
             threads=self.threads, dimensions=quoted(work.dimensions), measures=quoted(work.measures), feeds=quoted(work.feeds), out=out,
-            base=listed(f"{kind}_{it} = {call(kind, it)}" for kind, it in pairs),
-            again=listed(f"{kind}_{it} = {OVER_CELLS[kind]}({kind}_{it})" for kind, it in pairs),
-            shown=quoted(answers(work, lambda kind, it: f"{kind}_{it}" if it else "n"))))
+            base=base, again=again, shown=quoted(shown)))
         return run_into(["Rscript", "--vanilla", f"{self.room}/job.R"], f"{self.room}/said")
+
+    def job(self, work):
+        """What the grouping sets are made of, the columns of one, and the names of those that answer."""
+        call = lambda kind, of: ".N" if kind == "count" else f"{kind}({of})"
+        pairs = [(kind, it) for it in work.measures for kind in OVER_CELLS]
+        base = listed(f"{kind}_{it} = {call(kind, it)}" for kind, it in pairs)
+        again = listed(f"{kind}_{it} = {OVER_CELLS[kind]}({kind}_{it})" for kind, it in pairs)
+        return f"x[, list(n = .N, {base}), by = dims]", f"n = sum(n), {again}", answers(work, lambda kind, it: f"{kind}_{it}" if it else "n")
+
+
+class DataTableOfValues(DataTable):
+    """The facts are put in the order of their one measure once, so that each group has its values in order."""
+
+    def job(self, work):
+        [measure] = {work.measures[at] for _, at in work.schema.aggregates}
+        columns = [f"a{place} = {in_order(kind, measure)}" for place, (kind, _) in enumerate(work.schema.aggregates)]
+        return f"setorderv(x, '{measure}')", listed(columns), [it.partition(" ")[0] for it in columns]
+
+
+def in_order(kind, measure):
+    """A distinct count or a percentile of values in order, in R."""
+    level = kind.partition(" ")[2]
+    if level == "distinct":
+        return f"1L + sum({measure}[-1L] != {measure}[-.N])"
+    return f"{measure}[max(1, ceiling(.N * ({sql.level_of(level)})))]"
 
 
 # the peers by their names, with whether their lines have the columns of GROUPING
 PEERS = {"PostgreSQL": (Postgres, True), "ClickHouse": (ClickHouse, False), "data.table": (DataTable, True)}
+# those for distinct counts and percentiles
+OF_VALUES = {"PostgreSQL": (PostgresOfValues, True), "data.table": (DataTableOfValues, True)}
 
 
-def installed(names):
-    """Those of the peers with these names, with commas between, that are installed, each with its version; the others are told."""
-    versions = {it: PEERS[it][0].version() for it in names.split(",") if it}
+def installed(names, peers):
+    """Those of some peers with these names, with commas between, that are installed, each with its version; the others are told."""
+    versions = {it: peers[it][0].version() for it in names.split(",") if it in peers}
     left_out = [name for name, version in versions.items() if not version]
     if left_out:
         print("left out, since not installed: " + ", ".join(left_out))
-    return {version: PEERS[name] for name, version in versions.items() if version}
+    return {version: peers[name] for name, version in versions.items() if version}

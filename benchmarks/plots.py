@@ -4,7 +4,7 @@ import tempfile
 from concurrent.futures import ProcessPoolExecutor
 
 from measure import DATACUBE, ROOT, best_of, cell, head, row
-from peers import installed
+from peers import PEERS, installed
 from runs import by_threads
 from workloads import WORKLOADS, make_of
 
@@ -71,7 +71,7 @@ def threads(asked):
 
     The job, the peers and the comparing of answers are those of `print`. A cell has wall seconds and processor seconds of all processes.
     The plot has a field for each workload: wall seconds as a line, processor seconds as a line of dots, against the number of threads."""
-    peers = installed(asked.peers)
+    peers = installed(asked.peers, PEERS)
     names, found = ["datacube print", *peers], {}
     head("", "threads", *names)
     for name in asked.workloads or WORKLOADS:

@@ -13,10 +13,12 @@ import tempfile
 import oracle
 import sql
 from measure import DATACUBE, Use, cell, head, row, run, run_into
-from peers import installed
+from peers import OF_VALUES, PEERS, installed
+from programs import write
 from workloads import WORKLOADS, make
 
 COUNTS = (1, 2, 4, 8, 16)
+STATISTICS = [("count distinct", 0), ("percentile_disc 0.5", 0), ("percentile_disc 0.95", 0)]
 STEPS = {
     "reading": ("RecordReader::advance", "plain::change_of_row"),
     "books": ("Ledger::apply_fed",),
@@ -82,13 +84,17 @@ def differs(ours, theirs):
     return None
 
 
-def used_by_each(name, words, peers):
-    """Runs a workload by each program; gives the uses of each, and how the answers differed of those that did."""
+def used_by_each(name, words, peers, aggregates=None):
+    """Runs a workload, with its own aggregates or with others, by each program; gives the uses of each, and how the answers differed of
+    those that did."""
     with tempfile.TemporaryDirectory(prefix="datacube-compare-") as top, contextlib.ExitStack() as servers:
         os.chmod(top, 0o755)
         os.mkdir(f"{top}/out")
         os.chmod(f"{top}/out", 0o777)
         work = Work(make_in(f"{top}/feeds", name, words.scale))
+        if aggregates:
+            work.schema.aggregates = aggregates
+            write(work.files[0], work.schema.toml())
         programs = [Ours(DATACUBE, "print", *words.ours)]
         if words.beside:
             programs.append(Ours(*shlex.split(words.beside), "print"))
@@ -124,12 +130,26 @@ def compare(asked):
     before each text that isn't ALL; our text is made of that outside of the time. Then each answer of the first round has to be ours,
     byte for byte; the status is 1 where one isn't. A server's memory is that of all its processes together. PostgreSQL is on a socket in
     a folder of its own, ClickHouse on a port of 127.0.0.1."""
-    peers = installed(asked.peers)
+    return compared(asked, asked.workloads or WORKLOADS, PEERS)
+
+
+def statistics(asked):
+    """Runs `datacube print` of the workload `tall` with a distinct count and percentiles, and its peers, as `print` does.
+
+    The aggregates are `count(distinct amount)`, `percentile_disc(0.5,amount)` and `percentile_disc(0.95,amount)`; a million facts are those
+    of `--scale 4`. PostgreSQL groups the facts themselves by GROUP BY CUBE, and data.table each grouping set, over facts that it has put
+    in the order of the measure once. Each answer has to be ours, byte for byte; else the status is 1."""
+    return compared(asked, ["tall"], OF_VALUES, STATISTICS)
+
+
+def compared(asked, names, known, aggregates=None):
+    """Runs workloads of these names beside those of the known peers that are asked for; gives the status."""
+    peers = installed(asked.peers, known)
     named = [" ".join(["datacube print", *asked.ours]), *filter(None, [asked.beside, *peers])]
     head("", *named)
     faults = []
-    for name in asked.workloads or WORKLOADS:
-        uses, found = used_by_each(name, asked, list(peers.values()))
+    for name in names:
+        uses, found = used_by_each(name, asked, list(peers.values()), aggregates)
         row(f"`{name}`", *map(cell, uses))
         faults += [f"{name}: {named[at]}: {fault}" for at, fault in found.items() if fault]
     print("\n".join(f"FAILED {it}" for it in faults) or "each answer is ours, byte for byte")

@@ -17,6 +17,8 @@ PLACES = [0, 0, 1, 2, 2, 2, 3, 6, 17, 18]
 COLUMNS = ["", "op", "id", "no", "when", "a;b", 'x "y"', "two\nlines", "Größe", "\\N"]
 NULLS = [["\\N"], ["\\N"], [], [""], ["", "NA"], ["a", "12"], ["\\N", "b", "grüße"], ["\\=", "0"]]
 DELIMITERS = [",", ",", ";", "\t", "|", " ", "=", "\\", "a", "0", "."]
+KINDS = ["count", "sum", "min", "max", "avg", "count distinct", "percentile_disc"]
+LEVELS = ["0.5", "0", "1", "0.95", "0.50", "0.25", "0.07", "0.3333", "0.0001", "0.9999", "0.0", "1.0", "0.0000", "1.0000", "0.6", "0.667"]
 SIGNS = [b"=", b"=", b"!=", b"!=", b"<", b"<=", b">", b">="]
 MOST = 2**32 - 1
 
@@ -68,8 +70,9 @@ def positional_schema(rng):
     """A schema whose feeds have its columns in its order."""
     names = rng.sample(NAMES, rng.choice([1, 2, 2, 3, 3, 4, 5, 8]) + rng.choice([1, 1, 2, 3, 4]))
     measures = [names.pop() for _ in range(min(len(names) - 1, rng.choice([1, 1, 2, 4])))]
-    kinds = [(rng.choice(["count", "sum", "min", "max", "avg"]), rng.randrange(len(measures))) for _ in range(rng.choice([0, 1, 4, 15]))]
-    aggregates = [*kinds, ("count", None)]
+    if len(measures) > 1 and rng.random() < 0.1:
+        measures[1] = f"distinct {measures[0]}"
+    aggregates = [random_aggregate(rng, measures) for _ in range(rng.choice([0, 1, 4, 15]))] + [("count", None)]
     rng.shuffle(aggregates)
     dimensions = names[:8]
     grouping = rng.choice(["cube", "cube", "rollup", "sets"])
@@ -77,6 +80,19 @@ def positional_schema(rng):
         masks = rng.sample(range(2 ** len(dimensions)), rng.randint(1, min(5, 2 ** len(dimensions))))
         grouping = [rng.sample(it, len(it)) for it in ([d for at, d in enumerate(dimensions) if mask >> at & 1] for mask in masks)]
     return oracle.Schema(dimensions, measures, aggregates, grouping, rng.choice([1, 2]), 5 if rng.random() < 0.1 else MOST)
+
+
+def random_aggregate(rng, measures):
+    """An aggregate of measures, which is what its spelling says of them."""
+    kind, name = rng.choice(KINDS), rng.choice(measures)
+    kind += f" {rng.choice(LEVELS)}" if kind == "percentile_disc" else ""
+    return oracle.aggregate_of(oracle.spelling(kind, name), measures)
+
+
+def mergeable(schema):
+    """A schema without the aggregates of which a merge makes nothing."""
+    schema.aggregates = [it for it in schema.aggregates if not oracle.is_of_values(it[0])]
+    return schema
 
 
 def number_of(rng, places):

@@ -11,6 +11,7 @@ A feed is a list of records, each a list of fields (bytes), in the order of the 
 its columns. `encode` writes a feed as CSV, `records_of` reads one.
 """
 import collections
+import fractions
 import functools
 import hashlib
 import itertools
@@ -93,8 +94,9 @@ def array(items):
 
 
 class Schema:
-    """Dimensions and measures by name, aggregates as (kind, measure or None), and the masks of the kept grouping sets; where
-    feeds are read by the names of their columns, the `Feed` of it; and by the names of measures, the decimals that they have."""
+    """Dimensions and measures by name, aggregates as (kind, measure or None), where a kind may be `count distinct` or, with its
+    level, `percentile_disc 0.5`, and the masks of the kept grouping sets; where feeds are read by the names of their columns, the
+    `Feed` of it; and by the names of measures, the decimals that they have."""
 
     def __init__(self, dimensions, measures, aggregates, grouping="cube", version=1, max_records=2**32 - 1, feed=None, decimals=()):
         self.dimensions, self.measures, self.aggregates = dimensions, measures, aggregates
@@ -117,7 +119,11 @@ class Schema:
         return [b"op", b"id"] + [it.encode() for it in self.dimensions + self.measures]
 
     def aggregate_texts(self):
-        return [f"{kind}({self.measures[at] if at is not None else '*'})" for kind, at in self.aggregates]
+        return [spelling(kind, self.measures[at] if at is not None else "*") for kind, at in self.aggregates]
+
+    def can_be_merged(self):
+        """Whether merged cubes have an answer to each aggregate."""
+        return not any(map(is_of_values, (kind for kind, _ in self.aggregates)))
 
     def partial(self):
         """The partial form: for each mean, its sum and its count too, where they aren't there yet."""
@@ -159,6 +165,18 @@ class Schema:
         lines += self.feed.toml() if self.feed else []
         lines += ["[decimals]", *(f"{quoted(name)} = {places}" for name, places in self.decimals.items())] if self.decimals else []
         return ("\n".join(lines) + "\n").encode()
+
+
+def spelling(kind, name):
+    """How the aggregate of a kind over a measure is spelled."""
+    call, _, rest = kind.partition(" ")
+    before = {"": "", "distinct": "distinct "}.get(rest, f"{rest},")
+    return f"{call}({before}{name})"
+
+
+def is_of_values(kind):
+    """Whether an aggregate needs all values: a distinct count or a percentile, of which a merge makes nothing."""
+    return " " in kind
 
 
 def encode(records, rng=None, delimiter=b","):
@@ -462,13 +480,21 @@ def answer(schema, kind, at, facts):
     if kind == "count" and at is None:
         return str(len(facts))
     values = [measures[at] for _, measures in facts if measures[at] is not None]
-    if kind == "count":
-        return str(len(values))
+    if kind.startswith("count"):
+        return str(len(values if kind == "count" else set(values)))
     if not values:
         return "\\N"
     if kind == "avg":
         return fraction(sum(values), len(values), schema.places(at))
+    if is_of_values(kind):
+        return decimal(percentile(kind.partition(" ")[2], values), schema.places(at))
     return decimal({"sum": sum, "min": min, "max": max}[kind](values), schema.places(at))
+
+
+def percentile(level, values):
+    """Of values in ascending order the first one up to which there are at least so large a share of all."""
+    wanted = fractions.Fraction(level) * len(values)
+    return next(it for number, it in enumerate(sorted(values), 1) if number >= wanted)
 
 
 def fraction(total, count, places):
@@ -684,14 +710,15 @@ BOUNDS = {"sum": (-MOST_SUM - 1, MOST_SUM), "min": (LEAST, GREATEST), "max": (LE
 
 
 class CubeFault(Exception):
-    """A code of a cube that is merged, with its input and the number of its record, where the header is 1."""
+    """A code of a cube that is merged, with its input and the number of its record, where the header is 1; both are 0 where it is
+    told of no cube."""
 
     def __init__(self, code, source=0, record=0):
         super().__init__(code)
         self.code, self.source, self.record = code, source, record
 
     def line(self):
-        return f"{self.code} {self.source} {self.record}"
+        return " ".join([self.code, *(str(it) for it in (self.source, self.record) if it)])
 
 
 class Printed:
@@ -830,6 +857,8 @@ def merge(schema, datas, is_partial=False):
     """The text of the merged cubes, each the bytes of a printed partial cube or None, and the fault that ends it or None."""
     partial = schema.partial()
     wanted = partial if is_partial else schema
+    if not wanted.can_be_merged():
+        return b"", CubeFault("M4")
     inputs, out = [Printed(partial, data, at) for at, data in enumerate(datas, 1)], []
     try:
         for it in inputs:
@@ -866,9 +895,7 @@ def schema_of(data):
     names = dimensions + measures
     if len(set(names)) < len(names) or set(names) & {"", "op", "id", "*"}:
         raise Failure("S6", 3)
-    spelled = {f"{kind}({name})": (kind, at) for at, name in enumerate(measures) for kind in KINDS}
-    spelled["count(*)"] = ("count", None)
-    aggregates = [spelled.get(it) for it in texts_of(table, "aggregates", 16, "S7")]
+    aggregates = [aggregate_of(it, measures) for it in texts_of(table, "aggregates", 16, "S7")]
     if None in aggregates:
         raise Failure("S7", 3)
     most = table.get("max_records", 2**32 - 1)
@@ -922,7 +949,19 @@ def column_of(value, is_dimension):
     return value["column"], value["first"]
 
 
-KINDS = ("count", "sum", "min", "max", "avg")
+# (`count` before `count distinct`: over a measure that is named `distinct m` the first is meant)
+KINDS = ("count", "sum", "min", "max", "avg", "count distinct")
+PERCENTILE = re.compile(r"percentile_disc\((0|1|0\.[0-9]{1,4}|1\.0{1,4}),(.*)\)", re.DOTALL)
+
+
+def aggregate_of(text, measures):
+    """The aggregate of measures that a text spells, or None."""
+    if text == "count(*)":
+        return "count", None
+    if found := PERCENTILE.fullmatch(text):
+        return (f"percentile_disc {found[1]}", measures.index(found[2])) if found[2] in measures else None
+    spelled = [(kind, at) for kind in KINDS for at, name in enumerate(measures) if spelling(kind, name) == text]
+    return spelled[0] if spelled else None
 
 
 def numbers_in(value):

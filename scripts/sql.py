@@ -23,6 +23,7 @@ import subprocess
 import sys
 import tempfile
 import time
+from fractions import Fraction
 
 sys.dont_write_bytecode = True
 import cases
@@ -218,13 +219,27 @@ def cube(schema, conditions=()):
     for (kind, at), text in zip(schema.aggregates, schema.aggregate_texts()):
         measure = "*" if at is None else name_of(schema.measures[at])
         units = f" * {10 ** schema.places(at)}::numeric" if at is not None and schema.places(at) else ""
-        mean = f"fraction(sum({measure}){units}, count({measure}){units})"
-        call = mean if kind == "avg" else f"{kind}({measure})"
-        columns.append(f"{call} AS {name_of(text)}")
+        columns.append(f"{call_of(kind, measure, units)} AS {name_of(text)}")
     order = [f'grouping({name}), {name} COLLATE "C" NULLS LAST' for name in map(name_of, kept)]
     ordered = "\nORDER BY\n    " + ",\n    ".join(order) if order else ""
     where = where_of(schema, conditions)
     return CUBE.format(columns=",\n    ".join(columns), where=where, grouping=grouping_of(schema), order=ordered)
+
+
+def call_of(kind, measure, units):
+    """What an aggregate of a measure with so many units is in SQL."""
+    call, _, level = kind.partition(" ")
+    if kind == "avg":
+        return f"fraction(sum({measure}){units}, count({measure}){units})"
+    if kind == "count distinct":
+        return f"count(DISTINCT {measure})"
+    return f"percentile_disc({level_of(level)}) WITHIN GROUP (ORDER BY {measure})" if level else f"{call}({measure})"
+
+
+def level_of(level):
+    """What SQL is asked for a level. PostgreSQL multiplies it as a double, and so takes the 8th of 100 values for 0.07. Where a double
+    isn't the level itself it is asked for a little less: too little for another place among 10^10 values, and more than is rounded."""
+    return level if Fraction(float(level)) == Fraction(level) else f"{level} - 2e-15"
 
 
 def grouping_of(schema):
@@ -344,8 +359,7 @@ def read_schema(path):
     table = tomllib.loads(programs.text_at(path))
     if "feed" in table:
         sys.exit(f"{path}: with [feed] columns are known by name, and this script reads them in the order of the schema alone")
-    aggregates = [(kind, table["measures"].index(rest[:-1]) if rest != "*)" else None)
-                  for kind, rest in (it.split("(", 1) for it in table["aggregates"])]
+    aggregates = [oracle.aggregate_of(it, table["measures"]) for it in table["aggregates"]]
     rest = {it: table[it] for it in ("grouping", "version", "max_records", "decimals") if it in table}
     return oracle.Schema(table["dimensions"], table["measures"], aggregates, **rest)
 

@@ -237,6 +237,40 @@ def test_decimals(page, tmp_path):
     assert len(set(sides)) == 1, "numbers stand to the right"
 
 
+# (distinct counts and percentiles of a measure with two decimals, by the city)
+STATISTICS = """city,grouping(city),count(m),count(distinct m),"percentile_disc(0.5,m)",max(m)
+Hull,0,0,0,\\N,\\N
+Leeds,0,3,2,-0.05,19.20
+York,0,4,1,1234567.80,1234567.80
+\\N,1,7,3,19.20,1234567.80
+"""
+EARLIER_STATISTICS = """city,grouping(city),count(m),count(distinct m),"percentile_disc(0.5,m)",max(m)
+Leeds,0,1,1,19.20,19.20
+\\N,1,1,1,19.20,19.20
+"""
+
+
+def test_distinct_counts_and_percentiles(page, tmp_path):
+    """They are read and shown as they stand, and those of several rows are not told."""
+    (tmp_path / "statistics.csv").write_text(STATISTICS)
+    (tmp_path / "before.csv").write_text(EARLIER_STATISTICS)
+    page.open(f"{tmp_path}/statistics.csv", "")
+    rows = [["Hull", "0", "0", "[null]", "[null]"], ["Leeds", "3", "2", "-0.05", "19.20"], ["York", "4", "1", "1,234,567.80", "1,234,567.80"]]
+    assert page.shown()["body"] == rows
+    for column, wanted in ((3, ["Leeds", "York", "Hull"]), (4, ["York", "Leeds", "Hull"])):
+        page.click(f"[data-sort='{column}']")
+        assert [it[0] for it in page.shown()["body"]] == wanted
+    page.find("e")
+    assert page.shown()["foot"][0] == ["1 found", "3", "—", "—", "19.20"]
+    page.find("")
+    page.choose("share", "total")
+    assert [it[1:3] for it in page.shown()["body"]] == [["57.14 %", "1"], ["42.86 %", "2"], ["0.00 %", "0"]], "only what adds up has shares"
+    page.open(f"{tmp_path}/statistics.csv", "")
+    page.open_earlier(f"{tmp_path}/before.csv")
+    page.go("#slice=%3F&compare=1&answers=8,11")
+    assert [[it[0], *it[-2:]] for it in page.shown()["body"]] == [["Hull", "0", "[null]"], ["Leeds", "+1", "-19.25"], ["York", "+1", "[null]"]]
+
+
 def test_rolled_up(page, tmp_path):
     """A cube that doesn't keep all grouping sets."""
     schema, feed = tmp_path / "up.toml", tmp_path / "up.csv"

@@ -16,12 +16,14 @@ except pytest.skip.Exception as why:
 
 CASES = cases.all_cases("cases/library")
 FIVE = [("count", None), ("sum", 0), ("min", 0), ("max", 0), ("avg", 0)]
-THREE = oracle.Schema(["a", "b", "c"], ["m"], [("count", None), ("count", 0), *FIVE[1:]])
+THREE = oracle.Schema(["a", "b", "c"], ["m"], [("count", None), ("count", 0), *FIVE[1:], ("count distinct", 0), ("percentile_disc 0.5", 0)])
 # (cubes by their names: a schema, and which part of how many)
 CUBES = {
     "the sample schema": (SAMPLE,),
     "chosen sets of two measures": (oracle.Schema(
-        ["a", "b", "c"], ["m", "n"], [("count", None), ("count", 0), ("sum", 0), ("min", 1), ("max", 1), ("avg", 0), ("max", 0)],
+        ["a", "b", "c"], ["m", "n"],
+        [("count", None), ("count", 0), ("sum", 0), ("min", 1), ("max", 1), ("avg", 0), ("max", 0), ("percentile_disc 0.95", 1),
+         ("count distinct", 1), ("percentile_disc 0", 0)],
         [["a", "c"], [], ["b"], ["a", "b", "c"]]),),
     "five dimensions": (oracle.Schema(["a", "b", "c", "d", "e"], ["m"], FIVE),),
     "all sets": (THREE, 0),

@@ -24,9 +24,11 @@ NUMBERS = [
 ]
 
 
-def case_of(rng):
-    """A schema and the data records of feeds, few where there are many grouping sets."""
+def case_of(rng, merges=True):
+    """A schema, all of whose aggregates a merge makes unless it needn't, and the data records of feeds, few where there are many
+    grouping sets."""
     schema, feeds = make.random_case(rng, True)
+    schema = make.mergeable(schema) if merges else schema
     most = 400 if len(schema.masks) <= 8 else 60 if len(schema.masks) <= 32 else 10
     schema.max_records = make.MOST
     return schema, [records[:most] for records in feeds][: max(1, most // 6)]
@@ -83,8 +85,9 @@ def test_partial_cubes(room, rng):
 
 @tries(8)
 def test_shards(room, rng):
-    """The shards of feeds: their partial cubes, now and then of facts of interest, which are merged, and their refusals."""
-    schema, feeds = case_of(rng)
+    """The shards of feeds: their partial cubes, now and then of facts of interest, which are merged where they can be, and their
+    refusals."""
+    schema, feeds = case_of(rng, rng.random() < 0.7)
     room.write("schema.toml", schema.toml())
     pairs = [make.written(rng, schema, it) for it in feeds]
     names, feeds = [room.write(f"feed{at}.csv", data) for at, (data, _) in enumerate(pairs)], [it for _, it in pairs]
@@ -100,7 +103,9 @@ def test_shards(room, rng):
         room.expect(["print", "--partial", *options, *words], (run.status, run.print(), b""))
         room.expect(["refusals", *words], (run.status, run.refusals(), b""))
     assert sorted(refused) == whole.refused
-    merged(room, schema, texts, rng, (whole.print(), None))
+    wanted = oracle.merge(schema, texts)
+    assert not schema.can_be_merged() or wanted == (whole.print(), None)
+    merged(room, schema, texts, rng, wanted)
 
 
 @tries(16)
@@ -178,6 +183,22 @@ def test_spoiled_cubes(room, rng):
         texts[at] = spoiled(good[at], rng)
     tail = [it for it in ("--check", "--partial") if rng.random() < 0.5]
     merged(room, schema, texts, rng, oracle.merge(schema, texts, "--partial" in tail), tail)
+
+
+@tries(6)
+def test_what_a_merge_makes_nothing_of(room, rng):
+    """A distinct count or a percentile is refused whatever the cubes are, and nothing is written."""
+    schema, feeds = case_of(rng)
+    if not schema.measures:
+        return
+    one = rng.choice(["count distinct", "percentile_disc 0.5"]), rng.randrange(len(schema.measures))
+    schema.aggregates = rng.sample([one, *schema.aggregates[:15]], len(schema.aggregates[:15]) + 1)
+    facts = oracle.Run(schema, feeds).facts
+    texts = [rng.choice([printed(schema.partial(), it), b"", b"x\n"]) for it in parted(facts, rng.choice([1, 2, 3]), rng)]
+    tail = [it for it in ("--check", "--partial") if rng.random() < 0.5]
+    wanted = oracle.merge(schema, texts, "--partial" in tail)
+    assert wanted[0] == b"" and wanted[1].line() == "M4"
+    merged(room, schema, texts, rng, wanted, tail)
 
 
 @tries(6)

@@ -359,7 +359,12 @@ class Generated(unittest.TestCase):
         for rng, schema, paths, run in self.each(30):
             like, count = beside.schema_like(schema), rng.choice([1, 2, 5])
             parts = [jackraisin.cube(like, paths, shard=(at, count), partial=True) for at in range(1, count + 1)]
-            self.assertEqual(jackraisin.merge(like, parts).text.encode(), run.print())
+            if schema.can_be_merged():
+                self.assertEqual(jackraisin.merge(like, parts).text.encode(), run.print())
+            else:
+                with self.assertRaises(jackraisin.Failure) as caught:
+                    jackraisin.merge(like, parts)
+                self.assertEqual((caught.exception.code, caught.exception.status), ("M4", 1))
             self.assertEqual(any(it.refused for it in parts), bool(run.refused))
 
     def test_slices(self):

@@ -28,6 +28,8 @@ class ByHand(unittest.TestCase):
             ((None, "2026"), (1, None, None)), ((None, ALL), (1, None, None)),
             ((ALL, "2025"), (1, 350, 350)), ((ALL, "2026"), (2, 450, 450)), ((ALL, ALL), (3, 800, 400))])
         self.assertEqual(cube_of(iter(SALES), by=["city"], of={"cents": "max"})[-1].answers, (3, 450))
+        total = cube_of(SALES, by=["city"], of={"cents": ["count(distinct)", "percentile_disc(0.5)", "percentile_disc(0.51)"]})[-1]
+        self.assertEqual([total[f"{it}cents)"] for it in ("count(distinct ", "percentile_disc(0.5,", "percentile_disc(0.51,")], [2, 350, 450])
         self.assertEqual(cube_of([{"measure": "a"}], by=["measure"])[0].key, ("a",))
         self.assertEqual(beside.rows_of(cube_of(SALES, by=["city"]).where({})), [((ALL,), (3,))])
 

@@ -544,6 +544,7 @@ class Verified(Base):
             "INSERT INTO {table} VALUES (1001, 'York', 'tea', NULL, 'NaN', 1), (1002, 'York', 'tea', NULL, 0.001, 1), (1003, 'Hull', '', true, 1e30, 1), (1004, 'York', 'tea', false, NULL, NULL)",
         )
         aggregates = ["count(*)", "count(price)", "sum(price)", "min(price)", "max(price)", "avg(price)", "sum(cents)", "avg(cents)"]
+        aggregates += ["count(distinct price)", "percentile_disc(0.5,price)", "count(distinct cents)", "percentile_disc(0.07,cents)", "percentile_disc(1,cents)"]
         self.schema = jackraisin.Schema(["city", "product", "is_paid"], ["price", "cents"], aggregates, decimals={"price": 2})
 
     def compared(self, follower, seconds=SECONDS):

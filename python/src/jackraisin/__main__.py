@@ -97,9 +97,10 @@ def show_of(cube: Cube, aggregate: str) -> Show:
 
 def decimals_of(cube: Cube, measure: str) -> int:
     """How many decimals the numbers of a measure have, as another aggregate of it shows them."""
-    for kind in ("sum", "min", "max"):
-        if f"{kind}({measure})" in cube.aggregates:
-            found = next((it for it in (row[f"{kind}({measure})"] for row in cube) if it is not None), None)
+    percentiles = [it for it in cube.aggregates if it.startswith("percentile_disc(") and it.partition(",")[2] == f"{measure})"]
+    for aggregate in [*(f"{kind}({measure})" for kind in ("sum", "min", "max")), *percentiles]:
+        if aggregate in cube.aggregates:
+            found = next((it for it in (row[aggregate] for row in cube) if it is not None), None)
             exponent = found.as_tuple().exponent if isinstance(found, Decimal) else 0
             return -exponent if isinstance(exponent, int) else 0
     return 0

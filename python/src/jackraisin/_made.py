@@ -35,7 +35,7 @@ def cube_of(
     max_memory: Optional[int] = None,
 ) -> Cube:
     """The whole cube of a frame, or of rows that are mappings: by its dimensions, `count(*)`, and of each measure the aggregates
-    that are named, as in `of={"cents": ["sum", "avg"]}`. A dimension is a text, a whole number or a date, which become texts; a
+    that are named, as in `of={"cents": ["sum", "avg", "count(distinct)", "percentile_disc(0.5)"]}`. A dimension is a text, a whole number or a date, which become texts; a
     measure is a whole number of 64 bits, also as a float below 2^53. One that `decimals` names takes a `Decimal` too, with so many
     decimals at most, and a float is then the number that Python shows of it. What is missing (None, NaN, NA) is null."""
     if isinstance(by, str):
@@ -44,7 +44,7 @@ def cube_of(
         text_of(name, "a name")
     measures = list(of) or [next(it for it in ("measure", *(f"measure {at}" for at in range(9))) if it not in by)]
     kinds = {name: [it] if isinstance(it, str) else it for name, it in of.items()}
-    aggregates = [f"{kind}({name})" for name, each in kinds.items() for kind in each]
+    aggregates = [spelled(kind, name) for name, each in kinds.items() for kind in each]
     schema = Schema(by, measures, ["count(*)", *aggregates], decimals=decimals)
     with tempfile.TemporaryDirectory(prefix="datacube-") as folder:
         path = os.path.join(folder, "facts.csv")
@@ -53,6 +53,15 @@ def cube_of(
             out.writerow(["op", "id", *by, *measures])
             out.writerows(inserts_of(facts, by, list(of), len(measures) - len(of), decimals))
         return cube(schema, path, timeout=timeout, max_memory=max_memory)
+
+
+def spelled(kind: str, name: str) -> str:
+    """An aggregate of a measure as a schema spells it: `count(distinct cents)` is named `count(distinct)`."""
+    call, bracket, rest = kind.partition("(")
+    if not bracket:
+        return f"{kind}({name})"
+    between = " " if rest == "distinct)" else ","
+    return f"{call}({rest[:-1]}{between}{name})"
 
 
 def inserts_of(facts: Facts, by: Sequence[str], measures: Sequence[str], unused: int, decimals: Mapping[str, int]) -> Iterator[List[str]]:

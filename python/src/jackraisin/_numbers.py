@@ -20,7 +20,7 @@ def whole_of(text: str) -> Number:
 
 
 def number_of(text: str) -> Number:
-    """The number that a printed sum, least or greatest value says: one with decimals where the measure has such, which are all
+    """The number that a printed sum, least or greatest value or percentile says: one with decimals where the measure has such, which are all
     printed, else a whole one."""
     return Decimal(text) if "." in text else int(text)
 

@@ -13,7 +13,7 @@ from ._errors import Unreadable
 NULL = "\\N"
 # (what a measure holds, and a column of a frame)
 LEAST, GREATEST = -(2**63), 2**63 - 1
-AGGREGATE = re.compile(r"(count|sum|min|max|avg)\(.*\)", re.DOTALL)
+AGGREGATE = re.compile(r"((count|sum|min|max|avg)\(|percentile_disc\((0|1|0\.[0-9]{1,4}|1\.0{1,4}),).*\)", re.DOTALL)
 # (texts may be longer than what csv takes at first, whose limit is one for the whole process)
 LONGEST = 2**31 - 1
 LIMIT = threading.RLock()

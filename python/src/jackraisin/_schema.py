@@ -19,10 +19,10 @@ NAMES = "dimensions", "measures", "aggregates", "grouping", "version", "max_reco
 
 @dataclass(frozen=True, init=False)
 class Schema:
-    """The names of dimensions and measures, the aggregates as `sum(amount)`, and as the schema file has them the kept
-    grouping sets, the version of feeds, the most records of a feed, the table `feed`, by which feeds are read by the names
-    of their columns, and the table `decimals`, which says how many decimals a measure has. The program checks it where it is
-    used, or `check`."""
+    """The names of dimensions and measures, the aggregates as `sum(amount)` or `percentile_disc(0.5,amount)`, and as the schema
+    file has them the kept grouping sets, the version of feeds, the most records of a feed, the table `feed`, by which feeds are
+    read by the names of their columns, and the table `decimals`, which says how many decimals a measure has. The program checks
+    it where it is used, or `check`."""
 
     dimensions: Tuple[str, ...]
     measures: Tuple[str, ...]

@@ -87,7 +87,7 @@ class Difference(NamedTuple):
 
     def change(self, aggregate: str) -> "Answer":
         """What came to an answer: that after less that before. In a cube that doesn't have the cell a count or a sum is 0;
-        None where either is null, or a least, a greatest or a mean that isn't there."""
+        None where either is null, or a least, a greatest, a mean or a percentile that isn't there."""
         before, after = (answer_in(it, aggregate) for it in (self.before, self.after))
         return None if before is None or after is None else difference(after, before)
 

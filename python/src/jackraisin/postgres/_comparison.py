@@ -24,6 +24,8 @@ if TYPE_CHECKING:
 # (a dimension with more values isn't compared by them)
 MOST_VALUES: Final = 10_000
 PER_MEASURE: Final = ("count", "sum", "min", "max")
+DISTINCT: Final = "count(distinct "
+PERCENTILE: Final = "percentile_disc("
 
 Answers = Tuple[Optional[Fraction], ...]
 # (the answers of the values of a dimension; those of the grand total are under null)
@@ -107,7 +109,8 @@ class Comparison(InSnapshot):
         table = self._rows.table
         value = sql.SQL("NULL") if at is None else sql.Identifier(self._rows.dimensions[at].name)
         measures = [sql.Identifier(it.name) for it in self._rows.measures]
-        asked = [sql.SQL("{}({})").format(sql.SQL(kind), it) for it in measures for kind in PER_MEASURE]
+        asked: List[sql.Composable] = [sql.SQL("{}({})").format(sql.SQL(kind), it) for it in measures for kind in PER_MEASURE]
+        asked += [call_of(it).format(measures[at]) for it, at in self._of_values().items()]
         units = [factor * 10**places for factor, places in zip(self._rows.factors, self._rows.places)]
         sayable: List[sql.Composable] = [SAYABLE.format(name=name, units=sql.Literal(it)) for name, it in zip(measures, units)] or [sql.SQL("true")]
         return sql.SQL("SELECT {value}, count(*){asked} FROM {only}{table} WHERE {sayable}{grouped}").format(
@@ -121,9 +124,24 @@ class Comparison(InSnapshot):
         numbers = [None if it is None else Fraction(it) for it in record[1:]]
         return tuple(self._answer(it, numbers) for it in self._schema.aggregates)
 
+    def _of_values(self) -> Dict[str, int]:
+        """The distinct counts and the percentiles among the schema's aggregates, each with the place of its measure."""
+        names, found = self._schema.measures, {}
+        for it in self._schema.aggregates:
+            if it.startswith(PERCENTILE):
+                found[it] = names.index(it.partition(",")[2][:-1])
+            # (it is the count of a measure that is named so, where there is one)
+            elif it.startswith(DISTINCT) and it[len("count(") : -1] not in names:
+                found[it] = names.index(it[len(DISTINCT) : -1])
+        return found
+
     def _answer(self, aggregate: str, numbers: Sequence[Optional[Fraction]]) -> Optional[Fraction]:
         if aggregate == "count(*)":
             return numbers[0]
+        of_values = self._of_values()
+        if aggregate in of_values:
+            number = numbers[1 + len(PER_MEASURE) * len(self._schema.measures) + list(of_values).index(aggregate)]
+            return number if number is None or aggregate.startswith(DISTINCT) else number * self._rows.factors[of_values[aggregate]]
         kind, name = aggregate.split("(", 1)
         at = self._schema.measures.index(name[:-1])
         found = dict(zip(PER_MEASURE, numbers[1 + len(PER_MEASURE) * at :]))
@@ -133,6 +151,17 @@ class Comparison(InSnapshot):
         if number is None or not count:
             return None
         return number * self._rows.factors[at] / (count if kind == "avg" else 1)
+
+
+def call_of(aggregate: str) -> sql.SQL:
+    """What a distinct count or a percentile is in SQL, over a measure that is to be put in. PostgreSQL multiplies a level as a double,
+    which may come out above a whole number; it is asked for a little less where a double isn't the level itself, too little for
+    another place among 10^10 values."""
+    if aggregate.startswith(DISTINCT):
+        return sql.SQL("count(DISTINCT {})")
+    level = aggregate[len(PERCENTILE) :].partition(",")[0]
+    less = "" if Fraction(float(level)) == Fraction(level) else " - 2e-15"
+    return sql.SQL(f"percentile_disc({level}{less}) WITHIN GROUP (ORDER BY {{}})")
 
 
 def total_of(row: Row, at: Optional[int]) -> Tuple[Optional[str], Answers]:
