@@ -3,6 +3,10 @@ pub mod ListLaws
 mod ValueLaws
 pub mod ArrivalLaws
 pub mod CommonDivisorLaws
+mod WideLaws
+mod ReducedLaws
+pub mod LongDecimalLaws
+pub mod VarianceLaws
 pub mod DecimalsDocumentLaws
 mod ReducedFractionLaws
 mod SchemaReadingLaws

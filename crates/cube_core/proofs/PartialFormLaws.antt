@@ -1,16 +1,16 @@
 -- The partial form of a schema is a schema.
-use Rattle.std.proofs.Common.{◌≡◌, ◌≤◌, ◌∷◌, [], ℕ, Bool, true, List, length, map, fold, refl, inl, inr, arith}
+use Rattle.std.proofs.Common.{◌≡◌, ◌≤◌, ◌∷◌, [], ℕ, Bool, true, nat_lt, List, length, map, fold, refl, inl, inr, arith}
 use Rattle.std.proofs.Common.{Option}
 use Rattle.std.proofs.Common.{length-append}
 use Rattle.std.specs.List.{list_all}
 use Rattle.std.proofs.lemmas.Bool.{cases_Bool, and_parts}
 use Rattle.std.proofs.lemmas.List.Folds.{list_all-append}
 use Rattle.cube_core.specs.Layout.{Layout, IsSchema, is_aggregate_of, spelling_of}
-use Rattle.cube_core.specs.PartialForm.{has_aggregate, with_aggregate, with_parts, partial_aggregates, partial_form}
+use Rattle.cube_core.specs.PartialForm.{has_aggregate, with_aggregate, with_mean_parts, with_variance_parts, with_parts, partial_aggregates, partial_form}
 use Rattle.cube_core.specs.declared.aggregate.Agg.{Agg}
 use Rattle.cube_core.specs.declared.feed_columns.FeedColumns.{FeedColumns}
 use Rattle.cube_core.specs.declared.aggregate.Agg.TheVariants.{CountAll, Count, Sum, Min, Max, Avg, CountDistinct}
-use Rattle.cube_core.specs.declared.aggregate.Agg.TheVariants.{PercentileDisc}
+use Rattle.cube_core.specs.declared.aggregate.Agg.TheVariants.{PercentileDisc, SumOfSquares, VarPop, VarSamp}
 
 -- a list with one more aggregate, or the same list: what all pass, and how long it is at least
 with_aggregate-list_all : (p : Agg → Bool) (aggregates : List Agg) (agg : Agg) → list_all p aggregates ≡ true
@@ -26,12 +26,26 @@ with_aggregate-length aggregates agg = elim (cases_Bool (has_aggregate agg aggre
   | inr missing ↦ rw (missing, length-append aggregates (agg ∷ [])) (omega arith)
 ]
 
+mean_parts-list_all : (measures : ℕ) (aggregates : List Agg) (m : ℕ) → list_all (is_aggregate_of measures) aggregates ≡ true
+    → nat_lt m measures ≡ true → list_all (is_aggregate_of measures) (with_mean_parts aggregates m) ≡ true
+mean_parts-list_all measures aggregates m all one =
+    with_aggregate-list_all (is_aggregate_of measures) (with_aggregate aggregates (Sum m)) (Count m)
+    (with_aggregate-list_all (is_aggregate_of measures) aggregates (Sum m) all one) one
+
+variance_parts-list_all : (measures : ℕ) (aggregates : List Agg) (m : ℕ)
+    → list_all (is_aggregate_of measures) aggregates ≡ true → nat_lt m measures ≡ true
+    → list_all (is_aggregate_of measures) (with_variance_parts aggregates m) ≡ true
+variance_parts-list_all measures aggregates m all one =
+    with_aggregate-list_all (is_aggregate_of measures) (with_mean_parts aggregates m) (SumOfSquares m)
+    (mean_parts-list_all measures aggregates m all one) one
+
 with_parts-list_all : (measures : ℕ) (aggregates : List Agg) (agg : Agg)
     → list_all (is_aggregate_of measures) aggregates ≡ true → is_aggregate_of measures agg ≡ true
     → list_all (is_aggregate_of measures) (with_parts aggregates agg) ≡ true
-with_parts-list_all measures aggregates (Avg m) all one =
-    with_aggregate-list_all (is_aggregate_of measures) (with_aggregate aggregates (Sum m)) (Count m)
-    (with_aggregate-list_all (is_aggregate_of measures) aggregates (Sum m) all one) one
+with_parts-list_all measures aggregates (Avg m) all one = mean_parts-list_all measures aggregates m all one
+with_parts-list_all measures aggregates (VarPop m) all one = variance_parts-list_all measures aggregates m all one
+with_parts-list_all measures aggregates (VarSamp m) all one = variance_parts-list_all measures aggregates m all one
+with_parts-list_all measures aggregates (SumOfSquares m) all one = all
 with_parts-list_all measures aggregates CountAll all one = all
 with_parts-list_all measures aggregates (Count m) all one = all
 with_parts-list_all measures aggregates (Sum m) all one = all
@@ -40,12 +54,25 @@ with_parts-list_all measures aggregates (Max m) all one = all
 with_parts-list_all measures aggregates (CountDistinct m) all one = all
 with_parts-list_all measures aggregates (PercentileDisc m units places) all one = all
 
-with_parts-length : (aggregates : List Agg) (agg : Agg) → length aggregates ≤ length (with_parts aggregates agg)
-with_parts-length aggregates (Avg m) = omega (
+mean_parts-length : (aggregates : List Agg) (m : ℕ) → length aggregates ≤ length (with_mean_parts aggregates m)
+mean_parts-length aggregates m = omega (
   arith,
   with_aggregate-length aggregates (Sum m),
   with_aggregate-length (with_aggregate aggregates (Sum m)) (Count m),
 )
+
+variance_parts-length : (aggregates : List Agg) (m : ℕ) → length aggregates ≤ length (with_variance_parts aggregates m)
+variance_parts-length aggregates m = omega (
+  arith,
+  mean_parts-length aggregates m,
+  with_aggregate-length (with_mean_parts aggregates m) (SumOfSquares m),
+)
+
+with_parts-length : (aggregates : List Agg) (agg : Agg) → length aggregates ≤ length (with_parts aggregates agg)
+with_parts-length aggregates (Avg m) = mean_parts-length aggregates m
+with_parts-length aggregates (VarPop m) = variance_parts-length aggregates m
+with_parts-length aggregates (VarSamp m) = variance_parts-length aggregates m
+with_parts-length aggregates (SumOfSquares m) = omega arith
 with_parts-length aggregates CountAll = omega arith
 with_parts-length aggregates (Count m) = omega arith
 with_parts-length aggregates (Sum m) = omega arith
@@ -67,7 +94,7 @@ fold-length all [] = omega arith
 fold-length all (agg ∷ means) = omega (arith, with_parts-length all agg, fold-length (with_parts all agg) means)
 
 -- the partial form of a schema is one, where it hasn't too many aggregates
-pub partial_form-IsSchema : (s : Layout) → IsSchema s → length (partial_aggregates s.aggregates) ≤ 24
+pub partial_form-IsSchema : (s : Layout) → IsSchema s → length (partial_aggregates s.aggregates) ≤ 28
     → IsSchema (partial_form s)
 partial_form-IsSchema s is few = record {
   some_dimension = is.some_dimension;
@@ -100,7 +127,7 @@ pub copied-IsSchema : (s : Layout) (dimensions measures texts : List (List ℕ))
     → dimensions ≡ s.dimensions → measures ≡ s.measures → aggregates ≡ partial_aggregates s.aggregates
     → texts ≡ map (spelling_of measures) aggregates → sets ≡ s.grouping_sets → columns ≡ s.columns
     → decimals ≡ s.decimals
-    → length aggregates ≤ 24
+    → length aggregates ≤ 28
     → IsSchema (record {
       dimensions = dimensions;
       measures = measures;

@@ -30,7 +30,7 @@ use Rattle.cube_core.specs.declared.shard.Shard.{Shard}
 use Rattle.cube_core.specs.Layout.{Layout, IsSchema, spelling_of, is_aggregate_of, is_lawful_name, are_distinct}
 use Rattle.cube_core.proofs.LevelLaws.{is_level-within}
 use Rattle.cube_core.specs.SchemaDocument.{is_some_up_to, are_lawful_names, aggregates_over, aggregate_spelled}
-use Rattle.cube_core.specs.SchemaDocument.{percentiles_at, percentiles_over}
+use Rattle.cube_core.specs.SchemaDocument.{percentiles_at, percentiles_over, statistics_over}
 use Rattle.cube_core.specs.SchemaDocument.{are_spellings, record_limit, max_records_in, default_max_records}
 use Rattle.cube_core.specs.SchemaDocument.{sets_of_grouping, feed_version, version_in, dimensions_in, measures_in}
 use Rattle.cube_core.specs.SchemaDocument.{is_number_of_measures, least_measures_in}
@@ -39,6 +39,7 @@ use Rattle.cube_core.specs.SchemaDocument.{parts_faults, is_fault_of_parts, layo
 use Rattle.cube_core.specs.SchemaDocument.{first_fault, layout_of, AnswersParts, AnswersDocument, AnswersBytes}
 use Rattle.cube_core.specs.declared.aggregate.Agg.{Agg}
 use Rattle.cube_core.specs.declared.aggregate.Agg.TheVariants.{Count, Sum, Min, Max, Avg, CountDistinct, PercentileDisc}
+use Rattle.cube_core.specs.declared.aggregate.Agg.TheVariants.{SumOfSquares, VarPop, VarSamp}
 
 -- what is found passes the test, and has what each element has
 find-passes : {X : Type 0} (test : X → Bool) (xs : List X) (x : X) → find test xs ≡ Some x → test x ≡ true
@@ -108,21 +109,32 @@ percentiles_over-of measures =
     ∙ and-true (nat_lt m measures)) i)
     ∙ range_with_len-below 0 measures measures (omega arith)))
 
+-- every distinct count, sum of squares, variance and percentile over so many measures is of them
+statistics_over-of : (measures : ℕ) → list_all (is_aggregate_of measures) (statistics_over measures) ≡ true
+unfolding statistics_over
+statistics_over-of measures =
+    let over : (ℕ → Agg) → List Agg = λ make. map make (range_with_len 0 measures) in
+    let percentiles = percentiles_over measures in
+    let samples : List Agg = over VarSamp ++ percentiles in
+    let variances : List Agg = over VarPop ++ samples in
+    is_aggregate_of-map measures CountDistinct (over SumOfSquares ++ variances) (λ m. refl)
+    (is_aggregate_of-map measures SumOfSquares variances (λ m. refl)
+    (is_aggregate_of-map measures VarPop samples (λ m. refl)
+    (is_aggregate_of-map measures VarSamp percentiles (λ m. refl) (percentiles_over-of measures))))
+
 -- every aggregate over so many measures is of them
 aggregates_over-of : (measures : ℕ) → list_all (is_aggregate_of measures) (aggregates_over measures) ≡ true
 aggregates_over-of measures =
     let over : (ℕ → Agg) → List Agg = λ make. map make (range_with_len 0 measures) in
-    let percentiles = percentiles_over measures in
-    let distinct : List Agg = over CountDistinct ++ percentiles in
-    let means : List Agg = over Avg ++ distinct in
+    let statistics = statistics_over measures in
+    let means : List Agg = over Avg ++ statistics in
     let greatest : List Agg = over Max ++ means in
     let least : List Agg = over Min ++ greatest in
     is_aggregate_of-map measures Count (over Sum ++ least) (λ m. refl)
     (is_aggregate_of-map measures Sum least (λ m. refl)
     (is_aggregate_of-map measures Min greatest (λ m. refl)
     (is_aggregate_of-map measures Max means (λ m. refl)
-    (is_aggregate_of-map measures Avg distinct (λ m. refl)
-    (is_aggregate_of-map measures CountDistinct percentiles (λ m. refl) (percentiles_over-of measures))))))
+    (is_aggregate_of-map measures Avg statistics (λ m. refl) (statistics_over-of measures)))))
 
 -- the aggregate that a text spells is of the measures, and the text is its spelling
 aggregate_spelled-spelling_of : (measures : List (List ℕ)) (text : List ℕ) (agg : Agg)

@@ -11,9 +11,10 @@ use Rattle.std.proofs.lemmas.Bool.{false_from_ne_true}
 use Rattle.std.proofs.lemmas.List.{append_cancel_left, append_cancel_right}
 use Rattle.std.proofs.lemmas.Iterator.Adapters.{position_from-zero}
 use Rattle.cube_core.specs.Layout.{spelling_of}
-use Rattle.cube_core.specs.SchemaDocument.{aggregate_spelled, percentiles_over}
+use Rattle.cube_core.specs.SchemaDocument.{aggregate_spelled, percentiles_over, statistic_spelled, statistics_over}
 use Rattle.cube_core.specs.declared.aggregate.Agg.{Agg}
 use Rattle.cube_core.specs.declared.aggregate.Agg.TheVariants.{CountAll, Count, Sum, Min, Max, Avg, CountDistinct}
+use Rattle.cube_core.specs.declared.aggregate.Agg.TheVariants.{SumOfSquares, VarPop, VarSamp}
 
 -- two tests that hold together are one
 Bool-same : (a b : Bool) → (a ≡ true → b ≡ true) → (b ≡ true → a ≡ true) → a ≡ b
@@ -105,6 +106,25 @@ find-functions measures text opening make others found spelled rest =
     (find-function measures text opening make spelled)
     ∙ ap (option_or (option_map make (measure_in measures text opening))) rest
 
+-- the distinct count, sum of squares, variance or percentile that a text spells, function by function
+pub statistic_spelled_measure_in : (measures : List (List ℕ)) (text : List ℕ) → statistic_spelled measures text
+    ≡ option_or (option_map CountDistinct (measure_in measures text (codes "count(distinct ")))
+    (option_or (option_map SumOfSquares (measure_in measures text (codes "sum_of_squares(")))
+    (option_or (option_map VarPop (measure_in measures text (codes "var_pop(")))
+    (option_or (option_map VarSamp (measure_in measures text (codes "var_samp(")))
+    (find (λ agg. bytes_eq text (spelling_of measures agg)) (percentiles_over (length measures))))))
+unfolding statistics_over statistic_spelled
+statistic_spelled_measure_in measures text =
+    let over : (ℕ → Agg) → List Agg = λ make. map make (range_with_len 0 (length measures)) in
+    let percentiles = percentiles_over (length measures) in
+    let samples : List Agg = over VarSamp ++ percentiles in
+    let variances : List Agg = over VarPop ++ samples in
+    let fourth = find-functions measures text (codes "var_samp(") VarSamp percentiles _ (λ m. refl) refl in
+    let third = find-functions measures text (codes "var_pop(") VarPop samples _ (λ m. refl) fourth in
+    let second = find-functions measures text (codes "sum_of_squares(") SumOfSquares variances _ (λ m. refl) third in
+    find-functions measures text (codes "count(distinct ") CountDistinct (over SumOfSquares ++ variances) _
+    (λ m. refl) second
+
 -- the aggregate that a text spells, function by function
 pub aggregate_spelled_measure_in : (measures : List (List ℕ)) (text : List ℕ) → aggregate_spelled measures text
     ≡ cond (bytes_eq text (codes "count(*)")) (Some CountAll)
@@ -113,19 +133,15 @@ pub aggregate_spelled_measure_in : (measures : List (List ℕ)) (text : List ℕ
     (option_or (option_map Min (measure_in measures text (codes "min(")))
     (option_or (option_map Max (measure_in measures text (codes "max(")))
     (option_or (option_map Avg (measure_in measures text (codes "avg(")))
-    (option_or (option_map CountDistinct (measure_in measures text (codes "count(distinct ")))
-    (find (λ agg. bytes_eq text (spelling_of measures agg)) (percentiles_over (length measures)))))))))
-unfolding aggregate_spelled
+    (statistic_spelled measures text))))))
+unfolding aggregate_spelled statistic_spelled
 aggregate_spelled_measure_in measures text =
     let over : (ℕ → Agg) → List Agg = λ make. map make (range_with_len 0 (length measures)) in
-    let percentiles = percentiles_over (length measures) in
-    let distinct : List Agg = over CountDistinct ++ percentiles in
-    let means : List Agg = over Avg ++ distinct in
+    let statistics = statistics_over (length measures) in
+    let means : List Agg = over Avg ++ statistics in
     let greatest : List Agg = over Max ++ means in
     let least : List Agg = over Min ++ greatest in
-    let sixth =
-    find-functions measures text (codes "count(distinct ") CountDistinct percentiles _ (λ m. refl) refl in
-    let fifth = find-functions measures text (codes "avg(") Avg distinct _ (λ m. refl) sixth in
+    let fifth = find-functions measures text (codes "avg(") Avg statistics _ (λ m. refl) refl in
     let fourth = find-functions measures text (codes "max(") Max means _ (λ m. refl) fifth in
     let third = find-functions measures text (codes "min(") Min greatest _ (λ m. refl) fourth in
     let second = find-functions measures text (codes "sum(") Sum least _ (λ m. refl) third in

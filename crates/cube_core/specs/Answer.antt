@@ -1,12 +1,13 @@
 -- The answers of the aggregates over a group of facts (SQL:1999, aggregate functions:
 -- COUNT of no value is 0, the others of no value are null).
 use Rattle.std.specs.Prelude.{◌≡◌, ◌↔◌, ◌<◌, ◌≤◌, ◌≤ℤ◌, ◌+◌, ◌-◌, ◌*◌, ◌/◌, ◌^◌, ℕ, ℤ, max, List, [], ◌∷◌, length}
-use Rattle.std.specs.Prelude.{Contains}
+use Rattle.std.specs.Prelude.{Contains, Bool, true, false}
 use Rattle.std.specs.List.{AllByRecursion, AllZip, count_by}
 use Rattle.std.specs.List.Sorted.{IsStrictlySortedBy}
 use Rattle.std.specs.Ordering.{int_cmp, is_lt, is_le}
 use Rattle.cube_core.specs.Fraction.{IsInLowestTerms}
 use Rattle.cube_core.specs.Group.{values_of, total_of}
+use Rattle.cube_core.specs.Variance.{IsVariance, freedom_of, squares_of}
 use Rattle.cube_core.specs.declared.aggregate.Agg.{Agg}
 use Rattle.cube_core.specs.declared.aggregate.Agg.TheVariants as agg
 use Rattle.cube_core.specs.declared.aggregate.Answer.{Answer}
@@ -68,6 +69,21 @@ IsPercentile units places [] a = a ≡ answer.Null
 IsPercentile units places (v ∷ vs) a =
     (w : ℤ) × (a ≡ answer.Whole w) × StandsAt (percentile_place units places (length (v ∷ vs))) (v ∷ vs) w
 
+-- the sum of the squares of the values, null where there is none
+abbrev pub IsSumOfSquares : List ℤ → Answer → Type 0
+IsSumOfSquares [] a = a ≡ answer.Null
+IsSumOfSquares (v ∷ vs) a = a ≡ answer.Squares (squares_of (v ∷ vs))
+
+-- the variance of the values, of the population or of a sample, null where nothing is left to divide by
+-- (SQL:2003, VAR_POP and VAR_SAMP)
+abbrev pub IsVarianceAnswer : Bool → List ℤ → Answer → Type 0
+IsVarianceAnswer is_sample values answer.Null = freedom_of is_sample (length values) ≡ 0
+IsVarianceAnswer is_sample values (answer.Variance p q) = IsVariance values is_sample p q
+IsVarianceAnswer is_sample values (answer.Count n) = ⊥
+IsVarianceAnswer is_sample values (answer.Whole z) = ⊥
+IsVarianceAnswer is_sample values (answer.Ratio p q) = ⊥
+IsVarianceAnswer is_sample values (answer.Squares n) = ⊥
+
 -- the answer of an aggregate over a group of facts
 abbrev pub IsAnswer : List Fact → Agg → Answer → Type 0
 IsAnswer group agg.CountAll a = a ≡ answer.Count (length group)
@@ -78,6 +94,9 @@ IsAnswer group (agg.Max m) a = IsGreatest (values_of m group) a
 IsAnswer group (agg.Avg m) a = IsMean (values_of m group) a
 IsAnswer group (agg.CountDistinct m) a = IsDistinctCount (values_of m group) a
 IsAnswer group (agg.PercentileDisc m units places) a = IsPercentile units places (values_of m group) a
+IsAnswer group (agg.SumOfSquares m) a = IsSumOfSquares (values_of m group) a
+IsAnswer group (agg.VarPop m) a = IsVarianceAnswer false (values_of m group) a
+IsAnswer group (agg.VarSamp m) a = IsVarianceAnswer true (values_of m group) a
 
 -- the answers of a list of aggregates over a group of facts, in the order of the list
 abbrev pub AreAnswers : List Fact → List Agg → List Answer → Type 0

@@ -18,6 +18,8 @@ pub mod Surviving
 pub mod Refusals
 pub mod Covers
 pub mod Group
+pub mod Wide
+pub mod Variance
 pub mod Fraction
 pub mod Answer
 pub mod Order

@@ -1,6 +1,7 @@
 -- The merged rows of cubes over parts of the facts: each key of any of them once, with what its answers make together
--- (Gray et al. 1997: COUNT, SUM, MIN and MAX are distributive, AVG is algebraic, made of SUM and COUNT).
-use Rattle.std.specs.Prelude.{◌≡◌, ◌↔◌, ⊤, ℕ, zero, suc, ℤ, List, map, filter, get_or, sum_by, slice_get, Contains}
+-- (Gray et al. 1997: COUNT, SUM, MIN and MAX are distributive, AVG is algebraic, made of SUM and COUNT, as a variance is of
+-- these and the sum of the squares).
+use Rattle.std.specs.Prelude.{◌≡◌, ◌↔◌, ◌-◌, ◌*◌, ⊤, Bool, true, false, ℕ, zero, suc, ℤ, List, [], ◌∷◌, map, filter, get_or, sum_by, slice_get, Contains}
 use Rattle.std.specs.Prelude.{Option, Some, None}
 use Rattle.std.specs.List.{AllByRecursion, AllZip, filter_map}
 use Rattle.std.specs.List.Sorted.{IsStrictlySortedBy}
@@ -9,10 +10,12 @@ use Rattle.cube_core.specs.Answer.{IsSum, IsLeast, IsGreatest}
 use Rattle.cube_core.specs.Cube.{key_of}
 use Rattle.cube_core.specs.Fraction.{IsInLowestTerms}
 use Rattle.cube_core.specs.Group.{total_of}
+use Rattle.cube_core.specs.Variance.{freedom_of, square}
+use Rattle.cube_core.specs.Wide.{IsReduced}
 use Rattle.cube_core.specs.Order.{key_cmp}
 use Rattle.cube_core.specs.declared.aggregate.Agg.{Agg}
 use Rattle.cube_core.specs.declared.aggregate.Agg.TheVariants.{CountAll, Count, Sum, Min, Max, Avg}
-use Rattle.cube_core.specs.declared.aggregate.Agg.TheVariants.{CountDistinct, PercentileDisc}
+use Rattle.cube_core.specs.declared.aggregate.Agg.TheVariants.{CountDistinct, PercentileDisc, SumOfSquares, VarPop, VarSamp}
 use Rattle.cube_core.specs.declared.aggregate.Answer.{Answer}
 use Rattle.cube_core.specs.declared.aggregate.Answer.TheVariants as answer
 use Rattle.cube_core.specs.declared.key.Key.{Key}
@@ -24,6 +27,8 @@ count_answered (answer.Count n) = n
 count_answered answer.Null = 0
 count_answered (answer.Whole z) = 0
 count_answered (answer.Ratio p q) = 0
+count_answered (answer.Squares n) = 0
+count_answered (answer.Variance p q) = 0
 
 -- the number that an answer is, if it is one
 abbrev pub number_in : Answer → Option ℤ
@@ -31,6 +36,17 @@ number_in (answer.Whole z) = Some z
 number_in answer.Null = None
 number_in (answer.Count n) = None
 number_in (answer.Ratio p q) = None
+number_in (answer.Squares n) = None
+number_in (answer.Variance p q) = None
+
+-- the sum of squares that an answer is, if it is one
+abbrev pub squares_in : Answer → Option ℕ
+squares_in (answer.Squares n) = Some n
+squares_in answer.Null = None
+squares_in (answer.Count n) = None
+squares_in (answer.Whole z) = None
+squares_in (answer.Ratio p q) = None
+squares_in (answer.Variance p q) = None
 
 -- the sum of the counts among answers
 abbrev pub sum_of_counts : List Answer → ℕ
@@ -40,9 +56,21 @@ sum_of_counts answers = sum_by count_answered answers
 abbrev pub numbers_of : List Answer → List ℤ
 numbers_of answers = filter_map number_in answers
 
--- what an aggregate's answers to the parts make of the whole: counts and sums are added, the least of the least
--- and the greatest of the greatest values is taken, null where all are null; of means, distinct counts and percentiles
--- alone nothing is made
+-- the sums of squares among answers, nulls left out, and their sum
+abbrev pub squares_among : List Answer → List ℕ
+squares_among answers = filter_map squares_in answers
+
+abbrev pub sum_of_squares : List Answer → ℕ
+sum_of_squares answers = sum_by (λ n. n) (squares_among answers)
+
+-- the sum of sums of squares, null where there is none
+abbrev pub IsSumOfAll : List ℕ → Answer → Type 0
+IsSumOfAll [] a = a ≡ answer.Null
+IsSumOfAll (n ∷ ns) a = a ≡ answer.Squares (sum_by (λ n. n) (n ∷ ns))
+
+-- what an aggregate's answers to the parts make of the whole: counts, sums and sums of squares are added, the least of the
+-- least and the greatest of the greatest values is taken, null where all are null; of means, variances, distinct counts and
+-- percentiles alone nothing is made
 abbrev pub MakesAnswer : Agg → List Answer → Answer → Type 0
 MakesAnswer CountAll parts a = a ≡ answer.Count (sum_of_counts parts)
 MakesAnswer (Count m) parts a = a ≡ answer.Count (sum_of_counts parts)
@@ -52,11 +80,24 @@ MakesAnswer (Max m) parts a = IsGreatest (numbers_of parts) a
 MakesAnswer (Avg m) parts a = ⊤
 MakesAnswer (CountDistinct m) parts a = ⊤
 MakesAnswer (PercentileDisc m units places) parts a = ⊤
+MakesAnswer (SumOfSquares m) parts a = IsSumOfAll (squares_among parts) a
+MakesAnswer (VarPop m) parts a = ⊤
+MakesAnswer (VarSamp m) parts a = ⊤
 
 -- the mean of so many values with this sum, as a fraction in lowest terms, null where there is none
 abbrev pub IsMeanOf : ℤ → ℕ → Answer → Type 0
 IsMeanOf total zero a = a ≡ answer.Null
 IsMeanOf total (suc n) a = (p : ℤ) × (q : ℕ) × (a ≡ answer.Ratio p q) × IsInLowestTerms total (suc n) p q
+
+-- the variance of so many values with this sum and this sum of squares, null where nothing is left to divide by
+abbrev pub IsVarianceOf : Bool → ℕ → ℤ → ℕ → Answer → Type 0
+IsVarianceOf is_sample count total squares answer.Null = freedom_of is_sample count ≡ 0
+IsVarianceOf is_sample count total squares (answer.Variance p q) =
+    IsReduced (count * squares - square total) (count * freedom_of is_sample count) p q
+IsVarianceOf is_sample count total squares (answer.Count n) = ⊥
+IsVarianceOf is_sample count total squares (answer.Whole z) = ⊥
+IsVarianceOf is_sample count total squares (answer.Ratio p q) = ⊥
+IsVarianceOf is_sample count total squares (answer.Squares n) = ⊥
 
 -- the answers of rows at a place
 abbrev pub column : ℕ → List Row → List Answer
@@ -72,12 +113,23 @@ IsMadeMean given rows m a =
     (sums : ℕ) × (counts : ℕ) × (slice_get given sums ≡ Some (Sum m)) × (slice_get given counts ≡ Some (Count m))
     × IsMeanOf (total_of (numbers_of (column sums rows))) (sum_of_counts (column counts rows)) a
 
--- the answer to an aggregate that rows with one key make together, where they answer the given aggregates:
--- a mean is made of sums and counts, a distinct count and a percentile of nothing, and any other of its own answers
+-- the variance that the rows' counts, sums and sums of squares of a measure make
+abbrev pub IsMadeVariance : Bool → List Agg → List Row → ℕ → Answer → Type 0
+IsMadeVariance is_sample given rows m a =
+    (sums : ℕ) × (counts : ℕ) × (squares : ℕ) × (slice_get given sums ≡ Some (Sum m))
+    × (slice_get given counts ≡ Some (Count m)) × (slice_get given squares ≡ Some (SumOfSquares m))
+    × IsVarianceOf is_sample (sum_of_counts (column counts rows)) (total_of (numbers_of (column sums rows)))
+    (sum_of_squares (column squares rows)) a
+
+-- the answer to an aggregate that rows with one key make together, where they answer the given aggregates: a mean is made of
+-- sums and counts, a variance of these and of sums of squares, a distinct count and a percentile of nothing, and any other of
+-- its own answers
 abbrev pub IsMerged : List Agg → List Row → Agg → Answer → Type 0
 IsMerged given rows (Avg m) a = IsMadeMean given rows m a
 IsMerged given rows (CountDistinct m) a = ⊥
 IsMerged given rows (PercentileDisc m units places) a = ⊥
+IsMerged given rows (VarPop m) a = IsMadeVariance false given rows m a
+IsMerged given rows (VarSamp m) a = IsMadeVariance true given rows m a
 IsMerged given rows agg a = IsMadeAt given rows agg a
 
 -- the rows with a key

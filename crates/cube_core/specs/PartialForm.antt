@@ -1,12 +1,12 @@
--- The partial form of a schema: it also has what each mean is made of,
--- so that cubes under it can be merged (Gray et al. 1997: AVG is algebraic, made of SUM and COUNT).
+-- The partial form of a schema: it also has what each mean and each variance is made of,
+-- so that cubes under it can be merged (Gray et al. 1997: they are algebraic, made of SUM, COUNT and the sum of the squares).
 use Rattle.std.specs.Prelude.{◌≡◌, ◌==◌, ◌&&◌, ◌<◌, ⊤, ℕ, Bool, true, false, List, [], ◌∷◌, ◌++◌, length, map, if◌then◌else◌}
 use Rattle.std.specs.Prelude.{Result, Ok, Err}
 use Rattle.std.specs.List.{list_any, fold}
 use Rattle.cube_core.specs.Layout.{Layout, spelling_of}
 use Rattle.cube_core.specs.declared.aggregate.Agg.{Agg}
 use Rattle.cube_core.specs.declared.aggregate.Agg.TheVariants.{CountAll, Count, Sum, Min, Max, Avg}
-use Rattle.cube_core.specs.declared.aggregate.Agg.TheVariants.{CountDistinct, PercentileDisc}
+use Rattle.cube_core.specs.declared.aggregate.Agg.TheVariants.{CountDistinct, PercentileDisc, SumOfSquares, VarPop, VarSamp}
 use Rattle.cube_core.specs.declared.schema_fault.SchemaFault.{SchemaFault}
 use Rattle.cube_core.specs.declared.schema_fault.SchemaFault.TheVariants.{Memory}
 
@@ -21,6 +21,9 @@ is_aggregate (Avg m) (Avg n) = m == n
 is_aggregate (CountDistinct m) (CountDistinct n) = m == n
 is_aggregate (PercentileDisc m units places) (PercentileDisc n others digits) =
     m == n && units == others && places == digits
+is_aggregate (SumOfSquares m) (SumOfSquares n) = m == n
+is_aggregate (VarPop m) (VarPop n) = m == n
+is_aggregate (VarSamp m) (VarSamp n) = m == n
 is_aggregate _ _ = false
 
 -- whether an aggregate stands in a list of aggregates
@@ -31,12 +34,22 @@ has_aggregate agg aggregates = list_any (is_aggregate agg) aggregates
 abbrev pub with_aggregate : List Agg → Agg → List Agg
 with_aggregate aggregates agg = if has_aggregate agg aggregates then aggregates else aggregates ++ agg ∷ []
 
--- a list of aggregates with what this one is made of, where it is a mean: the sum, and then the count
+-- a list of aggregates with what a mean is made of: the sum, and then the count
+abbrev pub with_mean_parts : List Agg → ℕ → List Agg
+with_mean_parts aggregates m = with_aggregate (with_aggregate aggregates (Sum m)) (Count m)
+
+-- with what a variance is made of: these two, and then the sum of the squares
+abbrev pub with_variance_parts : List Agg → ℕ → List Agg
+with_variance_parts aggregates m = with_aggregate (with_mean_parts aggregates m) (SumOfSquares m)
+
+-- a list of aggregates with what this one is made of, where it is a mean or a variance
 abbrev pub with_parts : List Agg → Agg → List Agg
-with_parts aggregates (Avg m) = with_aggregate (with_aggregate aggregates (Sum m)) (Count m)
+with_parts aggregates (Avg m) = with_mean_parts aggregates m
+with_parts aggregates (VarPop m) = with_variance_parts aggregates m
+with_parts aggregates (VarSamp m) = with_variance_parts aggregates m
 with_parts aggregates _ = aggregates
 
--- aggregates, and then what each mean among them is made of, in their order
+-- aggregates, and then what each mean and each variance among them is made of, in their order
 abbrev pub partial_aggregates : List Agg → List Agg
 partial_aggregates aggregates = fold with_parts aggregates aggregates
 
@@ -47,9 +60,9 @@ partial_form s = record s {
   aggregate_texts = map (spelling_of s.measures) (partial_aggregates s.aggregates);
 }
 
--- the most aggregates of a schema: 16 of its document, and 2 for each measure
+-- the most aggregates of a schema: 16 of its document, and 3 for each measure
 abbrev pub most_aggregates : ℕ
-most_aggregates = 24
+most_aggregates = 28
 
 -- what may be answered to a wish for the partial form:
 -- the form, that it has too many aggregates, or that memory ran out

@@ -8,9 +8,10 @@ use Rattle.std.specs.List.{flat_map, range_with_len}
 use Rattle.csv.specs.Writing.{row_text, default_writer}
 use Rattle.cube_core.specs.Layout.{Layout, decimals_of}
 use Rattle.cube_core.specs.Takes.{null_text}
+use Rattle.cube_core.specs.Wide.{long_decimal}
 use Rattle.cube_core.specs.declared.aggregate.Agg.{Agg}
 use Rattle.cube_core.specs.declared.aggregate.Agg.TheVariants.{CountAll, Count, Sum, Min, Max, Avg}
-use Rattle.cube_core.specs.declared.aggregate.Agg.TheVariants.{CountDistinct, PercentileDisc}
+use Rattle.cube_core.specs.declared.aggregate.Agg.TheVariants.{CountDistinct, PercentileDisc, SumOfSquares, VarPop, VarSamp}
 use Rattle.cube_core.specs.declared.aggregate.Answer.{Answer}
 use Rattle.cube_core.specs.declared.aggregate.Answer.TheVariants as answer
 use Rattle.cube_core.specs.declared.change.Refusal.{Refusal}
@@ -47,7 +48,7 @@ grouping_text coord.All = codes "1"
 abbrev pub digits_of_measure : Layout → ℕ → ℕ
 digits_of_measure s m = unwrap_or (decimals_of s m) 0
 
--- how many digits stand behind the point of an aggregate's answers: those of its measure, and none for a count
+-- how many digits stand behind the point of the numbers that an aggregate is of: those of its measure, and none for a count
 abbrev pub digits_of : Layout → Agg → ℕ
 digits_of s CountAll = 0
 digits_of s (Count m) = 0
@@ -57,6 +58,9 @@ digits_of s (Max m) = digits_of_measure s m
 digits_of s (Avg m) = digits_of_measure s m
 digits_of s (CountDistinct m) = 0
 digits_of s (PercentileDisc m units places) = digits_of_measure s m
+digits_of s (SumOfSquares m) = digits_of_measure s m
+digits_of s (VarPop m) = digits_of_measure s m
+digits_of s (VarSamp m) = digits_of_measure s m
 
 -- digits with zeros before them, so that there are at least so many
 abbrev pub padded : ℕ → List ℕ → List ℕ
@@ -89,14 +93,25 @@ abbrev pub fraction_text : ℕ → ℤ → ℕ → List ℕ
 fraction_text k p q = let common = common_with_ten k (unsigned_abs p) in
     signed_decimal (int_div p (pos common)) ++ codes "/" ++ decimal (q * (10 ^ k / common))
 
--- what a row shows of an answer in units of 10^-k: the null text, a number, or a fraction
+-- the same of numbers of any length
+abbrev pub long_units_text : ℕ → ℕ → List ℕ
+long_units_text k n = if k == 0 then long_decimal n else pointed k (padded (k + 1) (long_decimal n))
+
+abbrev pub long_fraction_text : ℕ → ℕ → ℕ → List ℕ
+long_fraction_text k p q = let common = common_with_ten k p in
+    long_decimal (p / common) ++ codes "/" ++ long_decimal (q * (10 ^ k / common))
+
+-- what a row shows of an answer in units of 10^-k: the null text, a number, or a fraction; squares and variances are in
+-- units of 10^-2k
 abbrev pub answer_text : ℕ → Answer → List ℕ
 answer_text k answer.Null = null_text
 answer_text k (answer.Count n) = decimal n
 answer_text k (answer.Whole z) = signed_units_text k z
 answer_text k (answer.Ratio p q) = fraction_text k p q
+answer_text k (answer.Squares n) = long_units_text (2 * k) n
+answer_text k (answer.Variance p q) = long_fraction_text (2 * k) p q
 
--- how many digits stand behind the point of the answers to each of a schema's aggregates
+-- how many digits stand behind the point of the numbers that each of a schema's aggregates is of
 abbrev pub digits_of_answers : Layout → List ℕ
 digits_of_answers s = map (digits_of s) s.aggregates
 

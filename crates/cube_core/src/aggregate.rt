@@ -1,5 +1,8 @@
 //! The aggregates that a cube shows, and their answers.
 
+use crate::squares::Squares;
+use crate::wide::Wide;
+
 /// An aggregate of a group of facts. The numbers are those of measures, from 0.
 #[derive(Clone, Copy, Debug, PartialEq, Eq)]
 pub enum Agg {
@@ -25,12 +28,19 @@ pub enum Agg {
         units: u16,
         places: u8,
     },
+    /// `sum_of_squares(m)`: the sum of the squares of the measure's values.
+    SumOfSquares(usize),
+    /// `var_pop(m)`: the variance of the measure's values: the mean of the squares of how far they are from their mean.
+    VarPop(usize),
+    /// `var_samp(m)`: the same of a sample, whose squares are divided by one less than there are values.
+    VarSamp(usize),
 }
 
 /// What an aggregate says of a group of facts.
 #[derive(Clone, Copy, Debug, PartialEq, Eq)]
 pub enum Answer {
-    /// No value to speak of: a sum, a least, a greatest value, a mean or a percentile of no value.
+    /// No value to speak of: a sum, a least, a greatest value, a mean, a percentile or a variance of no value, or a variance
+    /// of a sample of one.
     Null,
     /// A count, of facts, of values or of different ones.
     Count(u64),
@@ -38,4 +48,8 @@ pub enum Answer {
     Whole(i128),
     /// A mean: the fraction `p/q` in lowest terms, with `q` at least 1.
     Ratio { p: i128, q: u64 },
+    /// A sum of squares.
+    Squares(Squares),
+    /// A variance: the fraction `p/q` in lowest terms, with `q` at least 1.
+    Variance { p: Wide, q: u128 },
 }

@@ -2,7 +2,7 @@
 ghost use Rattle.std.specs.Prelude.{◌≡◌, ◌++◌, codes, IfOk, OnOk, get_or, [], map};
 ghost use Rattle.std.specs.String.{string_bytes};
 ghost use Rattle.cube_core.specs.Layout.{spelling_of, spelled_with, last_digit, level_text, percentile_opening};
-ghost use Rattle.cube_core.specs.PartialForm.{AnswersPartial, has_aggregate, partial_aggregates, with_aggregate, with_parts};
+ghost use Rattle.cube_core.specs.PartialForm.{AnswersPartial, has_aggregate, partial_aggregates, with_aggregate, with_mean_parts, with_parts, with_variance_parts};
 
 use crate::aggregate::Agg;
 use crate::feed_columns::copy_columns;
@@ -11,15 +11,16 @@ use crate::schema_fault::SchemaFault;
 use crate::text::{Text, copy_texts};
 use std::alloc::{AllocError, Global};
 
-// The most aggregates of a schema: 16 of its document, and 2 for each measure.
-const MOST_AGGREGATES: usize = 24;
+// The most aggregates of a schema: 16 of its document, and 3 for each measure.
+const MOST_AGGREGATES: usize = 28;
 
 impl Schema {
     /// The partial form: the same schema with more aggregates, after its own for each `avg(m)` in their order `sum(m)`
-    /// and `count(m)`, where they aren't there yet. A mean can be made again from the sums and counts of several
-    /// cubes. The partial form of a partial form is itself.
+    /// and `count(m)`, and for each variance of m these and `sum_of_squares(m)`, where they aren't there yet. A mean and a
+    /// variance can be made again from the sums, the counts and the sums of squares of several cubes. The partial form of a
+    /// partial form is itself.
     ///
-    /// The error is that memory ran out, or `Aggregates` where there would be more than 24, which never happens to the
+    /// The error is that memory ran out, or `Aggregates` where there would be more than 28, which never happens to the
     /// schema of a document nor to its partial form.
     pub fn partial(&self, alloc: Global) -> Result<Schema, SchemaFault>
         ensures { AnswersPartial self.now result }
@@ -45,7 +46,7 @@ impl Schema {
     }
 }
 
-// The aggregates, and then what each mean among them is made of.
+// The aggregates, and then what each mean and each variance among them is made of.
 fn partial_aggregates(alloc: Global, aggregates: &[Agg]) -> Result<Vec<Agg>, AllocError>
     ensures { IfOk result (λ all. all.items ≡ partial_aggregates aggregates.now) }
 {
@@ -59,11 +60,25 @@ fn partial_aggregates(alloc: Global, aggregates: &[Agg]) -> Result<Vec<Agg>, All
 fn add_parts(aggregates: &mut Vec<Agg>, aggregate: &Agg) -> Result<(), AllocError>
     ensures { OnOk result (aggregates.new.items ≡ with_parts aggregates.old.items aggregate.now) }
 {
-    let Agg::Avg(measure) = aggregate else {
-        return Ok(());
-    };
-    add_missing(aggregates, Agg::Sum(*measure))?;
-    add_missing(aggregates, Agg::Count(*measure))
+    match aggregate {
+        Agg::Avg(measure) => add_mean_parts(aggregates, *measure),
+        Agg::VarPop(measure) | Agg::VarSamp(measure) => add_variance_parts(aggregates, *measure),
+        _ => Ok(()),
+    }
+}
+
+fn add_mean_parts(aggregates: &mut Vec<Agg>, measure: usize) -> Result<(), AllocError>
+    ensures { OnOk result (aggregates.new.items ≡ with_mean_parts aggregates.old.items measure) }
+{
+    add_missing(aggregates, Agg::Sum(measure))?;
+    add_missing(aggregates, Agg::Count(measure))
+}
+
+fn add_variance_parts(aggregates: &mut Vec<Agg>, measure: usize) -> Result<(), AllocError>
+    ensures { OnOk result (aggregates.new.items ≡ with_variance_parts aggregates.old.items measure) }
+{
+    add_mean_parts(aggregates, measure)?;
+    add_missing(aggregates, Agg::SumOfSquares(measure))
 }
 
 fn add_missing(aggregates: &mut Vec<Agg>, aggregate: Agg) -> Result<(), AllocError>
@@ -118,6 +133,9 @@ fn spelling_of(alloc: Global, measures: &[Text], aggregate: &Agg) -> Result<Text
             let opening = percentile_opening(alloc, *units, *places)?;
             spelled_after(alloc, opening, measures, *measure)
         }
+        Agg::SumOfSquares(measure) => spelled_with(alloc, "sum_of_squares", measures, *measure),
+        Agg::VarPop(measure) => spelled_with(alloc, "var_pop", measures, *measure),
+        Agg::VarSamp(measure) => spelled_with(alloc, "var_samp", measures, *measure),
     }
 }
 

@@ -1,7 +1,7 @@
 //! The schema of a cube.
 ghost use Rattle.std.specs.Prelude.{◌≡◌, ◌≤◌, ◌<◌, ◌+◌, ◌^◌, IfOk, IfSome, false, true, length, map, option_map};
 ghost use Rattle.std.specs.List.{list_all, list_any};
-ghost use Rattle.cube_core.specs.Layout.{IsRecordBound, IsSchema, decimals_of, sample_layout, keeps, is_holistic, needs_numbers, all_suffice};
+ghost use Rattle.cube_core.specs.Layout.{IsRecordBound, IsSchema, decimals_of, sample_layout, keeps, needs_each, needs_numbers, all_suffice};
 ghost use Rattle.cube_core.specs.Text.{digits_of};
 ghost use Rattle.cube_core.specs.SchemaDocument.{AnswersParts, layout_of_parts, named_parts};
 ghost use Rattle.cube_core.specs.Shard.{IsShard};
@@ -24,7 +24,7 @@ use std::alloc::{AllocError, Global};
 use std::marker::Model;
 
 /// The schema of a cube: 1 to 8 dimensions, 1 to 4 measures (or none, where the columns of feeds are known by name),
-/// 1 to 24 aggregates of these measures, and the number of data records that a feed may have, 1 to 4294967295.
+/// 1 to 28 aggregates of these measures, and the number of data records that a feed may have, 1 to 4294967295.
 ///
 /// All names differ, and none is empty, `op`, `id` or `*`.
 #[derive(Drop)]
@@ -170,7 +170,7 @@ impl Schema {
         self.measures.as_slice()
     }
 
-    /// The aggregates in order, each of a measure of this schema; 1 to 24.
+    /// The aggregates in order, each of a measure of this schema; 1 to 28.
     pub fn aggregates(&self) -> &[Agg]
         ensures value { result.now ≡ self.now.aggregates }
         ensures schema { IsSchema self.now }
@@ -239,8 +239,8 @@ impl Schema {
         }
     }
 
-    /// How many digits stand behind the point of an aggregate's answers, 0 to 18: as many as its measure may have. A count
-    /// has none.
+    /// How many digits stand behind the point of the numbers that an aggregate is of, 0 to 18: as many as its measure may
+    /// have. A count has none, and a sum of squares shows twice as many.
     pub fn digits_of(&self, aggregate: &Agg) -> u8
         ensures value { result ≡ digits_of self.now aggregate.now }
         ensures few { result ≤ 18 }
@@ -251,16 +251,20 @@ impl Schema {
             | Agg::Min(measure)
             | Agg::Max(measure)
             | Agg::Avg(measure)
-            | Agg::PercentileDisc { measure, .. } => self.decimals_of(*measure).unwrap_or(0),
+            | Agg::PercentileDisc { measure, .. }
+            | Agg::SumOfSquares(measure)
+            | Agg::VarPop(measure)
+            | Agg::VarSamp(measure) => self.decimals_of(*measure).unwrap_or(0),
         }
     }
 
-    /// Whether some aggregate is a distinct count or a percentile: what a cell must keep each number for that it counts.
+    /// Whether some aggregate is a distinct count, a percentile, a sum of squares or a variance: what a cell must keep each
+    /// number for that it counts.
     pub fn needs_numbers(&self) -> bool
         ensures needs { result ≡ needs_numbers self.now }
         ensures suffice { result ≡ false → all_suffice false self.now ≡ true }
     {
-        is_any_holistic(self.aggregates())
+        some_needs_each(self.aggregates())
     }
 
     /// The shard of each feed that is read: of the data records, those whose id is in it. A schema that was read is of
@@ -380,20 +384,25 @@ impl Schema {
     }
 }
 
-/// Whether an aggregate is of each of a measure's values, so that no summary of them gives it.
-fn is_holistic(aggregate: &Agg) -> bool
-    ensures { result ≡ is_holistic aggregate.now }
+/// Whether an aggregate needs each of a measure's values, and no summary of them gives it.
+fn needs_each(aggregate: &Agg) -> bool
+    ensures { result ≡ needs_each aggregate.now }
 {
-    matches!(
-        aggregate,
-        Agg::CountDistinct(_) | Agg::PercentileDisc { .. }
-    )
+    match aggregate {
+        Agg::CountDistinct(_)
+        | Agg::PercentileDisc { .. }
+        | Agg::SumOfSquares(_)
+        | Agg::VarPop(_)
+        | Agg::VarSamp(_) => true,
+        Agg::CountAll | Agg::Count(_) | Agg::Sum(_) | Agg::Min(_) | Agg::Max(_) | Agg::Avg(_) =>
+            false,
+    }
 }
 
-fn is_any_holistic(aggregates: &[Agg]) -> bool
-    ensures { result ≡ list_any is_holistic aggregates.now }
+fn some_needs_each(aggregates: &[Agg]) -> bool
+    ensures { result ≡ list_any needs_each aggregates.now }
 {
-    aggregates.iter().any(|agg| is_holistic(agg))
+    aggregates.iter().any(|agg| needs_each(agg))
 }
 
 // The mask of coordinates, which are at most 8.

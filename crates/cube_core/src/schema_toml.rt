@@ -7,7 +7,7 @@ ghost use Rattle.toml.specs.View.{view, table_view, items_view};
 ghost use Rattle.cube_core.specs.DecimalsDocument.{decimals_of_value};
 ghost use Rattle.cube_core.specs.FeedDocument.{texts_of, columns_of_value};
 ghost use Rattle.cube_core.specs.Layout.{is_listed, are_distinct, is_lawful_name};
-ghost use Rattle.cube_core.specs.SchemaDocument.{AnswersBytes, AnswersDocument, AnswersParts, known_keys, has_known_keys, texts_at, texts_in, measures_in, least_measures_in, is_some_up_to, is_number_of_measures, are_lawful_names, aggregate_spelled, are_spellings, record_limit, max_records_in, feed_version, version_in, sets_of_grouping};
+ghost use Rattle.cube_core.specs.SchemaDocument.{AnswersBytes, AnswersDocument, AnswersParts, known_keys, has_known_keys, texts_at, texts_in, measures_in, least_measures_in, is_some_up_to, is_number_of_measures, are_lawful_names, aggregate_spelled, are_spellings, record_limit, max_records_in, feed_version, version_in, sets_of_grouping, statistic_spelled};
 ghost use Rattle.cube_core.specs.declared.feed_columns.FeedColumns.{FeedColumns};
 
 mod decimals_table;
@@ -367,8 +367,25 @@ fn aggregate_spelled(measures: &[Text], text: &str) -> Option<Agg>
     if let Some(measure) = measure_spelled(measures, "avg(", text) {
         return Some(Agg::Avg(measure));
     }
+    statistic_spelled(measures, text)
+}
+
+/// The distinct count, the sum of squares, the variance or the percentile that a text spells.
+#[tactic(auto, using(crate::proofs::SchemaSpellingLaws::statistic_spelled_measure_in))]
+fn statistic_spelled(measures: &[Text], text: &str) -> Option<Agg>
+    ensures { result ≡ statistic_spelled measures.now text.now }
+{
     if let Some(measure) = measure_spelled(measures, "count(distinct ", text) {
         return Some(Agg::CountDistinct(measure));
+    }
+    if let Some(measure) = measure_spelled(measures, "sum_of_squares(", text) {
+        return Some(Agg::SumOfSquares(measure));
+    }
+    if let Some(measure) = measure_spelled(measures, "var_pop(", text) {
+        return Some(Agg::VarPop(measure));
+    }
+    if let Some(measure) = measure_spelled(measures, "var_samp(", text) {
+        return Some(Agg::VarSamp(measure));
     }
     percentile_spelled(measures, text)
 }

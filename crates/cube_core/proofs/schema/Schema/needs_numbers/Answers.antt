@@ -5,5 +5,5 @@ use Rattle.cube_core.proofs.schema.Schema.needs_numbers.Goals as goal
 
 pub returns-clause-suffice : goal.returns-clause-suffice
 returns-clause-suffice c =
-    let needs : c.is_any_holistic.result ≡ needs_numbers c.args.self.now = search rules in
+    let needs : c.some_needs_each.result ≡ needs_numbers c.args.self.now = search rules in
     λ none. all_suffice_plain c.args.self.now (sym needs ∙ none)
