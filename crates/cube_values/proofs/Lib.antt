@@ -7,8 +7,4 @@ pub mod GrownLaws
 mod LogLaws
 mod OwedLaws
 mod TableLaws
-mod WideLaws
-mod ReducedLaws
-pub mod DecimalLaws
-pub mod VarianceLaws
 pub mod StatisticsLaws

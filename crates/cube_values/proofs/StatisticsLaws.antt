@@ -1,4 +1,5 @@
--- Laws of the statistics of a bag: of how many numbers are below one, of the number at a place, of the numbers in order.
+-- Laws of the statistics of a bag: of how many numbers are below one, of the number at a place, of the numbers in order,
+-- of the sum of the squares.
 use Rattle.std.proofs.Common.{◌≡◌, ℕ, suc, zero, ◌+◌, ◌-◌, ◌*◌, ◌<◌, ◌≤◌, List, [], ◌∷◌, refl, arith, ap, sym, ◌∙◌}
 use Rattle.std.proofs.Common.{◌^◌, length, get_or, drop, true, false, cond, subst, to_z, of_z}
 use Rattle.std.specs.Prelude.{ℤ, pos, ◌+ℤ◌, ◌-ℤ◌, ◌<ℤ◌, ◌≤ℤ◌, All, nat_lt, filter}
@@ -20,7 +21,7 @@ use Rattle.cube_values.specs.Bag.{Bag, weight_of, one_at, held_of, size_of, Same
 use Rattle.cube_values.specs.Log.{IsOrdered}
 use Rattle.cube_values.specs.Narrow.{times_in, once_each}
 use Rattle.cube_values.specs.Statistics.{one_below, one_up_to, size_below, size_up_to, IsAtPlace, AreInOrder}
-use Rattle.cube_values.specs.Statistics.{HasDifferent, IsSpanOf}
+use Rattle.cube_values.specs.Statistics.{HasDifferent, IsSpanOf, squares_held}
 use Rattle.cube_values.proofs.BagLaws.{weight_of-cons, one_at-refl, one_at-distinct, int_eq-same, held_of-absent}
 use Rattle.cube_values.proofs.BagLaws.{size_of_same}
 use Rattle.cube_values.proofs.LogLaws.{int_eq-distinct, IsOrdered-count_before, SameHeld-filter}
@@ -540,3 +541,15 @@ IsWalkedTo-found bag k e pairs left walked le =
 -- there is one
 pub IsWalkedTo-end : (bag : Bag) (k left : ℕ) → IsWalkedTo bag k [] left → ⊥
 IsWalkedTo-end bag k left walked = omega (arith, walked.first, walked.last)
+
+-- ---- the sum of the squares
+-- the squares that a walk has added up, where these are the pairs that it has left: each number counts 2^126 at most
+pub record IsSquaredTo (bag left : Bag) (sum : ℕ) : Type 0 where
+  pub whole : sum + squares_held left ≡ squares_held bag
+  pub bound : sum + 2 ^ 126 * size_of left ≤ 2 ^ 126 * size_of bag
+
+-- those of a list fit
+pub IsSquaredTo-fits : (numbers : List ℤ) (left : Bag) (sum : ℕ) → IsSquaredTo (once_each numbers) left sum
+    → length numbers < 2 ^ 64 → sum < 2 ^ 255
+IsSquaredTo-fits numbers left sum squared fits =
+    omega (arith, squared.bound, size_of-once_each numbers, fits)

@@ -3,6 +3,4 @@ pub mod Narrow
 pub mod Summary
 pub mod Log
 pub mod Values
-pub mod Wide
-pub mod Variance
 pub mod Statistics

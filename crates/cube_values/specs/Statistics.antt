@@ -3,6 +3,7 @@ use Rattle.std.specs.Prelude.{◌≡◌, ℕ, ◌<◌, ◌≤◌, ◌<ℤ◌, �
 use Rattle.std.specs.Int.{w64}
 use Rattle.std.specs.Int.RustNames.{FitsSigned}
 use Rattle.std.specs.List.{AllPairs}
+use Rattle.cube_core.specs.Variance.{square}
 use Rattle.cube_values.specs.Bag.{Bag, SameHeld, weight_of, held_of}
 use Rattle.cube_values.specs.Narrow.{times_in}
 
@@ -21,6 +22,10 @@ size_below bag v = weight_of (one_below v) bag
 -- how many of the numbers are at most v (this project's choice)
 abbrev pub size_up_to : Bag → ℤ → ℕ
 size_up_to bag v = weight_of (one_up_to v) bag
+
+-- the sum of the squares of the numbers (SQL:2003 makes variances of it)
+abbrev pub squares_held : Bag → ℕ
+squares_held bag = weight_of square bag
 
 -- v stands at place k, counted from 1, of the numbers in order: fewer than k of them are below v, and at least k are at
 -- most v (where SQL:2003 has the value of a `PERCENTILE_DISC`)

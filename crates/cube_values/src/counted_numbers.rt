@@ -3,6 +3,7 @@ ghost use Rattle.std.specs.Prelude.{◌≡◌};
 
 use crate::counted::Counted;
 use crate::numbers::Numbers;
+use cube_core::Squares;
 use std::alloc::{AllocError, Global};
 
 impl Numbers for Counted {
@@ -50,5 +51,9 @@ impl Numbers for Counted {
 
     fn at_place(&self, place: u64) -> i64 {
         self.at_place(place)
+    }
+
+    fn squares(&self) -> Squares {
+        self.squares()
     }
 }

@@ -1,15 +1,14 @@
 //! Numbers that are kept: the multiset that clauses speak of, and the forms that keep one.
 //!
 //! [`Counted`] is a multiset of numbers, which makes the least and the greatest value right under deletes, and whose
-//! statistics are exact: its numbers in order, how many are different, and which stands at a place. It takes one of
-//! several forms, two of which are [`Single`], one number however often, and [`Narrow`], a list of numbers of 32 bits.
-//! [`Summary`] keeps how many there are, the least and the greatest, where no number is taken away; [`Numbers`] is what is
-//! asked of either.
+//! statistics are exact: its numbers in order, how many are different, which stands at a place, and the sum of their
+//! squares. It takes one of several forms, two of which are [`Single`], one number however often, and [`Narrow`], a list
+//! of numbers of 32 bits. [`Summary`] keeps how many there are, the least and the greatest, where no number is taken
+//! away; [`Numbers`] is what is asked of either.
 #![tactic(auto)]
 
 mod counted;
 mod counted_numbers;
-mod fraction;
 pub mod laws;
 mod log;
 mod narrow;
@@ -17,21 +16,15 @@ mod numbers;
 mod repeats;
 mod short;
 mod single;
+mod squares;
 mod summary;
 mod table;
 mod trace;
 mod up_to;
-mod variance;
-mod wide;
-mod wide_text;
 
 pub use counted::Counted;
-pub use fraction::reduced;
 pub use narrow::Narrow;
 pub use numbers::Numbers;
 pub use repeats::is_repetitive;
 pub use single::Single;
 pub use summary::Summary;
-pub use variance::{variance_from, variance_of};
-pub use wide::{Wide, square_of};
-pub use wide_text::push_decimal;

@@ -6,11 +6,13 @@ ghost use Rattle.std.specs.List.{HoldsAt, AllWithin};
 ghost use Rattle.cube_values.specs.Bag.{Bag, AddsBag, AddsOne, AddsTimes, SameHeld, held_of, size_of, HasLeast, HasGreatest, HasEnds};
 ghost use Rattle.cube_values.specs.Log.{Rises, IsJoined, IsOrdered, IsLastOf, IsCut, without, Covers, TakesAll};
 ghost use Rattle.cube_values.specs.Narrow.{times_in, once_each};
-ghost use Rattle.cube_values.specs.Statistics.{AreInOrder, size_up_to};
+ghost use Rattle.cube_values.specs.Statistics.{AreInOrder, size_up_to, squares_held};
 
 use crate::repeats::is_repetitive;
 use crate::short::{greatest_number, least_number};
+use crate::squares::{numbers_squares, pairs_squares};
 use crate::up_to::{numbers_up_to, pairs_up_to};
+use cube_core::Wide;
 use std::alloc::{AllocError, Global};
 use std::marker::Model;
 
@@ -178,6 +180,15 @@ impl Log {
         ensures { result ≡ size_up_to self.now value }
     {
         pairs_up_to(&self.pairs, value) - numbers_up_to(&self.taken, value)
+    }
+
+    /// The sum of the squares of the numbers; it looks at each pair, and at each number that is owed.
+    pub fn squares(&self) -> Wide
+        requires { size_of self.now < 2 ^ 64 }
+        ensures value { result ≡ squares_held self.now }
+        ensures bound { result < 2 ^ 190 }
+    {
+        pairs_squares(&self.pairs).minus(numbers_squares(&self.taken))
     }
 
     /// Adds `value` `times` times, and answers whether it did: not where the pairs are in order, nor where a table of

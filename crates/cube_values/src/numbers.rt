@@ -1,9 +1,10 @@
 //! Numbers that are added up.
 ghost use Rattle.std.specs.Prelude.{◌==◌, ℤ, ◌≡◌, ◌<◌, ◌≤◌, ◌+◌, ◌^◌, ◌↔◌, Bool, IsTrue, IsNone, IfOk, IfSome, OnOk, OnErr};
 ghost use Rattle.cube_values.specs.Bag.{Bag, AddsBag, AddsOne, held_of, size_of, HasLeast, HasGreatest};
-ghost use Rattle.cube_values.specs.Statistics.{HasDifferent, IsAtPlace};
+ghost use Rattle.cube_values.specs.Statistics.{HasDifferent, IsAtPlace, squares_held};
 
 use crate::summary::Summary;
+use cube_core::{Squares, Wide};
 use std::alloc::{AllocError, Global};
 
 /// Numbers that are added up: how many there are, the least and the greatest.
@@ -62,6 +63,10 @@ pub trait Numbers: Drop {
         requires first { 1 ≤ place }
         requires last { place ≤ size_of (bag self.now) }
         ensures { IsTrue keeps → IsAtPlace (bag self.now) place result };
+
+    /// The sum of the squares of the numbers, where each is kept. It takes no memory.
+    fn squares(&self) -> Squares
+        ensures { IsTrue keeps → result ≡ squares_held (bag self.now) };
 }
 
 impl Numbers for Summary {
@@ -110,5 +115,12 @@ impl Numbers for Summary {
     fn at_place(&self, place: u64) -> i64 {
         let _ = place;
         0
+    }
+
+    fn squares(&self) -> Squares {
+        match Squares::of(Wide::of(0)) {
+            Some(squares) => squares,
+            None => unreachable!(),
+        }
     }
 }

@@ -1,5 +1,5 @@
 //! A bag of many numbers: an ordered table.
-ghost use Rattle.std.specs.Prelude.{true, false, Ok, ◌≡◌, ◌<◌, ◌≤◌, ◌≤ℤ◌, ◌+◌, ◌^◌, ◌↔◌, [], ◌∷◌, None, Contains, All, IsNone, IsSome, IfSome, IfOk, OnOk, OnErr};
+ghost use Rattle.std.specs.Prelude.{true, false, Ok, ◌≡◌, ◌<◌, ◌≤◌, ◌≤ℤ◌, ◌+◌, ◌*◌, ◌^◌, ◌↔◌, [], ◌∷◌, None, Contains, All, IsNone, IsSome, IfSome, IfOk, OnOk, OnErr};
 ghost use Rattle.std.specs.Bool.{OnTrue, OnFalse};
 ghost use Rattle.std.specs.BTreeMap.{get};
 ghost use Rattle.std.specs.Map.{values_of, keys_of, lookup, set_value, remove_entry};
@@ -7,9 +7,11 @@ ghost use Rattle.std.specs.List.Sorted.{IsPermutation};
 ghost use Rattle.std.specs.Ordering.{int_cmp, int_eq};
 ghost use Rattle.cube_values.specs.Bag.{Bag, AddsOne, AddsTimes, SameHeld, held_of, size_of, HasLeast, HasGreatest};
 ghost use Rattle.cube_values.specs.Narrow.{once_each};
-ghost use Rattle.cube_values.specs.Statistics.{IsAtPlace, size_up_to};
+ghost use Rattle.cube_values.specs.Statistics.{IsAtPlace, size_up_to, squares_held};
 
+use crate::squares::pair_squares;
 use crate::up_to::pair_up_to;
+use cube_core::Wide;
 use std::alloc::{AllocError, Global};
 use std::collections::BTreeMap;
 use std::marker::Model;
@@ -95,6 +97,15 @@ impl Table {
         ensures { result ≡ size_up_to self.now value }
     {
         entries_up_to(&self.counts, value)
+    }
+
+    /// The sum of the squares of the numbers; it looks at each.
+    pub fn squares(&self) -> Wide
+        requires { size_of self.now < 2 ^ 64 }
+        ensures value { result ≡ squares_held self.now }
+        ensures bound { result ≤ 2 ^ 126 * size_of self.now }
+    {
+        entries_squares(&self.counts)
     }
 
     /// The number at a place, counted from 1, of the numbers in order; it passes over those before it.
@@ -188,6 +199,19 @@ fn entries_up_to(counts: &BTreeMap<i64, u64>, value: i64) -> u64
         total += pair_up_to((*number, *count), value);
     }
     total
+}
+
+// The sum of the squares of the numbers of entries.
+fn entries_squares(counts: &BTreeMap<i64, u64>) -> Wide
+    requires { size_of counts.now.entries < 2 ^ 64 }
+    ensures value { result ≡ squares_held counts.now.entries }
+    ensures bound { result ≤ 2 ^ 126 * size_of counts.now.entries }
+{
+    let mut sum = Wide::of(0);
+    for (number, count) in counts {
+        sum = sum.plus(pair_squares((*number, *count)));
+    }
+    sum
 }
 
 // The number of the entry that has a place.

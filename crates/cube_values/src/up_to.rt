@@ -34,8 +34,36 @@ pub fn numbers_up_to(numbers: &[i64], value: i64) -> u64
     count
 }
 
+// 1 where a number is at most `value`, and else 0.
+fn number_up_to(number: i32, value: i32) -> u64
+    ensures { result ≡ one_up_to value number * 1 }
+{
+    if number <= value { 1 } else { 0 }
+}
+
 /// How many numbers of a list of 32 bits are at most `value`.
 pub fn narrow_up_to(numbers: &[i32], value: i64) -> u64
+    ensures { result ≡ size_up_to (once_each numbers.now) value }
+{
+    match i32::try_from(value) {
+        Ok(value) => short_up_to(numbers, value),
+        Err(_) => any_up_to(numbers, value),
+    }
+}
+
+// The same of a value of 32 bits: several of them are compared at once.
+fn short_up_to(numbers: &[i32], value: i32) -> u64
+    ensures { result ≡ size_up_to (once_each numbers.now) value }
+{
+    let mut count = 0;
+    for number in numbers {
+        count += number_up_to(*number, value);
+    }
+    count
+}
+
+// The same of any value.
+fn any_up_to(numbers: &[i32], value: i64) -> u64
     ensures { result ≡ size_up_to (once_each numbers.now) value }
 {
     let mut count = 0;

@@ -1,12 +1,15 @@
-//! The statistics of a multiset: its numbers in order, how many different ones there are, and the number at a place.
+//! The statistics of a multiset: its numbers in order, how many different ones there are, the number at a place, and the
+//! sum of the squares.
 ghost use Rattle.std.specs.Prelude.{◌≡◌, ◌<◌, ◌≤◌, ◌≤ℤ◌, ◌+ℤ◌, ◌^◌, pos, IfOk};
 ghost use Rattle.cube_values.specs.Bag.{SameHeld, size_of};
-ghost use Rattle.cube_values.specs.Statistics.{AreInOrder, HasDifferent, IsAtPlace, IsSpanOf, size_up_to};
+ghost use Rattle.cube_values.specs.Statistics.{AreInOrder, HasDifferent, IsAtPlace, IsSpanOf, size_up_to, squares_held};
 ghost use Rattle.cube_values.specs.Values.{bag_of};
 
 use super::{Counted, Values};
 use crate::log::{pairs_of, put_in_order};
+use crate::squares::{narrow_squares, pair_squares, pairs_squares};
 use crate::up_to::{narrow_up_to, pair_up_to, pairs_up_to};
+use cube_core::{Squares, Wide};
 use std::alloc::{AllocError, Global};
 
 impl Counted {
@@ -43,6 +46,17 @@ impl Counted {
         let _len = self.len;
         number_in_span(&self.values, place, span_of(least, greatest))
     }
+
+    /// The sum of the squares of the numbers. It takes no memory, and looks at each pair.
+    pub fn squares(&self) -> Squares
+        ensures { result ≡ squares_held self.now }
+    {
+        let _len = self.len;
+        match Squares::of(squares(&self.values)) {
+            Some(squares) => squares,
+            None => unreachable!(),
+        }
+    }
 }
 
 // The numbers in order, each with how often it is held.
@@ -71,6 +85,21 @@ fn up_to(values: &Values, value: i64) -> u64
         Values::Narrow(narrow) => narrow_up_to(narrow.numbers(), value),
         Values::Logged(log) => log.up_to(value),
         Values::Many(table) => table.up_to(value),
+    }
+}
+
+// The sum of the squares of the numbers.
+fn squares(values: &Values) -> Wide
+    requires { size_of (bag_of values.now) < 2 ^ 64 }
+    ensures value { result ≡ squares_held (bag_of values.now) }
+    ensures bound { result < 2 ^ 190 }
+{
+    match values {
+        Values::One(single) => pair_squares(single.pair()),
+        Values::Few(short) => pairs_squares(short.pairs()),
+        Values::Narrow(narrow) => narrow_squares(narrow.numbers()),
+        Values::Logged(log) => log.squares(),
+        Values::Many(table) => table.squares(),
     }
 }
 

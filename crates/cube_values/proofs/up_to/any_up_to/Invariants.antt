@@ -1,7 +1,7 @@
 use Rattle.std.proofs.Common.{◌≡◌, ◌≤◌, ◌+◌, drop}
 use Rattle.cube_values.specs.Narrow.{once_each}
 use Rattle.cube_values.specs.Statistics.{size_up_to}
-use Rattle.cube_values.proofs.up_to.narrow_up_to.Given as goal
+use Rattle.cube_values.proofs.up_to.any_up_to.Given as goal
 
 abbrev pub invariant-loop-number : goal.invariant-loop-number
 invariant-loop-number l = (l.count ≤ l.number-index)

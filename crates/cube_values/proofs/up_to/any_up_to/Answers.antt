@@ -4,7 +4,7 @@ use Rattle.std.proofs.lemmas.List.{drop_all}
 use Rattle.cube_values.specs.Narrow.{once_each}
 use Rattle.cube_values.specs.Statistics.{one_up_to, size_up_to}
 use Rattle.cube_values.proofs.StatisticsLaws.{one_up_to-size, size_up_to-drop_once}
-use Rattle.cube_values.proofs.up_to.narrow_up_to.Goals as goal
+use Rattle.cube_values.proofs.up_to.any_up_to.Goals as goal
 
 pub loop-number-preserved : goal.loop-number-preserved
 loop-number-preserved c =

@@ -1,4 +1,0 @@
-use Rattle.cube_values.proofs.wide_text.+push_short.Given as goal
-
-abbrev pub decreases-push_short : goal.decreases-push_short
-decreases-push_short l = l.number
