@@ -2,7 +2,7 @@
 ghost use Rattle.std.specs.Prelude.{◌≡◌, ◌<◌, ◌≤◌, ◌+◌, ◌^◌, [], ℕ, false, true, List, length, All, IsTrue, IfOk, IfErr, OnOk, OnErr, take};
 ghost use Rattle.std.specs.Option.{ForSome};
 ghost use Rattle.cube_core.specs.Answer.{IsAnswer};
-ghost use Rattle.cube_core.specs.Layout.{is_aggregate_of, is_holistic, suffices};
+ghost use Rattle.cube_core.specs.Layout.{is_aggregate_of, needs_each, suffices};
 ghost use Rattle.cube_core.specs.declared.fact.Fact.{Fact};
 ghost use Rattle.cube_values.specs.Bag.{size_of, held_of};
 ghost use Rattle.cube_cells.specs.Tally.{IsTallyOf, AddsBags, AddsValues, PlusFact, PlusTally, SameBags, SameTally, bag_at, value_at, hold_values, holds_fact};
@@ -146,12 +146,12 @@ impl<N: Numbers> Cell<N> {
         }
     }
 
-    /// The answer of an aggregate that is not holistic over any facts that this is the tally of. `count`, `sum` and `avg` are
-    /// kept; `min` and `max` may look at each of the different values of the measure where these are [`Counted`], and are
-    /// kept by a [`Summary`](crate::Summary).
+    /// The answer of an aggregate that a summary gives over any facts that this is the tally of. `count`, `sum` and `avg`
+    /// are kept; `min` and `max` may look at each of the different values of the measure where these are [`Counted`], and
+    /// are kept by a [`Summary`](crate::Summary).
     pub fn answer(&self, agg: &Agg) -> Answer
         requires measure { IsTrue (is_aggregate_of (length self.now.bags) agg.now) }
-        requires summary { is_holistic agg.now ≡ false }
+        requires summary { needs_each agg.now ≡ false }
         ensures { (facts : List Fact) → IsTallyOf facts self.now → IsAnswer facts agg.now result }
     {
         match agg {
@@ -161,12 +161,16 @@ impl<N: Numbers> Cell<N> {
             Agg::Min(measure) => self.measures[*measure].least(),
             Agg::Max(measure) => self.measures[*measure].greatest(),
             Agg::Avg(measure) => self.measures[*measure].mean(),
-            Agg::CountDistinct(_) | Agg::PercentileDisc { .. } => Answer::Null,
+            Agg::CountDistinct(_)
+            | Agg::PercentileDisc { .. }
+            | Agg::SumOfSquares(_)
+            | Agg::VarPop(_)
+            | Agg::VarSamp(_) => Answer::Null,
         }
     }
 
-    /// The answer of any aggregate over any facts that this is the tally of; a holistic one needs numbers that are kept. The
-    /// only error is that memory ran out, in which the different values of a measure are put in order.
+    /// The answer of any aggregate over any facts that this is the tally of; one that needs each value does so where they
+    /// are kept. The only error is that memory ran out, in which the different values of a measure are put in order.
     pub fn try_answer(&self, agg: &Agg) -> Result<Answer, AllocError>
         requires measure { IsTrue (is_aggregate_of (length self.now.bags) agg.now) }
         requires keeps { suffices N.keeps agg.now ≡ true }
@@ -180,6 +184,9 @@ impl<N: Numbers> Cell<N> {
                 units,
                 places,
             } => Ok(self.measures[*measure].percentile(*units, *places)),
+            Agg::SumOfSquares(measure) => Ok(self.measures[*measure].sum_of_squares()),
+            Agg::VarPop(measure) => Ok(self.measures[*measure].variance(false)),
+            Agg::VarSamp(measure) => Ok(self.measures[*measure].variance(true)),
             _ => Ok(self.answer(agg)),
         }
     }

@@ -2,14 +2,14 @@
 ghost use Rattle.std.specs.Prelude.{◌≡◌, ◌<◌, ◌≤◌, ◌+◌, ◌+ℤ◌, ◌-ℤ◌, ◌^◌, true, List, IsTrue, IfNone, IfOk, IfSome, OnOk, OnErr, ℤ, FitsSigned};
 ghost use Rattle.std.specs.Int.{w128};
 ghost use Rattle.std.specs.Option.{ForSome};
-ghost use Rattle.cube_core.specs.Answer.{IsSum, IsLeast, IsGreatest, IsMean, IsDistinctCount, IsPercentile, percentile_place};
+ghost use Rattle.cube_core.specs.Answer.{IsSum, IsLeast, IsGreatest, IsMean, IsDistinctCount, IsPercentile, IsSumOfSquares, IsVarianceAnswer, percentile_place};
 ghost use Rattle.cube_core.specs.Fraction.{IsInLowestTerms};
 ghost use Rattle.cube_core.specs.Layout.{is_level};
 ghost use Rattle.cube_core.specs.declared.aggregate.Answer.TheVariants.{Null, Whole};
 ghost use Rattle.cube_values.specs.Bag.{AddsBag, size_of, held_of};
 ghost use Rattle.cube_cells.specs.Tally.{AddsValue, IsBagOf, holds_value};
 
-use cube_core::{Answer, reduced};
+use cube_core::{Answer, reduced, variance_from};
 use cube_values::{Counted, Numbers};
 use std::alloc::{AllocError, Global};
 use std::marker::Model;
@@ -141,6 +141,30 @@ impl<N: Numbers> Measure<N> {
         }
         let place = percentile_place(units, places, self.values.len());
         Answer::Whole(i128::from(self.values.at_place(place)))
+    }
+
+    /// The sum of the squares of the values, null where there is none. It takes no memory.
+    pub fn sum_of_squares(&self) -> Answer
+        requires { IsTrue N.keeps }
+        ensures { (values : List ℤ) → IsBagOf values self.now → IsSumOfSquares values result }
+    {
+        if self.values.is_empty() {
+            return Answer::Null;
+        }
+        Answer::Squares(self.values.squares())
+    }
+
+    /// The variance of the values, of the population or of a sample, null where nothing is left to divide by. It takes no
+    /// memory.
+    pub fn variance(&self, is_sample: bool) -> Answer
+        requires { IsTrue N.keeps }
+        ensures { (values : List ℤ) → IsBagOf values self.now → IsVarianceAnswer is_sample values result }
+    {
+        let squares = self.values.squares();
+        match variance_from(self.values.len(), self.sum, squares, is_sample) {
+            Some((p, q)) => Answer::Variance { p, q },
+            None => Answer::Null,
+        }
     }
 }
 

@@ -1,5 +1,6 @@
--- Laws of the statistics of tallies: how many values are different, and which stands at the place of a percentile.
-use Rattle.std.proofs.Common.{◌≡◌, ℕ, ◌+◌, ◌<◌, ◌≤◌, List, [], ◌∷◌, true, false, refl, arith, ap, sym, ◌∙◌}
+-- Laws of the statistics of tallies: how many values are different, which stands at the place of a percentile, the sum of
+-- their squares, and their variance.
+use Rattle.std.proofs.Common.{◌≡◌, ℕ, ◌+◌, ◌-◌, ◌*◌, ◌<◌, ◌≤◌, List, [], ◌∷◌, Bool, true, false, refl, arith, ap, sym, ◌∙◌}
 use Rattle.std.proofs.Common.{subst, length, inl, inr}
 use Rattle.std.specs.Prelude.{ℤ, if◌then◌else◌, int_lt, count_by, Contains}
 use Rattle.std.specs.List.{AllByRecursion}
@@ -11,14 +12,19 @@ use Rattle.std.proofs.lemmas.Int.{ints}
 use Rattle.std.proofs.lemmas.List.Elements.{All-contains}
 use Rattle.std.proofs.lemmas.List.Sums.{sum_by-cons}
 use Rattle.cube_core.specs.Answer.{IsDistinctCount, IsPercentile, StandsAt, below, at_most, percentile_place}
+use Rattle.cube_core.specs.Answer.{IsSumOfSquares, IsVarianceAnswer}
+use Rattle.cube_core.specs.Variance.{freedom_of, square}
+use Rattle.cube_core.specs.Wide.{IsReduced}
 use Rattle.cube_core.specs.declared.aggregate.Answer.TheVariants as answer
 use Rattle.cube_core.proofs.ListLaws.{Contains-AllByRecursion, AllByRecursion-Contains, sum_by-same}
+use Rattle.cube_core.proofs.VarianceLaws.{IsVariance-sums}
 use Rattle.cube_values.specs.Bag.{Bag, held_of, size_of, one_at}
 use Rattle.cube_values.specs.Narrow.{times_in}
-use Rattle.cube_values.specs.Statistics.{HasDifferent, IsAtPlace, one_below, one_up_to, size_below, size_up_to}
+use Rattle.cube_values.specs.Statistics.{HasDifferent, IsAtPlace, one_below, one_up_to, size_below, size_up_to, squares_held}
+use Rattle.cube_cells.specs.Sum.{IsSumOf}
 use Rattle.cube_cells.specs.Tally.{IsBagOf}
 use Rattle.cube_cells.proofs.Tallies.TallyLaws.{weight_of-IsBagOf, size_of-IsBagOf, IsBagOf-nil, Contains-count_by}
-use Rattle.cube_cells.proofs.Tallies.TallyLaws.{All-count_by}
+use Rattle.cube_cells.proofs.Tallies.TallyLaws.{All-count_by, total_of-IsSumOf}
 use Rattle.cube_values.proofs.BagLaws.{one_at-refl}
 use Rattle.cube_values.proofs.StatisticsLaws.{one_if}
 
@@ -193,3 +199,29 @@ IsPercentile-Whole units places (w ∷ values) bag v is some at = (
   StandsAt-IsAtPlace (w ∷ values) bag (percentile_place units places (length (w ∷ values))) v is
       (subst (λ n. IsAtPlace bag (percentile_place units places n) v) (size_of-IsBagOf (w ∷ values) bag is) at),
 )
+
+-- ---- the sum of the squares
+pub IsSumOfSquares-Null : (values : List ℤ) (bag : Bag) → IsBagOf values bag → size_of bag ≡ 0
+    → IsSumOfSquares values answer.Null
+IsSumOfSquares-Null values bag is none = rw (IsBagOf-nil values bag is none) refl
+
+pub IsSumOfSquares-Squares : (values : List ℤ) (bag : Bag) (n : ℕ) → IsBagOf values bag → 0 < size_of bag
+    → n ≡ squares_held bag → IsSumOfSquares values (answer.Squares n)
+IsSumOfSquares-Squares [] bag n is some squares = absurd (omega (arith, some, size_of-IsBagOf [] bag is))
+IsSumOfSquares-Squares (v ∷ values) bag n is some squares =
+    ap answer.Squares (squares ∙ weight_of-IsBagOf square (v ∷ values) bag is)
+
+-- ---- the variance
+pub IsVarianceAnswer-Null : (is_sample : Bool) (values : List ℤ) (bag : Bag) → IsBagOf values bag
+    → freedom_of is_sample (size_of bag) ≡ 0 → IsVarianceAnswer is_sample values answer.Null
+IsVarianceAnswer-Null is_sample values bag is none =
+    subst (λ n. freedom_of is_sample n ≡ 0) (size_of-IsBagOf values bag is) none
+
+pub IsVarianceAnswer-Variance : (is_sample : Bool) (values : List ℤ) (bag : Bag) (sum : ℤ) (p q : ℕ) → IsBagOf values bag
+    → IsSumOf bag sum
+    → IsReduced (size_of bag * squares_held bag - square sum) (size_of bag * freedom_of is_sample (size_of bag)) p q
+    → IsVarianceAnswer is_sample values (answer.Variance p q)
+IsVarianceAnswer-Variance is_sample values bag sum p q is kept reduced =
+    IsVariance-sums values is_sample p q
+    (rw (total_of-IsSumOf values bag sum is kept, ← size_of-IsBagOf values bag is, ← weight_of-IsBagOf square values bag is)
+    reduced)

@@ -1,4 +1,4 @@
-use Rattle.std.proofs.Common.{rules, arith, ◌≡◌, [], length}
+use Rattle.std.proofs.Common.{rules, arith, ◌≡◌, []}
 use Rattle.std.proofs.lemmas.List.{length-map}
 use Rattle.cube_cells.proofs.Filling.ShareLaws.{HasShare-all, HasShare-none}
 use Rattle.cube_cells.proofs.cube.shares.share_cells.Goals as goal

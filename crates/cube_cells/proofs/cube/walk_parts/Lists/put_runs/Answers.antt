@@ -1,6 +1,5 @@
-use Rattle.std.proofs.Common.{◌≡◌, ◌<◌, ◌≤◌, ◌∷◌, ◌++◌, [], arith, false, get_or, length, subst, sym, ap, ◌∙◌, List}
-use Rattle.std.specs.Prelude.{slice_range}
-use Rattle.cube_cells.specs.BottomUp.{CanWalk, cells_of_items, run_of}
+use Rattle.std.proofs.Common.{◌≤◌, ◌∷◌, ◌++◌, [], arith, false, length, subst, sym, ap, ◌∙◌}
+use Rattle.cube_cells.specs.BottomUp.{CanWalk, cells_of_items}
 use Rattle.cube_cells.specs.Coded.{CodedCells}
 use Rattle.cube_cells.specs.WalkParts.{CanWalkPart, PartOfWalk, PutsRuns, cells_of_lists, part_of}
 use Rattle.cube_cells.proofs.Filling.BottomUpLaws.{cells_of_items-range, length-cells_of_items}

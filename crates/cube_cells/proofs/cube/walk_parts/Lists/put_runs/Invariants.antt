@@ -1,6 +1,5 @@
-use Rattle.std.proofs.Common.{◌-◌, ◌≡◌, ◌∷◌, [], get_or, length}
+use Rattle.std.proofs.Common.{◌-◌, [], length}
 use Rattle.cube_cells.specs.BottomUp.{cells_of_items}
-use Rattle.cube_cells.specs.WalkParts.{cells_of_lists}
 use Rattle.cube_cells.proofs.Filling.PartLaws.{IsCutting}
 use Rattle.cube_cells.proofs.cube.walk_parts.Lists.put_runs.Given as goal
 
