@@ -1,5 +1,6 @@
 pub mod AnswerTextsLaws
 mod AppendLaws
+mod LongUnitLaws
 mod ParseLaws
 mod PieceLaws
 pub mod ScaleLaws

@@ -17,18 +17,17 @@ use Rattle.cube_core.specs.declared.aggregate.Answer.{Answer}
 use Rattle.cube_core.specs.declared.key.Coord.{Coord}
 use Rattle.cube_core.specs.declared.key.Row.{Row}
 use Rattle.cube_lines.proofs.AnswerTextsLaws.{answer_texts-push}
-use Rattle.cube_lines.proofs.UnitTextLaws.{decimal-more, padded-more, pointed-parts}
+use Rattle.cube_lines.proofs.UnitTextLaws.{padded-more, pointed-parts}
 use Rattle.cube_lines.specs.Parts.{key_parts, part, parts}
 use Rattle.cube_lines.proofs.TextLaws.{escaped-quote}
 
 -- digits and one more of them
-pub digits-more : (start text : List ℕ) (n d i b : ℕ) → i < length text → b ≡ get_or text i b → b ≡ 48 + d → d < 10
-    → 1 ≤ n → n * 10 + d < 10 ^ 64
-    → start ++ take i text ≡ decimal n → start ++ take (i + 1) text ≡ decimal (n * 10 + d)
-digits-more start text n d i b inside b_is digit small some fits so_far =
+pub digits-more : (start text digits more : List ℕ) (d i b : ℕ) → i < length text → b ≡ get_or text i b → b ≡ 48 + d
+    → more ≡ digits ++ (48 + d) ∷ []
+    → start ++ take i text ≡ digits → start ++ take (i + 1) text ≡ more
+digits-more start text digits more d i b inside b_is digit more_is so_far =
     ap (λ t. start ++ t) (take_more text i b inside) ∙ sym (append_assoc start (take i text) (get_or text i b ∷ []))
-    ∙ ap (λ t. t ++ get_or text i b ∷ []) so_far ∙ ap (λ x. decimal n ++ x ∷ []) (sym b_is ∙ digit)
-    ∙ sym (decimal-more n d some small fits)
+    ∙ ap (λ t. t ++ get_or text i b ∷ []) so_far ∙ ap (λ x. digits ++ x ∷ []) (sym b_is ∙ digit) ∙ sym more_is
 
 -- digits, and what is left
 pub digits-end : (start text rest number : List ℕ) (i : ℕ) → start ++ take i text ≡ number → rest ≡ drop i text

@@ -6,8 +6,7 @@ use Rattle.std.proofs.Common.{◌*◌, ◌-◌, ◌/◌, ◌==◌}
 use Rattle.std.specs.List.{list_any}
 use Rattle.std.specs.Int.{w128}
 use Rattle.std.specs.Fmt.{signed_decimal}
-use Rattle.std.proofs.lemmas.Bool.{cases_Bool, ne_eqb, or_parts}
-use Rattle.std.proofs.lemmas.Fmt.{decimal_by_steps_wide}
+use Rattle.std.proofs.lemmas.Bool.{cases_Bool, cases_lt, ne_eqb, or_parts}
 use Rattle.std.proofs.lemmas.Grind.{flat_map-append}
 use Rattle.std.proofs.lemmas.Int.{ints}
 use Rattle.std.proofs.lemmas.List.{append-nil, append_cancel_right, length-map, take-append-drop, take_more, map-append}
@@ -18,7 +17,10 @@ use Rattle.csv.specs.Writing.{row_body, row_text}
 use Rattle.csv.proofs.WriteFacts.{escaped-append, escaped-other}
 use Rattle.cube_core.specs.Layout.{Layout}
 use Rattle.cube_core.specs.Text.{answer_texts, common_with_ten, coord_text, digits_of_answers, fraction_text}
-use Rattle.cube_core.specs.Text.{grouping_text, line, padded, row_fields, row_line, signed_units_text, units_text}
+use Rattle.cube_core.specs.Text.{grouping_text, line, long_units_text, padded, pointed, row_fields, row_line}
+use Rattle.cube_core.specs.Text.{signed_units_text, units_text}
+use Rattle.cube_core.specs.Wide.{long_decimal}
+use Rattle.cube_core.proofs.LongDecimalLaws.{long_decimal_digit, long_decimal_is_decimal, long_decimal_step}
 use Rattle.cube_core.specs.declared.key.Row.{Row}
 use Rattle.cube_lines.specs.Parts.{AddsParts, EndsLine, part, parts}
 
@@ -169,16 +171,28 @@ plain-digit b high = rw (
   ne_eqb b 10 (λ e. omega arith),
 ) refl
 
+plain-more-digit : (digits : List ℕ) (d : ℕ) → needs_quotes default_writer digits ≡ false
+    → needs_quotes default_writer (digits ++ (48 + d) ∷ []) ≡ false
+plain-more-digit digits d plain = rw (
+  list_any-append (needs_byte default_writer) digits ((48 + d) ∷ []),
+  plain,
+  plain-digit (48 + d) (omega arith),
+) refl
+
+plain-steps : (steps n : ℕ) → n < steps → needs_quotes default_writer (long_decimal n) ≡ false
+plain-steps zero n below = absurd (omega (arith, below))
+plain-steps (suc steps) n below = elim (cases_lt n 10) [
+  | inl short ↦ rw (long_decimal_digit n short, plain-digit (48 + n) (omega arith)) refl
+  | inr long ↦
+      rw (long_decimal_step n long)
+      (plain-more-digit (long_decimal (n / 10)) (n % 10) (plain-steps steps (n / 10) (omega (arith, below, long))))
+]
+
+pub plain-long_decimal : (n : ℕ) → needs_quotes default_writer (long_decimal n) ≡ false
+plain-long_decimal n = plain-steps (suc n) n (omega arith)
+
 pub plain-decimal : (n : ℕ) → n < 10 ^ 64 → needs_quotes default_writer (decimal n) ≡ false
-plain-decimal n small =
-    decimal_by_steps_wide (λ _ ds. list_any (needs_byte default_writer) ds ≡ false)
-    (λ d _. rw (plain-digit (48 + d) (omega arith)) refl)
-    (λ m ds _ before. rw (
-      list_any-append (needs_byte default_writer) ds ((48 + m % 10) ∷ []),
-      before,
-      plain-digit (48 + m % 10) (omega arith),
-    ) refl)
-    n small
+plain-decimal n small = rw (← long_decimal_is_decimal n small) (plain-long_decimal n)
 
 pub plain-signed_decimal : (z : ℤ) → FitsSigned w128 z → needs_quotes default_writer (signed_decimal z) ≡ false
 plain-signed_decimal (pos n) fits = plain-decimal n (omega (arith, ints))
@@ -214,14 +228,25 @@ plain-point i digits plain =
       both.1,
     ) refl
 
+plain-pointed : (k : ℕ) (digits : List ℕ) → needs_quotes default_writer digits ≡ false
+    → needs_quotes default_writer (pointed k (padded (k + 1) digits)) ≡ false
+plain-pointed k digits plain =
+    plain-point (length (padded (k + 1) digits) - k) (padded (k + 1) digits) (rw (
+      list_any-append (needs_byte default_writer) (replicate (k + 1 - length digits) 48) digits,
+      plain-zeros (k + 1 - length digits),
+      plain,
+    ) refl)
+
 plain-units : (k n : ℕ) → n < 10 ^ 64 → needs_quotes default_writer (units_text k n) ≡ false
 plain-units k n small = elim (cases_Bool (k == 0)) [
   | inl none ↦ rw none (plain-decimal n small)
-  | inr some ↦ rw some (plain-point (length (padded (k + 1) (decimal n)) - k) (padded (k + 1) (decimal n)) (rw (
-    list_any-append (needs_byte default_writer) (replicate (k + 1 - length (decimal n)) 48) (decimal n),
-    plain-zeros (k + 1 - length (decimal n)),
-    plain-decimal n small,
-  ) refl))
+  | inr some ↦ rw some (plain-pointed k (decimal n) (plain-decimal n small))
+]
+
+pub plain-long_units : (k n : ℕ) → needs_quotes default_writer (long_units_text k n) ≡ false
+plain-long_units k n = elim (cases_Bool (k == 0)) [
+  | inl none ↦ rw none (plain-long_decimal n)
+  | inr some ↦ rw some (plain-pointed k (long_decimal n) (plain-long_decimal n))
 ]
 
 pub plain-signed_units : (k : ℕ) (z : ℤ) → FitsSigned w128 z
@@ -264,6 +289,16 @@ plain-fraction_text k p q fits small few =
       list_any-append (needs_byte default_writer) (signed_decimal numerator) (codes "/"),
       plain-signed numerator short,
       plain-decimal (q * (10 ^ k / common)) (omega (arith, product)),
+    ) refl
+
+pub plain-long_fraction : (p q : ℕ)
+    → needs_quotes default_writer (long_decimal p ++ codes "/" ++ long_decimal q) ≡ false
+plain-long_fraction p q =
+    rw (
+      list_any-append (needs_byte default_writer) (long_decimal p ++ codes "/") (long_decimal q),
+      list_any-append (needs_byte default_writer) (long_decimal p) (codes "/"),
+      plain-long_decimal p,
+      plain-long_decimal q,
     ) refl
 
 -- what a row shows of its key, its answers, and the line's end

@@ -3,12 +3,14 @@ use Rattle.std.proofs.Common.{◌≡◌, ◌≢◌, ◌+◌, ◌-◌, ◌*◌, �
 use Rattle.std.proofs.Common.{ℤ, pos, negsuc, ◌<ℤ◌, ◌≤ℤ◌, unsigned_abs}
 use Rattle.std.specs.Fmt.{signed_decimal}
 use Rattle.std.proofs.lemmas.Int.{ints}
-use Rattle.std.proofs.Common.{ap, ◌∙◌, arith, append_assoc, codes, decimal, drop, length, length-append, replicate, take}
-use Rattle.std.proofs.lemmas.Fmt.{decimal_by_steps_wide, decimal_digit, decimal_step_wide}
+use Rattle.std.proofs.Common.{ap, ◌∙◌, arith, inl, inr, append_assoc, codes, decimal, drop, length, length-append}
+use Rattle.std.proofs.Common.{replicate, take}
 use Rattle.std.proofs.lemmas.List.{length-replicate, replicate_more}
 use Rattle.std.proofs.Math.Seq.{drop-append_seam, take-append_seam}
-use Rattle.std.proofs.lemmas.Bool.{ne_eqb}
+use Rattle.std.proofs.lemmas.Bool.{cases_lt, ne_eqb}
 use Rattle.cube_core.specs.Text.{padded, pointed, signed_units_text, units_text}
+use Rattle.cube_core.specs.Wide.{long_decimal}
+use Rattle.cube_core.proofs.LongDecimalLaws.{long_decimal_digit, long_decimal_is_decimal, long_decimal_step}
 
 -- more digits than stand behind the point
 pub pointed-long : (k : ℕ) (digits : List ℕ) → k < length digits
@@ -36,12 +38,12 @@ units-whole k n none = rw none refl
 pub units-pointed : (k n : ℕ) → k ≢ 0 → units_text k n ≡ pointed k (padded (k + 1) (decimal n))
 units-pointed k n some = rw (ne_eqb k 0 some) refl
 
--- three parts, put down one after another
-pub three-parts : (old p q all a b c : List ℕ) → a ≡ old ++ p → b ≡ a ++ 47 ∷ [] → c ≡ b ++ q
-    → p ++ codes "/" ++ q ≡ all → c ≡ old ++ all
-three-parts old p q all a b c a_is b_is c_is all_is =
-    c_is ∙ ap (λ t. t ++ q) (b_is ∙ ap (λ t. t ++ 47 ∷ []) a_is ∙ append_assoc old p (47 ∷ []))
-    ∙ append_assoc old (p ++ 47 ∷ []) q ∙ ap (λ t. old ++ t) all_is
+-- three parts, put down one after another, the second of one byte
+pub three-parts : (byte : ℕ) (old p q all a b c : List ℕ) → a ≡ old ++ p → b ≡ a ++ byte ∷ [] → c ≡ b ++ q
+    → (p ++ byte ∷ []) ++ q ≡ all → c ≡ old ++ all
+three-parts byte old p q all a b c a_is b_is c_is all_is =
+    c_is ∙ ap (λ t. t ++ q) (b_is ∙ ap (λ t. t ++ byte ∷ []) a_is ∙ append_assoc old p (byte ∷ []))
+    ∙ append_assoc old (p ++ byte ∷ []) q ∙ ap (λ t. old ++ t) all_is
 
 -- digits with none missing
 pub padded-enough : (least : ℕ) (digits : List ℕ) → least ≤ length digits → padded least digits ≡ digits
@@ -58,32 +60,49 @@ padded-push least d digits =
     ∙ sym (append_assoc (replicate (least - length digits) 48) digits (d ∷ []))
 
 -- one more digit of a number that isn't 0
-pub decimal-more : (n d : ℕ) → 1 ≤ n → d < 10 → n * 10 + d < 10 ^ 64 → decimal (n * 10 + d) ≡ decimal n ++ (48 + d) ∷ []
-decimal-more n d some digit small =
+pub long_decimal-more : (n d : ℕ) → 1 ≤ n → d < 10 → long_decimal (n * 10 + d) ≡ long_decimal n ++ (48 + d) ∷ []
+long_decimal-more n d some digit =
     let front : (n * 10 + d) / 10 ≡ n = omega (arith, digit) in
     let last : (n * 10 + d) % 10 ≡ d = omega (arith, digit) in
-    decimal_step_wide (n * 10 + d) (omega (arith, some)) small
-    ∙ ap (λ m. decimal m ++ (48 + (n * 10 + d) % 10) ∷ []) front ∙ ap (λ m. decimal n ++ (48 + m) ∷ []) last
+    long_decimal_step (n * 10 + d) (omega (arith, some))
+    ∙ ap (λ m. long_decimal m ++ (48 + (n * 10 + d) % 10) ∷ []) front ∙ ap (λ m. long_decimal n ++ (48 + m) ∷ []) last
+
+pub decimal-more : (n d : ℕ) → 1 ≤ n → d < 10 → n * 10 + d < 10 ^ 64 → decimal (n * 10 + d) ≡ decimal n ++ (48 + d) ∷ []
+decimal-more n d some digit small =
+    sym (long_decimal_is_decimal (n * 10 + d) small) ∙ long_decimal-more n d some digit
+    ∙ ap (λ t. t ++ (48 + d) ∷ []) (long_decimal_is_decimal n (omega (arith, small)))
 
 -- one more digit of a number with zeros before it
-pub padded-more : (least n d : ℕ) → 1 ≤ least → d < 10 → n * 10 + d < 10 ^ 64
-    → padded (least + 1) (decimal (n * 10 + d)) ≡ padded least (decimal n) ++ (48 + d) ∷ []
-padded-more least zero d some digit small =
-    let one : decimal (0 * 10 + d) ≡ (48 + d) ∷ [] = ap decimal (omega arith) ∙ decimal_digit d digit in
-    let none : decimal 0 ≡ 48 ∷ [] = decimal_digit 0 (omega arith) in
+pub long_padded-more : (least n d : ℕ) → 1 ≤ least → d < 10
+    → padded (least + 1) (long_decimal (n * 10 + d)) ≡ padded least (long_decimal n) ++ (48 + d) ∷ []
+long_padded-more least zero d some digit =
+    let one : long_decimal (0 * 10 + d) ≡ (48 + d) ∷ [] = ap long_decimal (omega arith) ∙ long_decimal_digit d digit in
+    let none : long_decimal 0 ≡ 48 ∷ [] = long_decimal_digit 0 (omega arith) in
     let last : least - 1 + 1 ≡ least = omega (arith, some) in
-    let zeros : padded least (decimal 0) ≡ replicate least 48 =
+    let zeros : padded least (long_decimal 0) ≡ replicate least 48 =
     ap (padded least) none ∙ replicate_more (least - 1) 48 ∙ ap (λ n. replicate n 48) last in
     ap (padded (least + 1)) one ∙ ap (λ n. replicate n 48 ++ (48 + d) ∷ []) (omega arith)
     ∙ ap (λ t. t ++ (48 + d) ∷ []) (sym zeros)
-padded-more least (suc n) d some digit small =
-    ap (padded (least + 1)) (decimal-more (suc n) d (omega arith) digit small) ∙ padded-push least (48 + d) (decimal (suc n))
+long_padded-more least (suc n) d some digit =
+    ap (padded (least + 1)) (long_decimal-more (suc n) d (omega arith) digit)
+    ∙ padded-push least (48 + d) (long_decimal (suc n))
+
+pub padded-more : (least n d : ℕ) → 1 ≤ least → d < 10 → n * 10 + d < 10 ^ 64
+    → padded (least + 1) (decimal (n * 10 + d)) ≡ padded least (decimal n) ++ (48 + d) ∷ []
+padded-more least n d some digit small =
+    ap (padded (least + 1)) (sym (long_decimal_is_decimal (n * 10 + d) small)) ∙ long_padded-more least n d some digit
+    ∙ ap (λ t. padded least t ++ (48 + d) ∷ []) (long_decimal_is_decimal n (omega (arith, small)))
 
 -- a number has a digit
+pub long_decimal-some : (n : ℕ) → 1 ≤ length (long_decimal n)
+long_decimal-some n = elim (cases_lt n 10) [
+  | inl short ↦ rw (long_decimal_digit n short) (omega arith)
+  | inr long ↦
+      rw (long_decimal_step n long) (omega (arith, length-append (long_decimal (n / 10)) ((48 + n % 10) ∷ [])))
+]
+
 pub decimal-some : (n : ℕ) → n < 10 ^ 64 → 1 ≤ length (decimal n)
-decimal-some n small =
-    decimal_by_steps_wide (λ _ ds. 1 ≤ length ds) (λ d _. omega arith)
-    (λ m ds _ before. omega (arith, before, length-append ds ((48 + m % 10) ∷ []))) n small
+decimal-some n small = omega (arith, ap length (long_decimal_is_decimal n small), long_decimal-some n)
 
 -- digits before the point and so many behind it
 pub pointed-parts : (k : ℕ) (front digits : List ℕ) → length digits ≡ k

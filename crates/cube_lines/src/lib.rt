@@ -2,12 +2,15 @@
 //!
 //! [`push_header`] and [`push_line`] put a line at the end of a text, [`push_field`] and [`push_answer`] a field of one, which
 //! [`end_line`] ends, and [`parse_row`] reads the row of a line that is spelled so, and not otherwise. Numbers
-//! of units of 10^-k stand there with k digits behind a point.
+//! of units of 10^-k stand there with k digits behind a point, and sums of their squares with 2k.
 //!
 //! [`write_whole`] writes a text and counts what went out of it. [`Pieces`] is a text in pieces, each of which a thread
 //! may have made ([`Pieces::of`]), and [`write_pieces`] writes it.
 #![tactic(auto)]
 
+mod long_parse;
+mod long_scale;
+mod long_units;
 mod parse;
 mod pieces;
 mod scale;

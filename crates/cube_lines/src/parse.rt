@@ -9,6 +9,7 @@ ghost use Rattle.csv.specs.Writing.{default_writer, escaped, needs_quotes};
 ghost use Rattle.cube_core.specs.Text.{answer_text, answer_texts, coord_text, digits_of_answers, fraction_text, grouping_text, padded, pointed, row_fields, row_line, signed_units_text, units_text};
 ghost use Rattle.cube_lines.specs.Parts.{EndsLine, key_parts, part, parts};
 
+use crate::long_parse::{squares_answer, variance_answer};
 use crate::scale::unscaled;
 use crate::text::{needs_byte, needs_quotes};
 use cube_core::{Agg, Answer, Coord, Key, Row, Schema, Sequence, Text};
@@ -261,6 +262,8 @@ fn parse_answer<'t>(aggregate: &Agg, digits: u8, text: &'t [u8]) -> Option<(Answ
             whole_answer(digits, text)
         }
         Agg::Avg(_) => ratio_answer(digits, text),
+        Agg::SumOfSquares(_) => squares_answer(digits, text),
+        Agg::VarPop(_) | Agg::VarSamp(_) => variance_answer(digits, text),
     }
 }
 
@@ -289,8 +292,8 @@ fn ratio_answer(digits: u8, text: &[u8]) -> Option<(Answer, &[u8])>
     Some((Answer::Ratio { p, q }, after(end, b',')?))
 }
 
-// What follows a byte that a text begins with.
-fn after(text: &[u8], byte: u8) -> Option<&[u8]>
+/// What follows a byte that a text begins with.
+pub(crate) fn after(text: &[u8], byte: u8) -> Option<&[u8]>
     ensures { IfSome result (λ rest. text.now ≡ byte ∷ rest.now) }
 {
     let (first, rest) = text.split_first()?;
@@ -357,8 +360,8 @@ fn parse_pointed(digits: usize, text: &[u8]) -> Option<(u128, &[u8])>
     Some((number, &fraction[digits..]))
 }
 
-// The number that begins with the digits of another one and goes on with the first of a text, so many.
-fn number_behind(front: u128, count: usize, text: &[u8]) -> Option<u128>
+/// The number that begins with the digits of another one and goes on with the first of a text, so many.
+pub(crate) fn number_behind(front: u128, count: usize, text: &[u8]) -> Option<u128>
     requires { count ≤ 255 }
     ensures long { IfSome result (λ number. count ≤ length text.now) }
     ensures digits { IfSome result (λ number.
@@ -375,8 +378,8 @@ fn number_behind(front: u128, count: usize, text: &[u8]) -> Option<u128>
     Some(number)
 }
 
-// The digits that a text begins with as a number without a sign is printed, and what follows them.
-fn parse_size(text: &[u8]) -> Option<(u128, &[u8])>
+/// The digits that a text begins with as a number without a sign is printed, and what follows them.
+pub(crate) fn parse_size(text: &[u8]) -> Option<(u128, &[u8])>
     ensures { IfSome result (λ read. text.now ≡ decimal read.0 ++ read.1.now) }
 {
     match parse_count(text) {
@@ -437,7 +440,8 @@ fn more_of_long(front: u128, text: &[u8]) -> Option<(u128, &[u8])>
     None
 }
 
-fn digit_of(byte: u8) -> Option<u8>
+/// What a digit stands for.
+pub(crate) fn digit_of(byte: u8) -> Option<u8>
     ensures digit { IfSome result (λ digit. byte ≡ 48 + digit) }
     ensures small { IfSome result (λ digit. digit < 10) }
 {

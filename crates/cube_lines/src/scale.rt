@@ -1,7 +1,9 @@
 //! Fractions of units of 10^-k, and those of the value itself.
 ghost use Rattle.std.specs.Prelude.{◌≡◌, ◌++◌, ◌∷◌, ◌*◌, ◌/◌, ◌<◌, ◌≤◌, ◌^◌, codes, decimal, int_div, pos, true, IfSome};
 ghost use Rattle.std.specs.Fmt.{signed_decimal};
-ghost use Rattle.cube_core.specs.Text.{common_power, common_with_ten, fraction_text};
+ghost use Rattle.cube_core.specs.Text.{common_with_ten, fraction_text};
+
+use crate::long_scale::common_with_ten;
 
 /// p/q units of 10^-k as a fraction of the value itself, where there are k digits: P/Q with P/Q = p/(q * 10^k), in lowest
 /// terms where p/q is.
@@ -9,7 +11,7 @@ pub fn scaled(digits: u8, p: i128, q: u64) -> (i128, u128)
     requires { digits ≤ 18 }
     ensures { signed_decimal result.0 ++ codes "/" ++ decimal result.1 ≡ fraction_text digits p q }
 {
-    let common = common_with_ten(digits, p.unsigned_abs());
+    let common = short_common_with_ten(digits, p.unsigned_abs());
     (
         quotient(p, common),
         product(q, power_of_ten(digits) / common),
@@ -26,7 +28,7 @@ pub fn unscaled(digits: u8, p: i128, q: u128) -> Option<(i128, u64)>
     if digits == 0 {
         return Some((p, u64::try_from(q).ok()?));
     }
-    let common = common_with_ten(digits, q);
+    let common = short_common_with_ten(digits, q);
     let denominator = u64::try_from(q / u128::from(common)).ok()?;
     let numerator = p.checked_mul(i128::from(power_of_ten(digits) / common))?;
     if is_scaled(digits, numerator, denominator, p, q) {
@@ -66,25 +68,10 @@ fn power_of_ten(digits: u8) -> u64
 }
 
 // The greatest common divisor of 10^k and a number.
-fn common_with_ten(digits: u8, number: u128) -> u64
+fn short_common_with_ten(digits: u8, number: u128) -> u64
     requires { digits ≤ 18 }
     ensures value { result ≡ common_with_ten digits number }
     ensures positive { 1 ≤ result }
 {
-    common_power(2, digits, number) * common_power(5, digits, number)
-}
-
-// The greatest power of a number, up to the k-th, that divides another.
-fn common_power(base: u64, digits: u8, number: u128) -> u64
-    requires some { 1 ≤ base }
-    requires small { base ≤ 5 }
-    requires few { digits ≤ 18 }
-    ensures value { result ≡ common_power base digits number }
-    ensures positive { 1 ≤ result }
-    ensures bound { result ≤ base ^ digits }
-{
-    if digits == 0 || number % u128::from(base) != 0 {
-        return 1;
-    }
-    base * common_power(base, digits - 1, number / u128::from(base))
+    common_with_ten(digits, number) as u64
 }

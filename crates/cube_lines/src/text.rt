@@ -2,14 +2,15 @@
 //!
 //! A writer of `csv` gives its text once, at its end, and looks at each byte of each field. A merge needs the text of one line
 //! again and again in the same memory, and of a printed cube most fields are known to need no quotes.
-ghost use Rattle.std.specs.Prelude.{◌≡◌, ◌≤◌, ◌∷◌, [], ◌++◌, decimal, length, map, true, false, ℕ, List, OnOk};
+ghost use Rattle.std.specs.Prelude.{◌≡◌, ◌≤◌, ◌*◌, ◌∷◌, [], ◌++◌, decimal, length, map, true, false, ℕ, List, OnOk};
 ghost use Rattle.csv.specs.Writing.{default_writer, escaped, needs_byte, needs_quotes};
-ghost use Rattle.cube_core.specs.Text.{answer_text, answer_texts, coord_text, digits_of_answers, fraction_text, grouping_text, header_fields, grouping_name, line, signed_units_text};
+ghost use Rattle.cube_core.specs.Text.{answer_text, answer_texts, coord_text, digits_of_answers, fraction_text, grouping_text, header_fields, grouping_name, line, long_fraction_text, long_units_text, signed_units_text};
 ghost use Rattle.cube_core.specs.declared.key.Key.{Key};
 ghost use Rattle.cube_lines.specs.Parts.{AddsParts, EndsLine, key_parts};
 
+use crate::long_units::{push_long_fraction, push_long_units};
 use crate::units::{push_fraction, push_units};
-use cube_core::{Answer, Schema, Text};
+use cube_core::{Answer, Schema, Squares, Text, Wide};
 use itoa::Buffer;
 use std::alloc::{AllocError, Global};
 
@@ -89,6 +90,8 @@ pub fn push_answer(
         Answer::Count(count) => push_count(text, number, count),
         Answer::Whole(value) => push_number(text, number, digits, value),
         Answer::Ratio { p, q } => push_mean(text, number, digits, p, q),
+        Answer::Squares(squares) => push_squares(text, number, digits, squares),
+        Answer::Variance { p, q } => push_variance(text, number, digits, p, q),
     }
 }
 
@@ -122,6 +125,39 @@ fn push_mean(
     ensures { OnOk result (AddsParts (fraction_text digits p q ∷ []) text.old.items text.new.items) }
 {
     push_fraction(text, number, digits, p, q)?;
+    text.push(b',')?;
+    Ok(())
+}
+
+// Squares are of units of 10^-2k.
+fn push_squares(
+    text: &mut Vec<u8>,
+    number: &mut Buffer,
+    digits: u8,
+    squares: Squares,
+) -> Result<(), AllocError>
+    requires { digits ≤ 18 }
+    ensures { OnOk result
+        (AddsParts (long_units_text (2 * digits) squares ∷ []) text.old.items text.new.items) }
+{
+    push_long_units(text, number, 2 * digits, squares.number())?;
+    text.push(b',')?;
+    Ok(())
+}
+
+// So are variances.
+fn push_variance(
+    text: &mut Vec<u8>,
+    number: &mut Buffer,
+    digits: u8,
+    p: Wide,
+    q: u128,
+) -> Result<(), AllocError>
+    requires { digits ≤ 18 }
+    ensures { OnOk result
+        (AddsParts (long_fraction_text (2 * digits) p q ∷ []) text.old.items text.new.items) }
+{
+    push_long_fraction(text, number, 2 * digits, p, q)?;
     text.push(b',')?;
     Ok(())
 }

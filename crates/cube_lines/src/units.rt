@@ -87,7 +87,8 @@ fn push_pointed(text: &mut Vec<u8>, digits: usize, number: &[u8]) -> Result<(), 
     text.extend_from_slice(number)
 }
 
-fn push_zeros(text: &mut Vec<u8>, count: usize) -> Result<(), AllocError>
+/// Puts so many zeros.
+pub(crate) fn push_zeros(text: &mut Vec<u8>, count: usize) -> Result<(), AllocError>
     ensures { OnOk result (text.new.items ≡ text.old.items ++ replicate count 48) }
 {
     for _ in 0..count {

@@ -1,12 +1,11 @@
 -- How a line stands in a text, field by field, and what its end makes of it.
-use Rattle.std.proofs.Common.{◌≡◌, ◌==◌, ◌≢◌, ◌∙◌, ◌++◌, ◌+◌, ◌<◌, ◌≤◌, ◌∷◌, [], ℕ, List, length, map, take, get_or}
-use Rattle.std.proofs.Common.{refl, sym, ap, false, true, append_assoc, arith, length-append}
+use Rattle.std.proofs.Common.{◌≡◌, ◌==◌, ◌∙◌, ◌++◌, ◌+◌, ◌<◌, ◌≤◌, ◌∷◌, [], ℕ, List, length, map, take, get_or}
+use Rattle.std.proofs.Common.{refl, sym, ap, append_assoc, arith, length-append}
 use Rattle.std.specs.Prelude.{if◌then◌else◌}
-use Rattle.std.specs.List.{flat_map}
 use Rattle.std.proofs.Math.Seq.{take-append_seam}
 use Rattle.std.proofs.lemmas.Bool.{ne_eqb}
 use Rattle.std.proofs.lemmas.Grind.{flat_map-append}
-use Rattle.std.proofs.lemmas.List.{append-nil, get_or_default, nil_from_length}
+use Rattle.std.proofs.lemmas.List.{get_or_default, nil_from_length}
 use Rattle.csv.specs.Writing.{default_writer, field_text, fields_text, is_blank, row_body}
 use Rattle.cube_core.specs.Text.{answer_text, answer_texts, line}
 use Rattle.cube_core.specs.declared.aggregate.Answer.{Answer}

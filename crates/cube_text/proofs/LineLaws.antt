@@ -1,25 +1,16 @@
 -- How the text of a line grows, field by field.
-use Rattle.std.proofs.Common.{◌≡◌, ◌==◌, ◌≢◌, ◌∙◌, ◌++◌, ◌+◌, ◌-◌, ◌^◌, ◌<◌, ◌≤◌, ◌∷◌, [], ℕ, List, Some, length, map}
-use Rattle.std.proofs.Common.{take, get_or, refl, sym, ap, true, false, append_assoc, arith, length-append}
+use Rattle.std.proofs.Common.{◌≡◌, ◌==◌, ◌≢◌, ◌∙◌, ◌++◌, ◌+◌, ◌-◌, ◌^◌, ◌≤◌, ◌∷◌, [], ℕ, List, Some, length}
+use Rattle.std.proofs.Common.{refl, sym, ap, true, false, append_assoc, arith, length-append}
 use Rattle.std.specs.Prelude.{min, not, if◌then◌else◌, OnOk, Ok, Err, Result}
 use Rattle.std.specs.Io.KnownBytes.{Appends}
-use Rattle.std.proofs.lemmas.List.{append-nil, map-append, take_more}
+use Rattle.std.proofs.lemmas.List.{append-nil}
 use Rattle.std.specs.Result.{is_ok}
 use Rattle.std.proofs.lemmas.Bool.Decides.{nat_tests}
-use Rattle.std.specs.List.{flat_map}
-use Rattle.std.proofs.lemmas.Grind.{flat_map-append}
-use Rattle.std.proofs.lemmas.List.Concat.{flat_map-cons}
-use Rattle.cube_core.specs.Text.{answer_text, answer_texts}
-use Rattle.cube_core.specs.declared.aggregate.Answer.{Answer}
-use Rattle.cube_core.specs.declared.aggregate.Answer.TheVariants as answer
-use Rattle.cube_core.specs.declared.key.Row.{Row}
-use Rattle.cube_lines.proofs.AnswerTextsLaws.{answer_texts-more}
 use Rattle.csv.specs.Writing.{default_writer, field_text, fields_written, has_written, next_sep, row_body, row_text}
 use Rattle.csv.specs.Writing.{text_written, writer_setup, tail_text, is_blank, end_text}
 use Rattle.csv.specs.declared.writer.QuoteStyle.TheVariants as style
 use Rattle.csv.proofs.WriteFacts.{row-more, blank-more}
 use Rattle.cube_text.specs.Lines.{Lines, contents_of, HoldsLine, AddsFields, EndsLine, AddsText}
-use Rattle.cube_text.specs.Rows.{line_with}
 
 -- a count that stops at a large number is 0 where what it counts is none
 min-eq_zero : (n m : ℕ) → 2 ≤ m → (min n m == 0) ≡ (n == 0)

@@ -1,4 +1,4 @@
-use Rattle.std.proofs.Common.{◌≡◌, ◌++◌, ◌∷◌, [], ◌∙◌, ap, codes, decimal, rules, OnOk}
+use Rattle.std.proofs.Common.{◌≡◌, ◌++◌, ◌∷◌, [], ◌∙◌, ap, decimal, rules, OnOk}
 use Rattle.std.specs.Fmt.{signed_decimal}
 use Rattle.std.proofs.lemmas.Result.{on_ok_weaker}
 use Rattle.cube_core.specs.Text.{fraction_text}
@@ -16,7 +16,7 @@ returns c =
     let last : OnOk c.extend_from_slice.result
     (c.extend_from_slice.new.self.items ≡ c.push.new.self.items ++ c.as_bytes.result.now) = search rules in
     on_ok_weaker c.extend_from_slice.result
-    (λ end. three-parts old (signed_decimal p) (decimal q) (fraction_text c.args.digits c.args.p c.args.q) _ _ _
+    (λ end. three-parts 47 old (signed_decimal p) (decimal q) (fraction_text c.args.digits c.args.p c.args.q) _ _ _
     first slash
     (end ∙ ap (λ t. c.push.new.self.items ++ t) q_is) (search rules))
     last

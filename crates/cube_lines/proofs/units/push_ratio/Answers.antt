@@ -15,6 +15,6 @@ returns c =
     let last : OnOk c.extend_from_slice.result
     (c.extend_from_slice.new.self.items ≡ c.push.new.self.items ++ c.as_bytes.result.now) = search rules in
     on_ok_weaker c.extend_from_slice.result
-    (λ end. three-parts old (signed_decimal p) (decimal q) (signed_decimal p ++ codes "/" ++ decimal q) _ _ _
+    (λ end. three-parts 47 old (signed_decimal p) (decimal q) (signed_decimal p ++ codes "/" ++ decimal q) _ _ _
     first slash
     (end ∙ ap (λ t. c.push.new.self.items ++ t) q_is) refl) last

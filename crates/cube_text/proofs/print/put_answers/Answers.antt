@@ -1,5 +1,6 @@
 use Rattle.std.proofs.Common.{◌≡◌, ◌++◌, ◌∙◌, ◌<◌, ◌≤◌, ap, arith, get_or, length, refl}
 use Rattle.std.specs.Prelude.{min}
+use Rattle.std.proofs.lemmas.List.{get_or_default}
 use Rattle.std.proofs.lemmas.List.Elements.{All-get_or}
 use Rattle.cube_core.specs.declared.aggregate.Answer.TheVariants as answer
 use Rattle.cube_lines.proofs.AnswerTextsLaws.{answer_texts-whole}
@@ -20,9 +21,11 @@ loop-which-preserved c =
     let answers = c.args.answers.now in
     let inside : i < length digits = omega (arith, c.loop-which-test.true, c.min-which-end.ensures) in
     let inside_too : i < length answers = omega (arith, c.loop-which-test.true, c.min-which-end.ensures) in
-    AddsParts-answer digits answers i (get_or digits i 0) (get_or answers i answer.Null) c.args.text.now.items
-    c.loop-which.text.items c.push_answer.new.text.items inside inside_too refl refl c.loop-which.invariant
-    c.in_ok-push_answer.ensures
+    let a = c.index-answers-which.result in
+    let a_is : a ≡ get_or answers i answer.Null =
+    c.index-answers-which.is ∙ get_or_default answers i a answer.Null inside_too in
+    AddsParts-answer digits answers i (get_or digits i 0) a c.args.text.now.items c.loop-which.text.items
+    c.push_answer.new.text.items inside inside_too refl a_is c.loop-which.invariant c.in_ok-push_answer.ensures
 
 pub returns : goal.returns
 returns c =

@@ -1,7 +1,7 @@
-use Rattle.std.proofs.Common.{◌≤◌, ◌<◌, ◌*◌, ◌^◌, arith}
+use Rattle.std.proofs.Common.{◌≤◌, ◌*◌, arith}
 use Rattle.std.proofs.Math.Nat.{one-le-pow}
 use Rattle.cube_lines.proofs.ScaleLaws.{power-more, power-small}
-use Rattle.cube_lines.proofs.scale.+common_power.Goals as goal
+use Rattle.cube_lines.proofs.long_scale.+common_power.Goals as goal
 
 pub returns-then-digits-eq0-clause-bound : goal.returns-then-digits-eq0-clause-bound
 returns-then-digits-eq0-clause-bound t c = one-le-pow c.args.digits c.args.base c.requires.some

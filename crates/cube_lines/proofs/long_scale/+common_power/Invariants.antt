@@ -1,4 +1,4 @@
-use Rattle.cube_lines.proofs.scale.+common_power.Given as goal
+use Rattle.cube_lines.proofs.long_scale.+common_power.Given as goal
 
 abbrev pub decreases-common_power : goal.decreases-common_power
 decreases-common_power l = l.digits
