@@ -278,7 +278,7 @@ rows_of-among inputs (p ∷ ps) (suc k) row inside is =
     Contains-append_right (option_to_list (get_or inputs p nothing_left).row) (rows_of inputs ps) row
     (rows_of-among inputs ps k row (omega (arith, inside)) is)
 
--- a count or a sum that is too large, as a merge tells it
+-- a count, a sum or a sum of squares that is too large, as a merge tells it
 pub TellsOverflow-told : (inputs : List InputView) (rows : List Row) (place number : ℕ) (row : Row) (told : MergeFault)
     → IsFaultAt why.Overflow place number told → place < length inputs
     → (get_or inputs place nothing_left).row ≡ Some row → Contains rows row

@@ -17,12 +17,13 @@ use Rattle.std.proofs.lemmas.Option.{IfSome_then}
 use Rattle.cube_core.specs.Cube.{key_of}
 use Rattle.cube_core.specs.Group.{total_of}
 use Rattle.cube_core.specs.Layout.{Layout}
-use Rattle.cube_core.specs.Merged.{AreMerged, column, count_answered, numbers_of, rows_at}
+use Rattle.cube_core.specs.Merged.{AreMerged, column, count_answered, numbers_of, rows_at, sum_of_squares}
 use Rattle.cube_core.specs.Order.{key_cmp}
 use Rattle.cube_core.specs.Text.{header_fields, line, row_line}
 use Rattle.cube_core.specs.declared.aggregate.Agg.{Agg}
 use Rattle.cube_core.specs.declared.aggregate.Agg.TheVariants.{CountAll, Count, Sum, Min, Max, Avg}
-use Rattle.cube_core.specs.declared.aggregate.Agg.TheVariants.{CountDistinct, PercentileDisc}
+use Rattle.cube_core.specs.declared.aggregate.Agg.TheVariants.{CountDistinct, PercentileDisc, SumOfSquares}
+use Rattle.cube_core.specs.declared.aggregate.Agg.TheVariants.{VarPop, VarSamp}
 use Rattle.cube_core.specs.declared.aggregate.Answer.{Answer}
 use Rattle.cube_core.specs.declared.aggregate.Answer.TheVariants as answer
 use Rattle.cube_core.specs.declared.key.Key.{Key}
@@ -34,13 +35,14 @@ use Rattle.cube_core.proofs.ReorderedLaws.{Reordered, none, next, exchange, both
 use Rattle.cube_core.proofs.ReorderedLaws.{filter-IsPermutation}
 use Rattle.cube_merge.specs.Faults.{BeginsWith, CameTo, CameToPlace, CanBeReadTo, CanMove, EndsAtRecord, EndsWith}
 use Rattle.cube_merge.specs.Faults.{IsReadNext, IsReadTo, IsTooLarge, IsWholeText, SplitsAt}
-use Rattle.cube_merge.specs.Lawful.{IsRightRow}
+use Rattle.cube_merge.specs.Lawful.{IsRightRow, squares_answered}
 use Rattle.cube_merge.specs.Merging.{InputView, AreInKeyOrder, AreOfSchema, AreUses, Gave, IsBelow, IsEnded, IsMadeInRange}
 use Rattle.cube_merge.specs.Merging.{IsMerging, IsUse, IsWhole, Moves, all_rows, nothing_left, used_row, used_rows}
 use Rattle.cube_merge.specs.Range.{AreInRange, AreTooLarge, IsInRange}
 use Rattle.cube_merge.proofs.CubesLaws.{Consumes-same, Gave-none, text-of_ended}
 use Rattle.cube_merge.proofs.LeastLaws.{key-lt_not, not_less-self}
 use Rattle.cube_merge.proofs.MergedLaws.{is_eq-Equal, is_eq-above, rows_at-all, rows_at-none}
+use Rattle.cube_merge.proofs.SquaresLaws.{sum_of_squares-by}
 use Rattle.cube_merge.proofs.StepLaws.{AreInKeyOrder-Moves, AreInKeyOrder-none, AreOfSchema-Moves, AreOfSchema-none}
 use Rattle.cube_merge.proofs.StepLaws.{Gave-Moves, IsWhole-Moves, below-Moves, below-used, ended-Moves, used-first}
 
@@ -192,13 +194,15 @@ rows_at-lesser lesser (i ∷ is) (c ∷ cs) wide below =
     filter-append has (c ++ option_to_list i.row) (all_rows (with_rows cs is)) ∙ ap₂ (λ a b. a ++ b) first rest
     ∙ sym (filter-append has c (all_rows cs))
 
--- ---- counts and sums of rows in another order
+-- ---- counts, sums and sums of squares of rows in another order
 -- what an answer adds to a sum
 worth : Answer → ℤ
 worth (answer.Whole z) = z
 worth answer.Null = pos 0
 worth (answer.Count n) = pos 0
 worth (answer.Ratio p q) = pos 0
+worth (answer.Squares n) = pos 0
+worth (answer.Variance p q) = pos 0
 
 total-cons : (a : Answer) (answers : List Answer)
     → total_of (numbers_of (a ∷ answers)) ≡ worth a +ℤ total_of (numbers_of answers)
@@ -207,6 +211,8 @@ total-cons (answer.Whole z) answers = refl
 total-cons answer.Null answers = omega (arith, ints)
 total-cons (answer.Count n) answers = omega (arith, ints)
 total-cons (answer.Ratio p q) answers = omega (arith, ints)
+total-cons (answer.Squares n) answers = omega (arith, ints)
+total-cons (answer.Variance p q) answers = omega (arith, ints)
 
 total-Reordered : {xs ys : List Answer} → Reordered xs ys → total_of (numbers_of xs) ≡ total_of (numbers_of ys)
 total-Reordered none = refl
@@ -226,6 +232,12 @@ AreInRange-IsPermutation given rows others same fit place agg there = by_agg agg
   counts : sum_by count_answered (column place rows) ≡ sum_by count_answered (column place others)
   counts = sym (sum_by-IsPermutation count_answered (column place rows) (column place others) answers)
 
+  squares : sum_of_squares (column place rows) ≡ sum_of_squares (column place others)
+  squares =
+      sum_of_squares-by (column place rows)
+      ∙ sym (sum_by-IsPermutation squares_answered (column place rows) (column place others) answers)
+      ∙ sym (sum_of_squares-by (column place others))
+
   by_agg : (a : Agg) → IsInRange a (column place rows) → IsInRange a (column place others)
   by_agg CountAll h = subst (λ n. n < 2 ^ 64) counts h
   by_agg (Count m) h = subst (λ n. n < 2 ^ 64) counts h
@@ -236,6 +248,9 @@ AreInRange-IsPermutation given rows others same fit place agg there = by_agg agg
   by_agg (Avg m) h = tt
   by_agg (CountDistinct m) h = tt
   by_agg (PercentileDisc m units places) h = tt
+  by_agg (SumOfSquares m) h = subst (λ n. n < 2 ^ 192) squares h
+  by_agg (VarPop m) h = tt
+  by_agg (VarSamp m) h = tt
 
 -- of no row nothing is too large
 none-in_range : (agg : Agg) → IsInRange agg []
@@ -247,6 +262,9 @@ none-in_range (Max m) = tt
 none-in_range (Avg m) = tt
 none-in_range (CountDistinct m) = tt
 none-in_range (PercentileDisc m units places) = tt
+none-in_range (SumOfSquares m) = lit< tt
+none-in_range (VarPop m) = tt
+none-in_range (VarSamp m) = tt
 
 pub AreTooLarge-some : (given : List Agg) (rows : List Row) → AreTooLarge given rows → 0 < length rows
 AreTooLarge-some given [] large = absurd (large.too_large (none-in_range large.agg))

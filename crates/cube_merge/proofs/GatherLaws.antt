@@ -13,7 +13,8 @@ use Rattle.cube_core.specs.Merged.{MakesAnswer, IsMeanOf, IsMerged, column, coun
 use Rattle.cube_core.specs.Merged.{numbers_of}
 use Rattle.cube_core.specs.declared.aggregate.Agg.{Agg}
 use Rattle.cube_core.specs.declared.aggregate.Agg.TheVariants.{CountAll, Count, Sum, Min, Max, Avg}
-use Rattle.cube_core.specs.declared.aggregate.Agg.TheVariants.{CountDistinct, PercentileDisc}
+use Rattle.cube_core.specs.declared.aggregate.Agg.TheVariants.{CountDistinct, PercentileDisc, SumOfSquares}
+use Rattle.cube_core.specs.declared.aggregate.Agg.TheVariants.{VarPop, VarSamp}
 use Rattle.cube_core.specs.declared.aggregate.Answer.{Answer}
 use Rattle.cube_core.specs.declared.aggregate.Answer.TheVariants as answer
 use Rattle.cube_core.specs.declared.key.Row.{Row}
@@ -28,7 +29,7 @@ pub sum_of_counts-push : (parts : List Answer) (a : Answer) → sum_of_counts
 sum_of_counts-push parts a = sum_by-append count_answered parts (a ∷ []) ∙ ap (λ n. sum_of_counts parts + n)
     (omega arith)
 
-cons-append : (o : Option ℤ) (xs ys : List ℤ) → cons_option o (xs ++ ys) ≡ cons_option o xs ++ ys
+pub cons-append : {X : Type 0} (o : Option X) (xs ys : List X) → cons_option o (xs ++ ys) ≡ cons_option o xs ++ ys
 cons-append None xs ys = refl
 cons-append (Some x) xs ys = refl
 
@@ -70,12 +71,16 @@ sum_answered-number (answer.Whole z) number is =
 sum_answered-number answer.Null number is = let clash : None ≡ Some number = is in absurd (cc)
 sum_answered-number (answer.Count n) number is = let clash : None ≡ Some number = is in absurd (cc)
 sum_answered-number (answer.Ratio p q) number is = let clash : None ≡ Some number = is in absurd (cc)
+sum_answered-number (answer.Squares n) number is = let clash : None ≡ Some number = is in absurd (cc)
+sum_answered-number (answer.Variance p q) number is = let clash : None ≡ Some number = is in absurd (cc)
 
 pub sum_answered-none : (a : Answer) → number_in a ≡ None → pos 0 ≡ sum_answered a
 sum_answered-none (answer.Whole z) is = let clash : Some z ≡ None = is in absurd (cc)
 sum_answered-none answer.Null is = refl
 sum_answered-none (answer.Count n) is = refl
 sum_answered-none (answer.Ratio p q) is = refl
+sum_answered-none (answer.Squares n) is = refl
+sum_answered-none (answer.Variance p q) is = refl
 
 module _ (R : ℤ → ℤ → Type 0) where
   AllByRecursion-push : (m : ℤ) (xs : List ℤ) (x : ℤ) → AllByRecursion (R m) xs → R m x
@@ -185,11 +190,14 @@ pub IsMerged-Made : (given : List Agg) (rows : List Row) (agg : Agg) (made : Lis
 IsMerged-Made given rows (Avg m) made place are is = absurd is
 IsMerged-Made given rows (CountDistinct m) made place are is = absurd is
 IsMerged-Made given rows (PercentileDisc m units places) made place are is = absurd is
+IsMerged-Made given rows (VarPop m) made place are is = absurd is
+IsMerged-Made given rows (VarSamp m) made place are is = absurd is
 IsMerged-Made given rows CountAll made place are is = (place, is, are place CountAll is)
 IsMerged-Made given rows (Count m) made place are is = (place, is, are place (Count m) is)
 IsMerged-Made given rows (Sum m) made place are is = (place, is, are place (Sum m) is)
 IsMerged-Made given rows (Min m) made place are is = (place, is, are place (Min m) is)
 IsMerged-Made given rows (Max m) made place are is = (place, is, are place (Max m) is)
+IsMerged-Made given rows (SumOfSquares m) made place are is = (place, is, are place (SumOfSquares m) is)
 
 pub IsMerged-Mean : (given : List Agg) (rows : List Row) (agg : Agg) (made : List Answer) (sums counts : ℕ) (a : Answer)
     → AreMadeOfRows given rows made → IsSourceOf given agg (source.Mean sums counts)
@@ -212,6 +220,9 @@ IsMerged-Mean given rows (Min m) made sums counts a are is mean = absurd is
 IsMerged-Mean given rows (Max m) made sums counts a are is mean = absurd is
 IsMerged-Mean given rows (CountDistinct m) made sums counts a are is mean = absurd is
 IsMerged-Mean given rows (PercentileDisc m units places) made sums counts a are is mean = absurd is
+IsMerged-Mean given rows (SumOfSquares m) made sums counts a are is mean = absurd is
+IsMerged-Mean given rows (VarPop m) made sums counts a are is mean = absurd is
+IsMerged-Mean given rows (VarSamp m) made sums counts a are is mean = absurd is
 
 -- one more source
 pub AllZip-take : {X Y : Type 0} (R : X → Y → Type 0) (xs : List X) (ys : List Y) (i : ℕ) (d : X) (y : Y)

@@ -1,6 +1,7 @@
 mod TotalLaws
 mod SourceLaws
 mod GatherLaws
+mod SquaresLaws
 mod JointLaws
 pub mod MergedLaws
 mod StepLaws

@@ -93,7 +93,8 @@ FailsToMoveAll s used inputs Aggregates = ⊥
 FailsToMoveAll s used inputs (Input fault input number) = HasFaultAt s used inputs fault input number
 FailsToMoveAll s used inputs (Write sent) = ⊥
 
--- the input of this number, counted from 1, has one of the rows with which a count or a sum is too large
+-- the input of this number, counted from 1, has one of the rows with which a count, a sum or a sum of squares is
+-- too large
 pub record IsTooLargeAt (inputs : List InputView) (rows : List Row) (fault : InputFault) (input number : ℕ)
     : Type 0 where
   pub place : ℕ
@@ -112,7 +113,7 @@ TellsOverflow inputs rows Aggregates = ⊥
 TellsOverflow inputs rows (Input fault input number) = IsTooLargeAt inputs rows fault input number
 TellsOverflow inputs rows (Write sent) = ⊥
 
--- a count or a sum of the rows of the inputs at these places is too large, or memory ran out
+-- a count, a sum or a sum of squares of the rows of the inputs at these places is too large, or memory ran out
 abbrev pub FailsToMake : List Agg → List InputView → List ℕ → MergeFault → Type 0
 FailsToMake given inputs places Memory = ⊤
 FailsToMake given inputs places Aggregates = ⊥
@@ -137,12 +138,14 @@ FailsToJoin given inputs Aggregates = ⊥
 FailsToJoin given inputs (Input fault input number) = JoinTooLarge given inputs fault input number
 FailsToJoin given inputs (Write sent) = ⊥
 
--- an input with a row can't go on: a count or a sum of that row's key is too large, or the next line can't be taken
+-- an input with a row can't go on: a count, a sum or a sum of squares of that row's key is too large, or the next line
+-- can't be taken
 abbrev pub GoesWrong : Layout → InputView → InputFault → ℕ → Type 0
 GoesWrong s input why.Overflow number = number ≡ input.lines
 GoesWrong s input fault number = HasFault s input fault number
 
--- of inputs of which some are used the counts and sums are in range, and those before a place can take their next line
+-- of inputs of which some are used the counts, sums and sums of squares are in range, and those before a place can take
+-- their next line
 pub record CameToPlace (s : Layout) (used : List Bool) (inputs : List InputView) (place : ℕ) : Type 0 where
   pub fit : AreInRange s.aggregates (used_rows used inputs)
   pub before : (k : ℕ) → k < place → CanMove s (get_or used k false) (get_or inputs k nothing_left)
@@ -253,7 +256,7 @@ abbrev pub CanBeReadTo : Layout → (Key → Type 0) → Option (List ℕ) → T
 CanBeReadTo s Is text = (rows : List Row) × IsReadTo s Is text rows
 
 -- no fault was met before the rows with this key were merged: these are the first rows of each text, at least to that
--- key, and no count and no sum of those with a lesser key is too large
+-- key, and no count, no sum and no sum of squares of those with a lesser key is too large
 pub record CameTo (s : Layout) (texts : List (Option (List ℕ))) (key : Key) (cubes : List (List Row)) : Type 0 where
   pub as_many : length cubes ≡ length texts
   pub read : (k : ℕ) → k < length texts

@@ -1,16 +1,18 @@
--- The rows that the cube of a schema may have (this project's choice: counts of 64 bits, sums of 128, measures of 64).
+-- The rows that the cube of a schema may have (this project's choice: counts of 64 bits, sums of 128,
+-- measures of 64, sums of squares of 192).
 use Rattle.std.specs.Prelude.{◌≡◌, ◌<◌, ◌≤ℤ◌, ◌+◌, ◌*◌, ◌%◌, ◌^◌, ⊤, ℕ, ℤ, pos, Bool, true, false, not, IsTrue, List, length}
-use Rattle.std.specs.Prelude.{◌==◌, Option, Some, None, IfSome, FitsSigned, get_or, unsigned_abs}
+use Rattle.std.specs.Prelude.{◌==◌, Option, Some, None, IfSome, FitsSigned, get_or, slice_get, unsigned_abs}
 use Rattle.std.specs.Int.{w64, w128, IsGcd}
 use Rattle.std.specs.List.{AllZip, list_all}
 use Rattle.std.specs.Str.{bytes_eq}
 use Rattle.cube_core.specs.GroupingSet.{is_all_coord}
 use Rattle.cube_core.specs.Layout.{Layout, keeps}
-use Rattle.cube_core.specs.Merged.{IsMeanOf, count_answered}
+use Rattle.cube_core.specs.Merged.{IsMeanOf, IsVarianceOf, count_answered}
 use Rattle.cube_core.specs.Takes.{null_text}
 use Rattle.cube_core.specs.declared.aggregate.Agg.{Agg}
 use Rattle.cube_core.specs.declared.aggregate.Agg.TheVariants.{CountAll, Count, Sum, Min, Max, Avg}
-use Rattle.cube_core.specs.declared.aggregate.Agg.TheVariants.{CountDistinct, PercentileDisc}
+use Rattle.cube_core.specs.declared.aggregate.Agg.TheVariants.{CountDistinct, PercentileDisc, SumOfSquares}
+use Rattle.cube_core.specs.declared.aggregate.Agg.TheVariants.{VarPop, VarSamp}
 use Rattle.cube_core.specs.declared.aggregate.Answer.{Answer}
 use Rattle.cube_core.specs.declared.aggregate.Answer.TheVariants as answer
 use Rattle.cube_core.specs.declared.key.Coord.{Coord}
@@ -34,6 +36,8 @@ IsCount (answer.Count n) = n < 2 ^ 64
 IsCount answer.Null = ⊥
 IsCount (answer.Whole z) = ⊥
 IsCount (answer.Ratio p q) = ⊥
+IsCount (answer.Squares n) = ⊥
+IsCount (answer.Variance p q) = ⊥
 
 -- an answer is a sum, a number of 128 bits, or null
 abbrev pub IsNumber : Answer → Type 0
@@ -41,6 +45,8 @@ IsNumber answer.Null = ⊤
 IsNumber (answer.Whole z) = FitsSigned w128 z
 IsNumber (answer.Count n) = ⊥
 IsNumber (answer.Ratio p q) = ⊥
+IsNumber (answer.Squares n) = ⊥
+IsNumber (answer.Variance p q) = ⊥
 
 -- an answer is a value of a measure, a number of 64 bits, or null
 abbrev pub IsValue : Answer → Type 0
@@ -48,6 +54,8 @@ IsValue answer.Null = ⊤
 IsValue (answer.Whole z) = FitsSigned w64 z
 IsValue (answer.Count n) = ⊥
 IsValue (answer.Ratio p q) = ⊥
+IsValue (answer.Squares n) = ⊥
+IsValue (answer.Variance p q) = ⊥
 
 -- an answer is a fraction in lowest terms of a number of 128 bits by a count of 64, at least 1, or null
 abbrev pub IsFraction : Answer → Type 0
@@ -55,6 +63,26 @@ IsFraction answer.Null = ⊤
 IsFraction (answer.Ratio p q) = FitsSigned w128 p × (q < 2 ^ 64) × (0 < q) × IsGcd (unsigned_abs p) q 1
 IsFraction (answer.Count n) = ⊥
 IsFraction (answer.Whole z) = ⊥
+IsFraction (answer.Squares n) = ⊥
+IsFraction (answer.Variance p q) = ⊥
+
+-- an answer is a sum of squares, a number of 192 bits, or null
+abbrev pub IsSquares : Answer → Type 0
+IsSquares answer.Null = ⊤
+IsSquares (answer.Squares n) = n < 2 ^ 192
+IsSquares (answer.Count n) = ⊥
+IsSquares (answer.Whole z) = ⊥
+IsSquares (answer.Ratio p q) = ⊥
+IsSquares (answer.Variance p q) = ⊥
+
+-- an answer is a fraction in lowest terms of a number of 256 bits by one of 128, at least 1, or null
+abbrev pub IsVarianceFraction : Answer → Type 0
+IsVarianceFraction answer.Null = ⊤
+IsVarianceFraction (answer.Variance p q) = (p < 2 ^ 256) × (q < 2 ^ 128) × (0 < q) × IsGcd p q 1
+IsVarianceFraction (answer.Count n) = ⊥
+IsVarianceFraction (answer.Whole z) = ⊥
+IsVarianceFraction (answer.Ratio p q) = ⊥
+IsVarianceFraction (answer.Squares n) = ⊥
 
 -- an answer is of the kind of this aggregate's
 abbrev pub IsOfKind : Agg → Answer → Type 0
@@ -66,6 +94,9 @@ IsOfKind (Max m) a = IsValue a
 IsOfKind (Avg m) a = IsFraction a
 IsOfKind (CountDistinct m) a = IsCount a
 IsOfKind (PercentileDisc m units places) a = IsValue a
+IsOfKind (SumOfSquares m) a = IsSquares a
+IsOfKind (VarPop m) a = IsVarianceFraction a
+IsOfKind (VarSamp m) a = IsVarianceFraction a
 
 -- an answer isn't a count of 0
 abbrev pub IsNoZero : Answer → Type 0
@@ -73,6 +104,8 @@ IsNoZero (answer.Count n) = 0 < n
 IsNoZero answer.Null = ⊤
 IsNoZero (answer.Whole z) = ⊤
 IsNoZero (answer.Ratio p q) = ⊤
+IsNoZero (answer.Squares n) = ⊤
+IsNoZero (answer.Variance p q) = ⊤
 
 -- an answer, where it is one to `count(*)`, isn't 0
 abbrev pub CountsFacts : Agg → Answer → Type 0
@@ -84,6 +117,9 @@ CountsFacts (Max m) a = ⊤
 CountsFacts (Avg m) a = ⊤
 CountsFacts (CountDistinct m) a = ⊤
 CountsFacts (PercentileDisc m units places) a = ⊤
+CountsFacts (SumOfSquares m) a = ⊤
+CountsFacts (VarPop m) a = ⊤
+CountsFacts (VarSamp m) a = ⊤
 
 -- a least answer isn't above a greatest one, where both are numbers
 abbrev pub IsInOrder : Answer → Answer → Type 0
@@ -101,6 +137,9 @@ IsAtLeast m least (Min other) a = ⊤
 IsAtLeast m least (Avg other) a = ⊤
 IsAtLeast m least (CountDistinct other) a = ⊤
 IsAtLeast m least (PercentileDisc other units places) a = ⊤
+IsAtLeast m least (SumOfSquares other) a = ⊤
+IsAtLeast m least (VarPop other) a = ⊤
+IsAtLeast m least (VarSamp other) a = ⊤
 
 -- an answer, where it is one to a least value, isn't above the greatest value of its measure among answers
 abbrev pub IsWithin : List Agg → List Answer → Agg → Answer → Type 0
@@ -112,17 +151,22 @@ IsWithin aggregates answers (Max m) a = ⊤
 IsWithin aggregates answers (Avg m) a = ⊤
 IsWithin aggregates answers (CountDistinct m) a = ⊤
 IsWithin aggregates answers (PercentileDisc m units places) a = ⊤
+IsWithin aggregates answers (SumOfSquares m) a = ⊤
+IsWithin aggregates answers (VarPop m) a = ⊤
+IsWithin aggregates answers (VarSamp m) a = ⊤
 
 -- no least value among answers is above the greatest value of its measure
 abbrev pub AreInOrder : List Agg → List Answer → Type 0
 AreInOrder aggregates answers = AllZip (IsWithin aggregates answers) aggregates answers
 
--- whether an answer tells that a measure has no value: it is null, or a count of 0
+-- whether an answer is null, or a count of 0
 abbrev pub tells_none : Answer → Bool
 tells_none answer.Null = true
 tells_none (answer.Count n) = n == 0
 tells_none (answer.Whole z) = false
 tells_none (answer.Ratio p q) = false
+tells_none (answer.Squares n) = false
+tells_none (answer.Variance p q) = false
 
 -- the measure that an aggregate is of, if it is of one
 abbrev pub measure_of : Agg → Option ℕ
@@ -134,24 +178,44 @@ measure_of (Max m) = Some m
 measure_of (Avg m) = Some m
 measure_of (CountDistinct m) = Some m
 measure_of (PercentileDisc m units places) = Some m
+measure_of (SumOfSquares m) = Some m
+measure_of (VarPop m) = Some m
+measure_of (VarSamp m) = Some m
 
--- an answer, where it is one of this measure, tells that it has no value
+-- an answer, where it is one of this measure, is null, or a count of 0
 abbrev pub TellsNone : ℕ → Agg → Answer → Type 0
 TellsNone m agg a = measure_of agg ≡ Some m → tells_none a ≡ true
 
--- where an answer tells that its measure has no value, so do all of that measure among answers
+-- whether an answer to an aggregate tells that its measure has no value, which the variance of a sample doesn't: it is
+-- null for one value too
+abbrev pub tells_no_value : Agg → Answer → Bool
+tells_no_value (VarSamp m) a = false
+tells_no_value CountAll a = tells_none a
+tells_no_value (Count m) a = tells_none a
+tells_no_value (Sum m) a = tells_none a
+tells_no_value (Min m) a = tells_none a
+tells_no_value (Max m) a = tells_none a
+tells_no_value (Avg m) a = tells_none a
+tells_no_value (CountDistinct m) a = tells_none a
+tells_no_value (PercentileDisc m units places) a = tells_none a
+tells_no_value (SumOfSquares m) a = tells_none a
+tells_no_value (VarPop m) a = tells_none a
+
+-- where an answer tells that its measure has no value, each of that measure among answers is null, or a count of 0
 abbrev pub IsNoneAmong : List Agg → List Answer → Agg → Answer → Type 0
 IsNoneAmong aggregates answers agg a =
-    tells_none a ≡ true → IfSome (measure_of agg) (λ m. AllZip (TellsNone m) aggregates answers)
+    tells_no_value agg a ≡ true → IfSome (measure_of agg) (λ m. AllZip (TellsNone m) aggregates answers)
 
--- the answers of a measure are null together, and exactly where its count is 0
+-- the answers of a measure are null together, and exactly where its count is 0;
+-- only the variance of a sample may be null where the others aren't
 abbrev pub AreNoneTogether : List Agg → List Answer → Type 0
 AreNoneTogether aggregates answers = AllZip (IsNoneAmong aggregates answers) aggregates answers
 
 -- a cube of a schema may have this row, as far as said here: it has a coordinate for each dimension,
 -- none of them the text that stands for null, the schema keeps its grouping set, it has an answer of its kind
 -- to each aggregate, it counts a fact, if it isn't the grand total, no least value is above the greatest one,
--- and the answers of a measure are null together, where its count is 0
+-- and the answers of a measure are null together, where its count is 0, but for the variance of a sample,
+-- which may be null where the others aren't
 pub record IsLawfulRow (s : Layout) (row : Row) : Type 0 where
   pub coords : length row.key.coords ≡ length s.dimensions
   pub told : IsTrue (has_no_null_text row.key)
@@ -164,13 +228,16 @@ pub record IsLawfulRow (s : Layout) (row : Row) : Type 0 where
 -- the number by which an aggregate's place is found
 abbrev pub number_of : Agg → ℕ
 number_of CountAll = 0
-number_of (Count m) = m % 4 * 6 + 1
-number_of (Sum m) = m % 4 * 6 + 2
-number_of (Min m) = m % 4 * 6 + 3
-number_of (Max m) = m % 4 * 6 + 4
-number_of (Avg m) = m % 4 * 6 + 5
-number_of (CountDistinct m) = m % 4 * 6 + 6
-number_of (PercentileDisc m units places) = m % 4 * 16 + units % 16 + 25
+number_of (Count m) = m % 4 * 9 + 1
+number_of (Sum m) = m % 4 * 9 + 2
+number_of (Min m) = m % 4 * 9 + 3
+number_of (Max m) = m % 4 * 9 + 4
+number_of (Avg m) = m % 4 * 9 + 5
+number_of (CountDistinct m) = m % 4 * 9 + 6
+number_of (SumOfSquares m) = m % 4 * 9 + 7
+number_of (VarPop m) = m % 4 * 9 + 8
+number_of (VarSamp m) = m % 4 * 9 + 9
+number_of (PercentileDisc m units places) = m % 4 * 16 + units % 16 + 37
 
 -- an answer is the one at the place of its aggregate
 abbrev pub IsAtPlace : List ℕ → List Answer → Agg → Answer → Type 0
@@ -194,6 +261,17 @@ sum_answered (answer.Whole z) = z
 sum_answered answer.Null = pos 0
 sum_answered (answer.Count n) = pos 0
 sum_answered (answer.Ratio p q) = pos 0
+sum_answered (answer.Squares n) = pos 0
+sum_answered (answer.Variance p q) = pos 0
+
+-- the sum of squares that an answer is; 0 of any other
+abbrev pub squares_answered : Answer → ℕ
+squares_answered (answer.Squares n) = n
+squares_answered answer.Null = 0
+squares_answered (answer.Count n) = 0
+squares_answered (answer.Whole z) = 0
+squares_answered (answer.Ratio p q) = 0
+squares_answered (answer.Variance p q) = 0
 
 -- a mean of a measure is this sum by this answer, where that is the measure's count
 abbrev pub IsMeanByCount : ℕ → Answer → Answer → Agg → Answer → Type 0
@@ -205,6 +283,9 @@ IsMeanByCount m mean sum (Max other) a = ⊤
 IsMeanByCount m mean sum (Avg other) a = ⊤
 IsMeanByCount m mean sum (CountDistinct other) a = ⊤
 IsMeanByCount m mean sum (PercentileDisc other units places) a = ⊤
+IsMeanByCount m mean sum (SumOfSquares other) a = ⊤
+IsMeanByCount m mean sum (VarPop other) a = ⊤
+IsMeanByCount m mean sum (VarSamp other) a = ⊤
 
 -- a mean of a measure is this answer, where that is the measure's sum, by the measure's count among answers
 abbrev pub IsMeanOfSum : List Agg → List Answer → ℕ → Answer → Agg → Answer → Type 0
@@ -216,6 +297,9 @@ IsMeanOfSum aggregates answers m mean (Max other) a = ⊤
 IsMeanOfSum aggregates answers m mean (Avg other) a = ⊤
 IsMeanOfSum aggregates answers m mean (CountDistinct other) a = ⊤
 IsMeanOfSum aggregates answers m mean (PercentileDisc other units places) a = ⊤
+IsMeanOfSum aggregates answers m mean (SumOfSquares other) a = ⊤
+IsMeanOfSum aggregates answers m mean (VarPop other) a = ⊤
+IsMeanOfSum aggregates answers m mean (VarSamp other) a = ⊤
 
 -- an answer, where it is a mean, is the sum by the count of its measure among answers
 abbrev pub IsMeanAmong : List Agg → List Answer → Agg → Answer → Type 0
@@ -227,16 +311,47 @@ IsMeanAmong aggregates answers (Min m) a = ⊤
 IsMeanAmong aggregates answers (Max m) a = ⊤
 IsMeanAmong aggregates answers (CountDistinct m) a = ⊤
 IsMeanAmong aggregates answers (PercentileDisc m units places) a = ⊤
+IsMeanAmong aggregates answers (SumOfSquares m) a = ⊤
+IsMeanAmong aggregates answers (VarPop m) a = ⊤
+IsMeanAmong aggregates answers (VarSamp m) a = ⊤
 
 -- each mean is the sum by the count of its measure, where these stand beside it
 abbrev pub AreMeans : List Agg → List Answer → Type 0
 AreMeans aggregates answers = AllZip (IsMeanAmong aggregates answers) aggregates answers
 
--- answers don't gainsay one another: an aggregate that stands twice has the same answer,
--- and a mean is its sum by its count
+-- an answer is the variance that the counts, the sums and the sums of squares of a measure make, wherever these stand
+-- among answers
+abbrev pub IsVarianceBeside : Bool → List Agg → List Answer → ℕ → Answer → Type 0
+IsVarianceBeside is_sample aggregates answers m a = (counts sums squares : ℕ)
+    → slice_get aggregates counts ≡ Some (Count m) → slice_get aggregates sums ≡ Some (Sum m)
+    → slice_get aggregates squares ≡ Some (SumOfSquares m)
+    → IsVarianceOf is_sample (count_answered (get_or answers counts answer.Null))
+    (sum_answered (get_or answers sums answer.Null)) (squares_answered (get_or answers squares answer.Null)) a
+
+-- an answer, where it is a variance, is that of the count, the sum and the sum of squares of its measure among answers
+abbrev pub IsVarianceAmong : List Agg → List Answer → Agg → Answer → Type 0
+IsVarianceAmong aggregates answers (VarPop m) a = IsVarianceBeside false aggregates answers m a
+IsVarianceAmong aggregates answers (VarSamp m) a = IsVarianceBeside true aggregates answers m a
+IsVarianceAmong aggregates answers CountAll a = ⊤
+IsVarianceAmong aggregates answers (Count m) a = ⊤
+IsVarianceAmong aggregates answers (Sum m) a = ⊤
+IsVarianceAmong aggregates answers (Min m) a = ⊤
+IsVarianceAmong aggregates answers (Max m) a = ⊤
+IsVarianceAmong aggregates answers (Avg m) a = ⊤
+IsVarianceAmong aggregates answers (CountDistinct m) a = ⊤
+IsVarianceAmong aggregates answers (PercentileDisc m units places) a = ⊤
+IsVarianceAmong aggregates answers (SumOfSquares m) a = ⊤
+
+-- each variance is that of the count, the sum and the sum of squares of its measure, where these stand beside it
+abbrev pub AreVariances : List Agg → List Answer → Type 0
+AreVariances aggregates answers = AllZip (IsVarianceAmong aggregates answers) aggregates answers
+
+-- answers don't gainsay one another: an aggregate that stands twice has the same answer, a mean is its sum by its
+-- count, and a variance is that of its count, its sum and its sum of squares
 pub record AreConsistent (aggregates : List Agg) (answers : List Answer) : Type 0 where
   pub alike : AreAlike aggregates answers
   pub means : AreMeans aggregates answers
+  pub variances : AreVariances aggregates answers
 
 -- a cube of a schema may have this row, and its answers don't gainsay one another
 pub record IsRightRow (s : Layout) (row : Row) : Type 0 where

@@ -142,7 +142,7 @@ IsWhole s input rows = input.row ≡ None → AreWhole s rows
 abbrev pub IsBelow : Key → InputView → Type 0
 IsBelow key input = IfSome input.row (λ row. key_cmp key row.key ≡ Less)
 
--- the counts and the sums of a merged row, by the rows with its key, are in range
+-- the counts, the sums and the sums of squares of a merged row, by the rows with its key, are in range
 abbrev pub IsMadeInRange : List Agg → List Row → Row → Type 0
 IsMadeInRange given parts row = AreInRange given (rows_at row.key parts)
 
@@ -229,7 +229,7 @@ HasConsistentAnswers s row = AreConsistent s.aggregates row.answers
 -- what was written is the text, under the wanted schema,
 -- of the merged rows of cubes whose texts under the given one were read, each of rows of that schema in key order,
 -- whose answers don't gainsay one another, and of which the last is the grand total, where the schema keeps that;
--- each count and each sum that the rows with one key make is in range
+-- each count, each sum and each sum of squares that the rows with one key make is in range
 pub record IsMergeOf (given wanted : Layout) (texts : List (Option (List ℕ))) (old new : Option (List ℕ)) : Type 0 where
   pub cubes : List (List Row)
   pub parts : List Row

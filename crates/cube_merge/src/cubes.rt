@@ -33,8 +33,9 @@ struct Desk {
 /// their facts under the wanted one, which has the same dimensions and grouping sets,
 /// and the same digits behind the point of each measure.
 ///
-/// Each aggregate of the wanted schema is one of the given schema's, or a mean whose sum and count are; else the fault is
-/// `Aggregates`, whatever else is wrong. One line of each input is in memory.
+/// Each aggregate of the wanted schema is one of the given schema's, a mean whose sum and count are, or a variance whose
+/// count, sum and sum of squares are; else the fault is `Aggregates`, whatever else is wrong. One line of each input is in
+/// memory.
 ///
 /// What was written before a fault was met stays written: it is the first bytes of the text of the rows that were merged
 /// so far, as many as the fault says where the writer failed. The fault that is told is the one met first, where each step

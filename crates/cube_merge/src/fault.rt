@@ -21,7 +21,7 @@ pub enum InputFault {
     /// A key isn't above the one before it.
     #[error("M6")]
     Order,
-    /// A count or a sum of the merged row is too large.
+    /// A count, a sum or a sum of squares of the merged row is too large.
     #[error("M7")]
     Overflow,
     /// The input ended without the grand total, which the schema keeps.

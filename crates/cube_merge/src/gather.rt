@@ -1,17 +1,17 @@
 //! What the answers of parts make of the whole.
-ghost use Rattle.std.specs.Prelude.{◌≡◌, IfErr, IfOk, IfSome, get_or, FitsSigned};
+ghost use Rattle.std.specs.Prelude.{◌≡◌, ◌≤◌, ◌<◌, ◌+◌, ◌^◌, IfErr, IfOk, IfNone, IfSome, Some, get_or, FitsSigned};
 ghost use Rattle.std.specs.Int.{w128};
-ghost use Rattle.cube_core.specs.Merged.{MakesAnswer, IsMeanOf, count_answered, number_in};
+ghost use Rattle.cube_core.specs.Merged.{MakesAnswer, IsMeanOf, IsVarianceOf, count_answered, number_in, squares_in};
 ghost use Rattle.cube_core.specs.declared.aggregate.Answer.{Answer};
-ghost use Rattle.cube_merge.specs.Lawful.{sum_answered};
+ghost use Rattle.cube_merge.specs.Lawful.{squares_answered, sum_answered};
 ghost use Rattle.cube_merge.specs.Made.{JoinsAnswer};
 ghost use Rattle.cube_merge.specs.Range.{IsInRange};
 
 use crate::total::Total;
-use cube_core::{Agg, Answer, reduced};
+use cube_core::{Agg, Answer, Squares, Wide, reduced, variance_from};
 
-/// What the answers to an aggregate make; where a count or a sum is too large for its type, the place of the answer with
-/// which it first is.
+/// What the answers to an aggregate make; where a count, a sum or a sum of squares is too large for its type, the place of
+/// the answer with which it first is.
 pub(crate) fn made_of(aggregate: &Agg, answers: &[Answer]) -> Result<Answer, usize>
     ensures made { IfOk result (MakesAnswer aggregate.now answers.now) }
     ensures fits { IfOk result (λ _. IsInRange aggregate.now answers.now) }
@@ -22,7 +22,9 @@ pub(crate) fn made_of(aggregate: &Agg, answers: &[Answer]) -> Result<Answer, usi
         Agg::Sum(_) => sum_of(answers),
         Agg::Min(_) => Ok(least_of(answers)),
         Agg::Max(_) => Ok(greatest_of(answers)),
+        Agg::SumOfSquares(_) => squares_of(answers),
         Agg::Avg(_) | Agg::CountDistinct(_) | Agg::PercentileDisc { .. } => Ok(Answer::Null),
+        Agg::VarPop(_) | Agg::VarSamp(_) => Ok(Answer::Null),
     }
 }
 
@@ -75,6 +77,38 @@ fn first_too_large(answers: &[Answer]) -> usize {
         }
     }
     answers.len()
+}
+
+fn squares_of(answers: &[Answer]) -> Result<Answer, usize>
+    ensures made { IfOk result (MakesAnswer (Agg.SumOfSquares 0) answers.now) }
+    ensures fits { IfOk result (λ _. IsInRange (Agg.SumOfSquares 0) answers.now) }
+    ensures too_large { IfErr result (λ _. IsInRange (Agg.SumOfSquares 0) answers.now → ⊥) }
+{
+    let mut made = Answer::Null;
+    for place in 0..answers.len() {
+        let Some(more) = with_squares(&made, &answers[place]) else {
+            return Err(place);
+        };
+        made = more;
+    }
+    Ok(made)
+}
+
+// A sum of squares with one more, where it isn't too large for its type.
+fn with_squares(made: &Answer, answer: &Answer) -> Option<Answer>
+    ensures some { IfSome result (JoinsAnswer (Agg.SumOfSquares 0) made.now answer.now) }
+    ensures fits { squares_answered made.now < 2 ^ 192 → IfSome result (λ new. squares_answered new < 2 ^ 192) }
+    ensures none { IfNone result (2 ^ 192 ≤ squares_answered made.now + squares_answered answer.now) }
+{
+    let Some(more) = squares_in(answer) else {
+        return Some(*made);
+    };
+    let Some(squares) = squares_in(made) else {
+        return Some(Answer::Squares(more));
+    };
+    let sum = squares.checked_add(more)?;
+    let _number = sum.number();
+    Some(Answer::Squares(sum))
 }
 
 fn least_of(answers: &[Answer]) -> Answer
@@ -141,6 +175,31 @@ pub(crate) fn mean_of(sum: &Answer, count: &Answer) -> Answer
     Answer::Ratio { p, q }
 }
 
+/// The variance of the values of which there are this count, this sum and this sum of squares, of a sample or not; null
+/// where nothing is left to divide by.
+pub(crate) fn variance_of(is_sample: bool, count: &Answer, sum: &Answer, squares: &Answer) -> Answer
+    ensures { IsVarianceOf is_sample (count_answered count.now) (sum_answered sum.now)
+        (squares_answered squares.now) result }
+{
+    let Some(all_squares) = squares_answered(squares) else {
+        return Answer::Null;
+    };
+    match variance_from(count_in(count), total_in(sum), all_squares, is_sample) {
+        Some((p, q)) => Answer::Variance { p, q },
+        None => Answer::Null,
+    }
+}
+
+// The sum of squares that an answer is; 0, which is one too, where it is none.
+fn squares_answered(answer: &Answer) -> Option<Squares>
+    ensures { result ≡ Some (squares_answered answer.now) }
+{
+    match answer {
+        Answer::Squares(squares) => Some(*squares),
+        _ => Squares::of(Wide::of(0)),
+    }
+}
+
 // The total of the values that a sum is of; 0 where there is none.
 fn total_in(sum: &Answer) -> i128
     ensures { result ≡ sum_answered sum.now }
@@ -168,6 +227,17 @@ fn number_in(answer: &Answer) -> Option<i128>
         Answer::Whole(number) => Some(*number),
         _ => None,
     }
+}
+
+fn squares_in(answer: &Answer) -> Option<Squares>
+    ensures value { result ≡ squares_in answer.now }
+    ensures fits { IfSome result (λ n. n < 2 ^ 192) }
+{
+    let Answer::Squares(squares) = answer else {
+        return None;
+    };
+    let _number = squares.number();
+    Some(*squares)
 }
 
 /// The answer at a place; null past the last one.

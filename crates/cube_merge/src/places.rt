@@ -6,7 +6,7 @@ use cube_core::Agg;
 use std::alloc::{AllocError, Global};
 
 // How many numbers aggregates have.
-const NUMBERS: usize = 89;
+const NUMBERS: usize = 101;
 
 /// The last place where each aggregate stands, by the aggregate's number. Only how soon a row is known to be right rests
 /// on it.
@@ -36,14 +36,17 @@ fn number_of(aggregate: &Agg) -> usize
 {
     match aggregate {
         Agg::CountAll => 0,
-        Agg::Count(measure) => *measure % 4 * 6 + 1,
-        Agg::Sum(measure) => *measure % 4 * 6 + 2,
-        Agg::Min(measure) => *measure % 4 * 6 + 3,
-        Agg::Max(measure) => *measure % 4 * 6 + 4,
-        Agg::Avg(measure) => *measure % 4 * 6 + 5,
-        Agg::CountDistinct(measure) => *measure % 4 * 6 + 6,
+        Agg::Count(measure) => *measure % 4 * 9 + 1,
+        Agg::Sum(measure) => *measure % 4 * 9 + 2,
+        Agg::Min(measure) => *measure % 4 * 9 + 3,
+        Agg::Max(measure) => *measure % 4 * 9 + 4,
+        Agg::Avg(measure) => *measure % 4 * 9 + 5,
+        Agg::CountDistinct(measure) => *measure % 4 * 9 + 6,
+        Agg::SumOfSquares(measure) => *measure % 4 * 9 + 7,
+        Agg::VarPop(measure) => *measure % 4 * 9 + 8,
+        Agg::VarSamp(measure) => *measure % 4 * 9 + 9,
         Agg::PercentileDisc { measure, units, .. } => {
-            *measure % 4 * 16 + usize::from(*units) % 16 + 25
+            *measure % 4 * 16 + usize::from(*units) % 16 + 37
         }
     }
 }

@@ -3,12 +3,12 @@ ghost use Rattle.std.specs.Prelude.{◌≡◌, IfNone, IfOk, IfSome, Some, slice
 ghost use Rattle.std.specs.List.{AllZip, list_all};
 ghost use Rattle.cube_core.specs.Merged.{IsMerged};
 ghost use Rattle.cube_merge.specs.Made.{AreMadeOfRows};
-ghost use Rattle.cube_merge.specs.Source.{IsSourceOf, can_be_made};
+ghost use Rattle.cube_merge.specs.Source.{IsSourceOf, IsVarianceSource, can_be_made, can_make_variance};
 ghost use Rattle.cube_core.specs.PartialForm.{has_aggregate};
 ghost use Rattle.cube_core.specs.declared.aggregate.Agg.{Agg};
 ghost use Rattle.cube_core.specs.declared.key.Row.{Row};
 
-use crate::gather::{answer_at, mean_of};
+use crate::gather::{answer_at, mean_of, variance_of};
 use cube_core::{Agg, Answer};
 use std::alloc::{AllocError, Global};
 
@@ -18,7 +18,17 @@ pub(crate) enum Source {
     /// What the answers at a place make.
     Made(usize),
     /// The mean that sums at one place and counts at another make.
-    Mean { sums: usize, counts: usize },
+    Mean {
+        sums: usize,
+        counts: usize,
+    },
+    /// The variance, of a sample or not, that counts, sums and sums of squares at these places make.
+    Variance {
+        is_sample: bool,
+        counts: usize,
+        sums: usize,
+        squares: usize,
+    },
 }
 
 /// Whether answers to each wanted aggregate can be made of those to the given ones.
@@ -72,11 +82,28 @@ fn source_of(given: &[Agg], wanted: &Agg) -> Option<Source>
             sums: place_of(given, &Agg::Sum(*measure))?,
             counts: place_of(given, &Agg::Count(*measure))?,
         }),
-        Agg::CountAll | Agg::Count(_) | Agg::Sum(_) | Agg::Min(_) | Agg::Max(_) => {
-            Some(Source::Made(place_of(given, wanted)?))
-        }
+        Agg::VarPop(measure) => variance_source(given, *measure, false),
+        Agg::VarSamp(measure) => variance_source(given, *measure, true),
+        Agg::CountAll
+        | Agg::Count(_)
+        | Agg::Sum(_)
+        | Agg::Min(_)
+        | Agg::Max(_)
+        | Agg::SumOfSquares(_) => Some(Source::Made(place_of(given, wanted)?)),
         Agg::CountDistinct(_) | Agg::PercentileDisc { .. } => None,
     }
+}
+
+fn variance_source(given: &[Agg], measure: usize, is_sample: bool) -> Option<Source>
+    ensures some { IfSome result (IsVarianceSource is_sample given.now measure) }
+    ensures none { IfNone result (can_make_variance given.now measure ≡ false) }
+{
+    Some(Source::Variance {
+        is_sample,
+        counts: place_of(given, &Agg::Count(measure))?,
+        sums: place_of(given, &Agg::Sum(measure))?,
+        squares: place_of(given, &Agg::SumOfSquares(measure))?,
+    })
 }
 
 /// The first place where an aggregate stands.
@@ -103,6 +130,17 @@ pub(crate) fn answer_from(made: &[Answer], source: &Source) -> Answer
         Source::Mean { sums, counts } => mean_of(
             &answer_at(made, *sums),
             &answer_at(made, *counts),
+        ),
+        Source::Variance {
+            is_sample,
+            counts,
+            sums,
+            squares,
+        } => variance_of(
+            *is_sample,
+            &answer_at(made, *counts),
+            &answer_at(made, *sums),
+            &answer_at(made, *squares),
         ),
     }
 }

@@ -190,7 +190,8 @@ fn row_at<R: Read>(inputs: &[Input<R>], place: usize) -> Option<&Row>
     }
 }
 
-// That a count or a sum of the rows of the inputs at these places is too large, as a merge tells it, by one of them.
+// That a count, a sum or a sum of squares of the rows of the inputs at these places is too large, as a merge tells it, by
+// one of them.
 fn overflow_of<R: Read>(inputs: &[Input<R>], places: &[usize], which: usize) -> MergeFault
     requires { HaveRows inputs.now places.now }
     ensures { TellsOverflow inputs.now (rows_of inputs.now places.now) result }

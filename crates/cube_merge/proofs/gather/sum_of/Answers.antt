@@ -1,8 +1,8 @@
-use Rattle.std.proofs.Common.{◌≡◌, ◌<◌, ◌≤◌, ◌+◌, ◌+ℤ◌, true, false, FitsSigned, length, sym, ◌∙◌, take, subst, arith}
+use Rattle.std.proofs.Common.{◌≡◌, ◌<◌, ◌≤◌, ◌+◌, ◌+ℤ◌, true, false, FitsSigned, length, sym, ap, ◌∙◌, take, subst, arith}
 use Rattle.std.specs.Int.{w128}
 use Rattle.std.proofs.lemmas.Int.{to_z-of_z}
 use Rattle.cube_core.specs.Group.{total_of}
-use Rattle.cube_core.specs.Merged.{numbers_of}
+use Rattle.cube_core.specs.Merged.{number_in, numbers_of}
 use Rattle.cube_merge.specs.Total.{IsTotal}
 use Rattle.cube_merge.specs.declared.total.Total.{Total}
 use Rattle.cube_merge.proofs.GatherLaws.{length-push, numbers_of-next, numbers_of-next_none, total_of-push}
@@ -13,6 +13,7 @@ pub loop-place-preserved : goal.loop-place-preserved
 loop-place-preserved c =
     let i = c.loop-place.place in
     let answers = c.args.answers.now in
+    let b = c.index-answers-place.result in
     let old = numbers_of (take i answers) in
     let so_far = c.loop-place.invariant in
     elim c.match-number_in.branch [
@@ -20,7 +21,8 @@ loop-place-preserved c =
           let number = w.in-Some.number in
           let fits : FitsSigned w128 number = (w.in-Some.ensures {u = tt}).fits in
           let grown =
-          numbers_of-next answers i _ number c.loop-place-test.true (sym c.number_in.ensures.value ∙ w.in-Some.is) in
+          numbers_of-next answers i b number c.loop-place-test.true
+          (ap number_in (sym c.index-answers-place.is) ∙ sym c.number_in.ensures.value ∙ w.in-Some.is) in
           let added : IsTotal (total_of old +ℤ number) w.add.new.self =
           subst (λ z. IsTotal (total_of old +ℤ z) w.add.new.self) (to_z-of_z w128 number fits)
           (w.add.ensures.sum (total_of old) so_far.sum) in
@@ -36,7 +38,8 @@ loop-place-preserved c =
           }
       | in_default w ↦
           let none =
-          numbers_of-next_none answers i _ c.loop-place-test.true (sym c.number_in.ensures.value ∙ w.in_default.is) in
+          numbers_of-next_none answers i b c.loop-place-test.true
+          (ap number_in (sym c.index-answers-place.is) ∙ sym c.number_in.ensures.value ∙ w.in_default.is) in
           record {
             sum = subst (λ (t : Total). IsTotal (total_of (numbers_of (take (i + 1) answers))) t) (sym w.total-is)
                 (subst (λ xs. IsTotal (total_of xs) c.loop-place.total) (sym none) so_far.sum);

@@ -9,4 +9,4 @@ loop-place-preserved c =
     let inside : c.loop-place.place < length c.args.answers.now =
     omega (arith, c.loop-place-test.true, c.if-aggregates-answers.false) in
     AllZip-next (IsMeanAmong c.args.aggregates.now c.args.answers.now) c.args.aggregates.now c.args.answers.now c.loop-place.place _ _
-    c.loop-place-test.true inside c.loop-place.invariant (c.is_mean_among.ensures on)
+    c.loop-place-test.true inside c.index-answers-place.is c.loop-place.invariant (c.is_mean_among.ensures on)

@@ -8,5 +8,5 @@ loop-place-preserved c =
     let on : c.is_at_least.result ≡ true = search rules in
     let inside : c.loop-place.place < length c.args.answers.now =
     omega (arith, c.loop-place-test.true, c.if-aggregates-answers.false) in
-    AllZip-next (IsAtLeast c.args.measure c.args.least) c.args.aggregates.now c.args.answers.now c.loop-place.place _ _
-    c.loop-place-test.true inside c.loop-place.invariant (c.is_at_least.ensures on)
+    AllZip-next (IsAtLeast c.args.measure c.args.least.now) c.args.aggregates.now c.args.answers.now c.loop-place.place _ _
+    c.loop-place-test.true inside c.index-answers-place.is c.loop-place.invariant (c.is_at_least.ensures on)

@@ -8,5 +8,5 @@ loop-place-preserved c =
     let on : c.is_same_answer.result ≡ true = search rules in
     let inside : c.loop-place.place < length c.args.answers.now =
     omega (arith, c.loop-place-test.true, c.if-aggregates-answers.false) in
-    AllZip-next (IsSameAnswer c.args.aggregate.now c.args.answer) c.args.aggregates.now c.args.answers.now c.loop-place.place _ _
-    c.loop-place-test.true inside c.loop-place.invariant (c.is_same_answer.ensures on)
+    AllZip-next (IsSameAnswer c.args.aggregate.now c.args.answer.now) c.args.aggregates.now c.args.answers.now c.loop-place.place _ _
+    c.loop-place-test.true inside c.index-answers-place.is c.loop-place.invariant (c.is_same_answer.ensures on)
