@@ -1,6 +1,6 @@
 -- The text of an answer tells the answer, among those of its kind.
-use Rattle.std.proofs.Common.{◌≡◌, ℕ, ◌≤◌, ℤ, pos, negsuc, List, [], ◌∷◌, Option, Some, None, FitsSigned, refl, sym, ap, ap₂}
-use Rattle.std.proofs.Common.{arith, get_or, inl, inr, length, map, unwrap_or}
+use Rattle.std.proofs.Common.{◌≡◌, ℕ, ◌≤◌, ◌*◌, ℤ, pos, negsuc, List, [], ◌∷◌, Option, Some, None, FitsSigned, refl}
+use Rattle.std.proofs.Common.{sym, ap, ap₂, arith, get_or, inl, inr, length, map, unwrap_or}
 use Rattle.std.specs.Int.{w64, w128}
 use Rattle.std.specs.List.{AllZip}
 use Rattle.std.specs.Prelude.{All, IfSome}
@@ -12,9 +12,12 @@ use Rattle.cube_core.specs.Text.{answer_text, answer_texts, digits_of, digits_of
 use Rattle.cube_core.specs.declared.aggregate.Agg.{Agg}
 use Rattle.cube_core.specs.declared.aggregate.Agg.TheVariants.{CountAll, Count, Sum, Min, Max, Avg}
 use Rattle.cube_core.specs.declared.aggregate.Agg.TheVariants.{CountDistinct, PercentileDisc}
+use Rattle.cube_core.specs.declared.aggregate.Agg.TheVariants.{SumOfSquares, VarPop, VarSamp}
 use Rattle.cube_core.specs.declared.aggregate.Answer.{Answer}
 use Rattle.cube_core.specs.declared.aggregate.Answer.TheVariants as answer
-use Rattle.cube_merge.specs.Lawful.{IsCount, IsNumber, IsValue, IsFraction, IsOfKind}
+use Rattle.cube_merge.specs.Lawful.{IsCount, IsNumber, IsValue, IsFraction, IsOfKind, IsSquares, IsVarianceFraction}
+use Rattle.cube_laws.proofs.LongTextLaws.{long_fraction_text-unique, long_units_text-unique, null_text-long_fraction}
+use Rattle.cube_laws.proofs.LongTextLaws.{null_text-long_units}
 use Rattle.cube_laws.proofs.UnitTextLaws.{decimal-unique, fraction_text-unique, null_text-fraction, null_text-units}
 use Rattle.cube_laws.proofs.UnitTextLaws.{signed_units_text-unique}
 
@@ -43,6 +46,9 @@ digits_of-few s (Max m) few = measure-few s m few
 digits_of-few s (Avg m) few = measure-few s m few
 digits_of-few s (CountDistinct m) few = omega arith
 digits_of-few s (PercentileDisc m units places) few = measure-few s m few
+digits_of-few s (SumOfSquares m) few = measure-few s m few
+digits_of-few s (VarPop m) few = measure-few s m few
+digits_of-few s (VarSamp m) few = measure-few s m few
 
 -- ---- answers of a kind
 IsCount-told : (k : ℕ) (a b : Answer) → IsCount a → IsCount b → answer_text k a ≡ answer_text k b → a ≡ b
@@ -51,9 +57,13 @@ IsCount-told k (answer.Count m) (answer.Count n) h h' same =
 IsCount-told k (answer.Count m) answer.Null h h' same = absurd h'
 IsCount-told k (answer.Count m) (answer.Whole z) h h' same = absurd h'
 IsCount-told k (answer.Count m) (answer.Ratio p q) h h' same = absurd h'
+IsCount-told k (answer.Count m) (answer.Squares n) h h' same = absurd h'
+IsCount-told k (answer.Count m) (answer.Variance p q) h h' same = absurd h'
 IsCount-told k answer.Null b h h' same = absurd h
 IsCount-told k (answer.Whole y) b h h' same = absurd h
 IsCount-told k (answer.Ratio p q) b h h' same = absurd h
+IsCount-told k (answer.Squares n) b h h' same = absurd h
+IsCount-told k (answer.Variance p q) b h h' same = absurd h
 
 IsNumber-told : (k : ℕ) (a b : Answer) → IsNumber a → IsNumber b → answer_text k a ≡ answer_text k b → a ≡ b
 IsNumber-told k answer.Null answer.Null h h' same = refl
@@ -63,10 +73,16 @@ IsNumber-told k (answer.Whole y) (answer.Whole z) h h' same =
     ap answer.Whole (signed_units_text-unique k y z h h' same)
 IsNumber-told k answer.Null (answer.Count n) h h' same = absurd h'
 IsNumber-told k answer.Null (answer.Ratio p q) h h' same = absurd h'
+IsNumber-told k answer.Null (answer.Squares n) h h' same = absurd h'
+IsNumber-told k answer.Null (answer.Variance p q) h h' same = absurd h'
 IsNumber-told k (answer.Whole y) (answer.Count n) h h' same = absurd h'
 IsNumber-told k (answer.Whole y) (answer.Ratio p q) h h' same = absurd h'
+IsNumber-told k (answer.Whole y) (answer.Squares n) h h' same = absurd h'
+IsNumber-told k (answer.Whole y) (answer.Variance p q) h h' same = absurd h'
 IsNumber-told k (answer.Count m) b h h' same = absurd h
 IsNumber-told k (answer.Ratio p q) b h h' same = absurd h
+IsNumber-told k (answer.Squares n) b h h' same = absurd h
+IsNumber-told k (answer.Variance p q) b h h' same = absurd h
 
 -- a number of 64 bits is one of 128
 fits_wider : (z : ℤ) → FitsSigned w64 z → FitsSigned w128 z
@@ -78,6 +94,8 @@ IsValue-IsNumber answer.Null h = tt
 IsValue-IsNumber (answer.Whole z) h = fits_wider z h
 IsValue-IsNumber (answer.Count n) h = absurd h
 IsValue-IsNumber (answer.Ratio p q) h = absurd h
+IsValue-IsNumber (answer.Squares n) h = absurd h
+IsValue-IsNumber (answer.Variance p q) h = absurd h
 
 IsFraction-told : (k : ℕ) (a b : Answer) → k ≤ 18 → IsFraction a → IsFraction b
     → answer_text k a ≡ answer_text k b → a ≡ b
@@ -89,10 +107,58 @@ IsFraction-told k (answer.Ratio p q) (answer.Ratio p' q') few h h' same =
     ap₂ answer.Ratio parts.0 parts.1
 IsFraction-told k answer.Null (answer.Count n) few h h' same = absurd h'
 IsFraction-told k answer.Null (answer.Whole z) few h h' same = absurd h'
+IsFraction-told k answer.Null (answer.Squares n) few h h' same = absurd h'
+IsFraction-told k answer.Null (answer.Variance p q) few h h' same = absurd h'
 IsFraction-told k (answer.Ratio p q) (answer.Count n) few h h' same = absurd h'
 IsFraction-told k (answer.Ratio p q) (answer.Whole z) few h h' same = absurd h'
+IsFraction-told k (answer.Ratio p q) (answer.Squares n) few h h' same = absurd h'
+IsFraction-told k (answer.Ratio p q) (answer.Variance r s) few h h' same = absurd h'
 IsFraction-told k (answer.Count m) b few h h' same = absurd h
 IsFraction-told k (answer.Whole y) b few h h' same = absurd h
+IsFraction-told k (answer.Squares n) b few h h' same = absurd h
+IsFraction-told k (answer.Variance p q) b few h h' same = absurd h
+
+IsSquares-told : (k : ℕ) (a b : Answer) → IsSquares a → IsSquares b → answer_text k a ≡ answer_text k b → a ≡ b
+IsSquares-told k answer.Null answer.Null h h' same = refl
+IsSquares-told k answer.Null (answer.Squares n) h h' same = absurd (null_text-long_units (2 * k) n same)
+IsSquares-told k (answer.Squares m) answer.Null h h' same = absurd (null_text-long_units (2 * k) m (sym same))
+IsSquares-told k (answer.Squares m) (answer.Squares n) h h' same =
+    ap answer.Squares (long_units_text-unique (2 * k) m n same)
+IsSquares-told k answer.Null (answer.Count n) h h' same = absurd h'
+IsSquares-told k answer.Null (answer.Whole z) h h' same = absurd h'
+IsSquares-told k answer.Null (answer.Ratio p q) h h' same = absurd h'
+IsSquares-told k answer.Null (answer.Variance p q) h h' same = absurd h'
+IsSquares-told k (answer.Squares m) (answer.Count n) h h' same = absurd h'
+IsSquares-told k (answer.Squares m) (answer.Whole z) h h' same = absurd h'
+IsSquares-told k (answer.Squares m) (answer.Ratio p q) h h' same = absurd h'
+IsSquares-told k (answer.Squares m) (answer.Variance p q) h h' same = absurd h'
+IsSquares-told k (answer.Count m) b h h' same = absurd h
+IsSquares-told k (answer.Whole y) b h h' same = absurd h
+IsSquares-told k (answer.Ratio p q) b h h' same = absurd h
+IsSquares-told k (answer.Variance p q) b h h' same = absurd h
+
+IsVarianceFraction-told : (k : ℕ) (a b : Answer) → IsVarianceFraction a → IsVarianceFraction b
+    → answer_text k a ≡ answer_text k b → a ≡ b
+IsVarianceFraction-told k answer.Null answer.Null h h' same = refl
+IsVarianceFraction-told k answer.Null (answer.Variance p q) h h' same =
+    absurd (null_text-long_fraction (2 * k) p q same)
+IsVarianceFraction-told k (answer.Variance p q) answer.Null h h' same =
+    absurd (null_text-long_fraction (2 * k) p q (sym same))
+IsVarianceFraction-told k (answer.Variance p q) (answer.Variance p' q') h h' same =
+    let parts = long_fraction_text-unique (2 * k) p p' q q' h.2 h'.2 h.3 h'.3 same in
+    ap₂ answer.Variance parts.0 parts.1
+IsVarianceFraction-told k answer.Null (answer.Count n) h h' same = absurd h'
+IsVarianceFraction-told k answer.Null (answer.Whole z) h h' same = absurd h'
+IsVarianceFraction-told k answer.Null (answer.Ratio p q) h h' same = absurd h'
+IsVarianceFraction-told k answer.Null (answer.Squares n) h h' same = absurd h'
+IsVarianceFraction-told k (answer.Variance p q) (answer.Count n) h h' same = absurd h'
+IsVarianceFraction-told k (answer.Variance p q) (answer.Whole z) h h' same = absurd h'
+IsVarianceFraction-told k (answer.Variance p q) (answer.Ratio r s) h h' same = absurd h'
+IsVarianceFraction-told k (answer.Variance p q) (answer.Squares n) h h' same = absurd h'
+IsVarianceFraction-told k (answer.Count m) b h h' same = absurd h
+IsVarianceFraction-told k (answer.Whole y) b h h' same = absurd h
+IsVarianceFraction-told k (answer.Ratio p q) b h h' same = absurd h
+IsVarianceFraction-told k (answer.Squares n) b h h' same = absurd h
 
 IsOfKind-told : (k : ℕ) (agg : Agg) (a b : Answer) → k ≤ 18 → IsOfKind agg a → IsOfKind agg b
     → answer_text k a ≡ answer_text k b → a ≡ b
@@ -105,6 +171,9 @@ IsOfKind-told k (Avg m) a b few h h' same = IsFraction-told k a b few h h' same
 IsOfKind-told k (CountDistinct m) a b few h h' same = IsCount-told k a b h h' same
 IsOfKind-told k (PercentileDisc m units places) a b few h h' same =
     IsNumber-told k a b (IsValue-IsNumber a h) (IsValue-IsNumber b h') same
+IsOfKind-told k (SumOfSquares m) a b few h h' same = IsSquares-told k a b h h' same
+IsOfKind-told k (VarPop m) a b few h h' same = IsVarianceFraction-told k a b h h' same
+IsOfKind-told k (VarSamp m) a b few h h' same = IsVarianceFraction-told k a b h h' same
 
 -- answers to the same aggregates of a schema that show the same are the same
 pub AreOfKind-told : (s : Layout) (aggregates : List Agg) (as' bs : List Answer) → HasFewDigits s

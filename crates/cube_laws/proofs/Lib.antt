@@ -1,6 +1,7 @@
 mod FractionLaws
 mod ScaledLaws
 mod UnitTextLaws
+mod LongTextLaws
 mod LifeLaws
 mod FieldLaws
 mod SpellingLaws
@@ -10,6 +11,7 @@ mod GroupingLaws
 mod WritableLaws
 mod SortedLaws
 mod HolisticLaws
+mod StatisticsLaws
 mod RowLaws
 mod RowOrderLaws
 mod GroupCountLaws

@@ -7,18 +7,19 @@ use Rattle.std.specs.List.{AllByRecursion, AllZip, list_all, list_any}
 use Rattle.std.proofs.lemmas.Bool.{and_from, and_parts, cases_Bool, false≢true}
 use Rattle.std.proofs.lemmas.List.Elements.{Contains-append_left, Contains-push, Contains-push_cases}
 use Rattle.cube_core.specs.Cube.{AreRows}
-use Rattle.cube_core.specs.Layout.{Layout, is_holistic, needs_numbers, spelling_of}
+use Rattle.cube_core.specs.Layout.{Layout, has_holistic, is_holistic, spelling_of}
 use Rattle.cube_core.specs.PartialForm.{is_aggregate, has_aggregate, with_aggregate, with_parts, partial_aggregates}
-use Rattle.cube_core.specs.PartialForm.{partial_form}
+use Rattle.cube_core.specs.PartialForm.{partial_form, with_mean_parts, with_variance_parts}
 use Rattle.cube_core.specs.declared.aggregate.Agg.{Agg}
 use Rattle.cube_core.specs.declared.aggregate.Agg.TheVariants.{CountAll, Count, Sum, Min, Max, Avg}
 use Rattle.cube_core.specs.declared.aggregate.Agg.TheVariants.{CountDistinct, PercentileDisc}
+use Rattle.cube_core.specs.declared.aggregate.Agg.TheVariants.{SumOfSquares, VarPop, VarSamp}
 use Rattle.cube_core.specs.declared.fact.Fact.{Fact}
 use Rattle.cube_core.specs.declared.key.Row.{Row}
 use Rattle.cube_core.proofs.ListLaws.{Contains-AllByRecursion, Contains-cases, Contains-list_any, Contains-nil}
 use Rattle.cube_core.proofs.ListLaws.{list_any-Contains}
-use Rattle.cube_merge.specs.Source.{can_be_made}
-use Rattle.cube_laws.specs.Merging.{joined, AreMergedOf, Stands, CanBeMadeOf}
+use Rattle.cube_merge.specs.Source.{can_be_made, can_make_variance}
+use Rattle.cube_laws.specs.Merging.{joined, AreMergedOf, Stands, CanBeMadeOf, HasVarianceParts}
 use Rattle.cube_laws.proofs.MergedLaws.{AreMergedOf-AreRowsOver}
 
 -- aggregates that are the same are one
@@ -34,6 +35,9 @@ is_aggregate-same (PercentileDisc m units places) (PercentileDisc n others digit
     let (parts, same_places) = and_parts (m == n && units == others) (places == digits) h in
     let (measures, levels) = and_parts (m == n) (units == others) parts in
     rw (eqb-true m n measures, eqb-true units others levels, eqb-true places digits same_places) refl
+is_aggregate-same (SumOfSquares m) (SumOfSquares n) h = ap SumOfSquares (eqb-true m n h)
+is_aggregate-same (VarPop m) (VarPop n) h = ap VarPop (eqb-true m n h)
+is_aggregate-same (VarSamp m) (VarSamp n) h = ap VarSamp (eqb-true m n h)
 is_aggregate-same _ _ h = absurd (false≢true h)
 
 -- what a list contains stands at a place
@@ -68,10 +72,22 @@ with_aggregate-cases given agg other among = elim (cases_Bool (has_aggregate agg
   | inr missing ↦ Contains-push_cases given agg other (rw missing at among)
 ]
 
--- ---- a list with the parts of a mean
-with_parts-keeps : (given : List Agg) (agg other : Agg) → Contains given other → Contains (with_parts given agg) other
-with_parts-keeps given (Avg m) other among =
+-- ---- a list with the parts of a mean or a variance
+mean_parts-keeps : (given : List Agg) (m : ℕ) (other : Agg) → Contains given other
+    → Contains (with_mean_parts given m) other
+mean_parts-keeps given m other among =
     with_aggregate-keeps (with_aggregate given (Sum m)) (Count m) other (with_aggregate-keeps given (Sum m) other among)
+
+variance_parts-keeps : (given : List Agg) (m : ℕ) (other : Agg) → Contains given other
+    → Contains (with_variance_parts given m) other
+variance_parts-keeps given m other among =
+    with_aggregate-keeps (with_mean_parts given m) (SumOfSquares m) other (mean_parts-keeps given m other among)
+
+with_parts-keeps : (given : List Agg) (agg other : Agg) → Contains given other → Contains (with_parts given agg) other
+with_parts-keeps given (Avg m) other among = mean_parts-keeps given m other among
+with_parts-keeps given (VarPop m) other among = variance_parts-keeps given m other among
+with_parts-keeps given (VarSamp m) other among = variance_parts-keeps given m other among
+with_parts-keeps given (SumOfSquares m) other among = among
 with_parts-keeps given CountAll other among = among
 with_parts-keeps given (Count m) other among = among
 with_parts-keeps given (Sum m) other among = among
@@ -80,18 +96,25 @@ with_parts-keeps given (Max m) other among = among
 with_parts-keeps given (CountDistinct m) other among = among
 with_parts-keeps given (PercentileDisc m units places) other among = among
 
--- an aggregate that is neither a sum nor a count of values
+-- an aggregate that is neither a sum, a count of values nor a sum of squares
 record IsNoPart (other : Agg) : Type 0 where
   no_sum : (m : ℕ) → Sum m ≡ other → ⊥
   no_count : (m : ℕ) → Count m ≡ other → ⊥
+  no_squares : (m : ℕ) → SumOfSquares m ≡ other → ⊥
 
 Avg-IsNoPart : (n : ℕ) → IsNoPart (Avg n)
-Avg-IsNoPart n = record { no_sum = λ m same. cc; no_count = λ m same. cc }
+Avg-IsNoPart n = record { no_sum = λ m same. cc; no_count = λ m same. cc; no_squares = λ m same. cc }
+
+VarPop-IsNoPart : (n : ℕ) → IsNoPart (VarPop n)
+VarPop-IsNoPart n = record { no_sum = λ m same. cc; no_count = λ m same. cc; no_squares = λ m same. cc }
+
+VarSamp-IsNoPart : (n : ℕ) → IsNoPart (VarSamp n)
+VarSamp-IsNoPart n = record { no_sum = λ m same. cc; no_count = λ m same. cc; no_squares = λ m same. cc }
 
 -- it is none of the parts that are added
-no_part-parts : (given : List Agg) (m : ℕ) (other : Agg) → IsNoPart other
-    → Contains (with_aggregate (with_aggregate given (Sum m)) (Count m)) other → Contains given other
-no_part-parts given m other no_part among =
+no_part-mean : (given : List Agg) (m : ℕ) (other : Agg) → IsNoPart other → Contains (with_mean_parts given m) other
+    → Contains given other
+no_part-mean given m other no_part among =
     elim (with_aggregate-cases (with_aggregate given (Sum m)) (Count m) other among) [
       | inl sums ↦ elim (with_aggregate-cases given (Sum m) other sums) [
         | inl own ↦ own
@@ -100,9 +123,20 @@ no_part-parts given m other no_part among =
       | inr same ↦ absurd (no_part.no_count m same)
     ]
 
+no_part-variance : (given : List Agg) (m : ℕ) (other : Agg) → IsNoPart other
+    → Contains (with_variance_parts given m) other → Contains given other
+no_part-variance given m other no_part among =
+    elim (with_aggregate-cases (with_mean_parts given m) (SumOfSquares m) other among) [
+      | inl means ↦ no_part-mean given m other no_part means
+      | inr same ↦ absurd (no_part.no_squares m same)
+    ]
+
 with_parts-no_part : (given : List Agg) (agg other : Agg) → IsNoPart other → Contains (with_parts given agg) other
     → Contains given other
-with_parts-no_part given (Avg m) other no_part among = no_part-parts given m other no_part among
+with_parts-no_part given (Avg m) other no_part among = no_part-mean given m other no_part among
+with_parts-no_part given (VarPop m) other no_part among = no_part-variance given m other no_part among
+with_parts-no_part given (VarSamp m) other no_part among = no_part-variance given m other no_part among
+with_parts-no_part given (SumOfSquares m) other no_part among = among
 with_parts-no_part given CountAll other no_part among = among
 with_parts-no_part given (Count m) other no_part among = among
 with_parts-no_part given (Sum m) other no_part among = among
@@ -111,7 +145,7 @@ with_parts-no_part given (Max m) other no_part among = among
 with_parts-no_part given (CountDistinct m) other no_part among = among
 with_parts-no_part given (PercentileDisc m units places) other no_part among = among
 
--- ---- the parts of all means
+-- ---- the parts of all means and variances
 fold-keeps : (given means : List Agg) (other : Agg) → Contains given other
     → Contains (fold with_parts given means) other
 fold-keeps given [] other among = among
@@ -124,14 +158,12 @@ fold-no_part given [] other no_part among = among
 fold-no_part given (agg ∷ means) other no_part among =
     with_parts-no_part given agg other no_part (fold-no_part (with_parts given agg) means other no_part among)
 
-fold-Avg : (given means : List Agg) (n : ℕ) → Contains (fold with_parts given means) (Avg n) → Contains given (Avg n)
-fold-Avg given means n among = fold-no_part given means (Avg n) (Avg-IsNoPart n) among
-
 -- a distinct count or a percentile of the partial form is one of the schema's own
 holistic-IsNoPart : (agg : Agg) → is_holistic agg ≡ true → IsNoPart agg
 holistic-IsNoPart agg holistic = record {
   no_sum = λ m same. false≢true (ap is_holistic same ∙ holistic);
   no_count = λ m same. false≢true (ap is_holistic same ∙ holistic);
+  no_squares = λ m same. false≢true (ap is_holistic same ∙ holistic);
 }
 
 partial-holistic : (aggregates : List Agg) (agg : Agg) → list_any is_holistic aggregates ≡ false
@@ -141,27 +173,78 @@ partial-holistic aggregates agg none among holistic =
     (fold-no_part aggregates aggregates agg (holistic-IsNoPart agg holistic) among) holistic)
 
 -- the sum and the count of each mean
-with_parts-HasParts : (given : List Agg) (m : ℕ)
-    → Contains (with_parts given (Avg m)) (Sum m) × Contains (with_parts given (Avg m)) (Count m)
-with_parts-HasParts given m = (
+HasMeanParts-with : (given : List Agg) (m : ℕ)
+    → Contains (with_mean_parts given m) (Sum m) × Contains (with_mean_parts given m) (Count m)
+HasMeanParts-with given m = (
   with_aggregate-keeps (with_aggregate given (Sum m)) (Count m) (Sum m) (with_aggregate-has given (Sum m)),
   with_aggregate-has (with_aggregate given (Sum m)) (Count m),
 )
 
-fold-HasParts : (given means : List Agg) (m : ℕ) → Contains means (Avg m)
-    → Contains (fold with_parts given means) (Sum m) × Contains (fold with_parts given means) (Count m)
-fold-HasParts given [] m among = absurd (Contains-nil (Avg m) among)
-fold-HasParts given (agg ∷ means) m among = elim (Contains-cases agg means (Avg m) among) [
+-- and the sum of squares of each variance
+abbrev ContainsParts : List Agg → ℕ → Type 0
+ContainsParts given m = Contains given (Sum m) × Contains given (Count m) × Contains given (SumOfSquares m)
+
+ContainsParts-with : (given : List Agg) (m : ℕ) → ContainsParts (with_variance_parts given m) m
+ContainsParts-with given m =
+    let parts = HasMeanParts-with given m in (
+      with_aggregate-keeps (with_mean_parts given m) (SumOfSquares m) (Sum m) parts.0,
+      with_aggregate-keeps (with_mean_parts given m) (SumOfSquares m) (Count m) parts.1,
+      with_aggregate-has (with_mean_parts given m) (SumOfSquares m),
+    )
+
+-- a part that one of the aggregates adds stands there in the end
+fold-part : (given aggregates : List Agg) (agg part : Agg)
+    → ((some : List Agg) → Contains (with_parts some agg) part) → Contains aggregates agg
+    → Contains (fold with_parts given aggregates) part
+fold-part given [] agg part adds among = absurd (Contains-nil agg among)
+fold-part given (first ∷ aggregates) agg part adds among = elim (Contains-cases first aggregates agg among) [
   | inl here ↦
-      let parts = subst (λ mean. Contains (with_parts given mean) (Sum m) × Contains (with_parts given mean) (Count m))
-      (sym here) (with_parts-HasParts given m) in (
-        fold-keeps (with_parts given agg) means (Sum m) parts.0,
-        fold-keeps (with_parts given agg) means (Count m) parts.1,
-      )
-  | inr after ↦ fold-HasParts (with_parts given agg) means m after
+      fold-keeps (with_parts given first) aggregates part
+      (subst (λ other. Contains (with_parts given other) part) (sym here) (adds given))
+  | inr after ↦ fold-part (with_parts given first) aggregates agg part adds after
 ]
 
+-- so what each mean and each variance of the partial form is made of stands there
+partial-mean : (aggregates : List Agg) (m : ℕ) → Contains (partial_aggregates aggregates) (Avg m)
+    → Contains (partial_aggregates aggregates) (Sum m) × Contains (partial_aggregates aggregates) (Count m)
+partial-mean aggregates m among =
+    let own = fold-no_part aggregates aggregates (Avg m) (Avg-IsNoPart m) among in (
+      fold-part aggregates aggregates (Avg m) (Sum m) (λ some. (HasMeanParts-with some m).0) own,
+      fold-part aggregates aggregates (Avg m) (Count m) (λ some. (HasMeanParts-with some m).1) own,
+    )
+
+partial-variance : (aggregates : List Agg) (agg : Agg) (m : ℕ) → IsNoPart agg
+    → ((some : List Agg) → with_parts some agg ≡ with_variance_parts some m)
+    → Contains (partial_aggregates aggregates) agg → ContainsParts (partial_aggregates aggregates) m
+partial-variance aggregates agg m no_part adds among =
+    let own = fold-no_part aggregates aggregates agg no_part among in
+    let has : (part : Agg) → ((some : List Agg) → Contains (with_variance_parts some m) part)
+    → Contains (partial_aggregates aggregates) part
+    = λ part each. fold-part aggregates aggregates agg part
+    (λ some. subst (λ more. Contains more part) (sym (adds some)) (each some)) own in (
+      has (Sum m) (λ some. (ContainsParts-with some m).0),
+      has (Count m) (λ some. (ContainsParts-with some m).1),
+      has (SumOfSquares m) (λ some. (ContainsParts-with some m).2),
+    )
+
+partial-VarPop : (aggregates : List Agg) (m : ℕ) → Contains (partial_aggregates aggregates) (VarPop m)
+    → ContainsParts (partial_aggregates aggregates) m
+partial-VarPop aggregates m among =
+    partial-variance aggregates (VarPop m) m (VarPop-IsNoPart m) (λ some. refl) among
+
+partial-VarSamp : (aggregates : List Agg) (m : ℕ) → Contains (partial_aggregates aggregates) (VarSamp m)
+    → ContainsParts (partial_aggregates aggregates) m
+partial-VarSamp aggregates m among =
+    partial-variance aggregates (VarSamp m) m (VarSamp-IsNoPart m) (λ some. refl) among
+
 -- ---- what an answer is made of
+ContainsParts-Stand : (given : List Agg) (m : ℕ) → ContainsParts given m → HasVarianceParts given m
+ContainsParts-Stand given m parts = (
+  Contains-Stands given (Sum m) parts.0,
+  Contains-Stands given (Count m) parts.1,
+  Contains-Stands given (SumOfSquares m) parts.2,
+)
+
 partial-CanBeMadeOf : (aggregates : List Agg) (agg : Agg) → list_any is_holistic aggregates ≡ false
     → Contains (partial_aggregates aggregates) agg → CanBeMadeOf (partial_aggregates aggregates) agg
 partial-CanBeMadeOf aggregates (CountDistinct m) none among =
@@ -169,10 +252,16 @@ partial-CanBeMadeOf aggregates (CountDistinct m) none among =
 partial-CanBeMadeOf aggregates (PercentileDisc m units places) none among =
     absurd (partial-holistic aggregates (PercentileDisc m units places) none among refl)
 partial-CanBeMadeOf aggregates (Avg m) none among =
-    let parts = fold-HasParts aggregates aggregates m (fold-Avg aggregates aggregates m among) in (
+    let parts = partial-mean aggregates m among in (
       Contains-Stands (partial_aggregates aggregates) (Sum m) parts.0,
       Contains-Stands (partial_aggregates aggregates) (Count m) parts.1,
     )
+partial-CanBeMadeOf aggregates (VarPop m) none among =
+    ContainsParts-Stand (partial_aggregates aggregates) m (partial-VarPop aggregates m among)
+partial-CanBeMadeOf aggregates (VarSamp m) none among =
+    ContainsParts-Stand (partial_aggregates aggregates) m (partial-VarSamp aggregates m among)
+partial-CanBeMadeOf aggregates (SumOfSquares m) none among =
+    Contains-Stands (partial_aggregates aggregates) (SumOfSquares m) among
 partial-CanBeMadeOf aggregates CountAll none among = Contains-Stands (partial_aggregates aggregates) CountAll among
 partial-CanBeMadeOf aggregates (Count m) none among = Contains-Stands (partial_aggregates aggregates) (Count m) among
 partial-CanBeMadeOf aggregates (Sum m) none among = Contains-Stands (partial_aggregates aggregates) (Sum m) among
@@ -192,14 +281,14 @@ own-each aggregates none =
 
 -- the rows of the whole are merged rows
 pub AreMergedOf-whole : (s : Layout) (parts : List (List Fact)) (cubes : List (List Row)) (rows : List Row)
-    → needs_numbers s ≡ false → 1 ≤ length parts → AllZip (AreRows (partial_form s)) parts cubes
+    → has_holistic s ≡ false → 1 ≤ length parts → AllZip (AreRows (partial_form s)) parts cubes
     → AreRows s (joined parts) rows → AreMergedOf (partial_aggregates s.aggregates) s.aggregates cubes rows
 AreMergedOf-whole s parts cubes rows none some are whole =
     AreMergedOf-AreRowsOver s.grouping_sets (length s.dimensions)
     (partial_aggregates s.aggregates) s.aggregates parts cubes rows (own-each s.aggregates none) some are whole
 
 pub AreMergedOf-partial : (s : Layout) (parts : List (List Fact)) (cubes : List (List Row)) (rows : List Row)
-    → needs_numbers s ≡ false → 1 ≤ length parts → AllZip (AreRows (partial_form s)) parts cubes
+    → has_holistic s ≡ false → 1 ≤ length parts → AllZip (AreRows (partial_form s)) parts cubes
     → AreRows (partial_form s) (joined parts) rows
     → AreMergedOf (partial_aggregates s.aggregates) (partial_aggregates s.aggregates) cubes rows
 AreMergedOf-partial s parts cubes rows none some are whole =
@@ -215,6 +304,9 @@ is_aggregate-itself (Min m) = eq-eqb m m refl
 is_aggregate-itself (Max m) = eq-eqb m m refl
 is_aggregate-itself (Avg m) = eq-eqb m m refl
 is_aggregate-itself (CountDistinct m) = eq-eqb m m refl
+is_aggregate-itself (SumOfSquares m) = eq-eqb m m refl
+is_aggregate-itself (VarPop m) = eq-eqb m m refl
+is_aggregate-itself (VarSamp m) = eq-eqb m m refl
 is_aggregate-itself (PercentileDisc m units places) =
     and_from (m == m && units == units) (places == places)
     (and_from (m == m) (units == units) (eq-eqb m m refl) (eq-eqb units units refl)) (eq-eqb places places refl)
@@ -226,36 +318,48 @@ has_aggregate-among given agg among = Contains-list_any (is_aggregate agg) given
 with_aggregate-there : (given : List Agg) (agg : Agg) → Contains given agg → with_aggregate given agg ≡ given
 with_aggregate-there given agg among = rw (has_aggregate-among given agg among) refl
 
--- the sum and the count of each mean stand there
-abbrev HasPartsOf : List Agg → Agg → Type 0
-HasPartsOf given agg = (m : ℕ) → agg ≡ Avg m → Contains given (Sum m) × Contains given (Count m)
+mean_parts-there : (given : List Agg) (m : ℕ) → Contains given (Sum m) → Contains given (Count m)
+    → with_mean_parts given m ≡ given
+mean_parts-there given m sums counts =
+    ap (λ more. with_aggregate more (Count m)) (with_aggregate-there given (Sum m) sums)
+    ∙ with_aggregate-there given (Count m) counts
 
-with_parts-there : (given : List Agg) (agg : Agg) → HasPartsOf given agg → with_parts given agg ≡ given
-with_parts-there given (Avg m) has =
-    let parts = has m refl in
-    ap (λ more. with_aggregate more (Count m)) (with_aggregate-there given (Sum m) parts.0)
-    ∙ with_aggregate-there given (Count m) parts.1
-with_parts-there given CountAll has = refl
-with_parts-there given (Count m) has = refl
-with_parts-there given (Sum m) has = refl
-with_parts-there given (Min m) has = refl
-with_parts-there given (Max m) has = refl
-with_parts-there given (CountDistinct m) has = refl
-with_parts-there given (PercentileDisc m units places) has = refl
+variance_parts-there : (given : List Agg) (m : ℕ) → ContainsParts given m → with_variance_parts given m ≡ given
+variance_parts-there given m parts =
+    ap (λ more. with_aggregate more (SumOfSquares m)) (mean_parts-there given m parts.0 parts.1)
+    ∙ with_aggregate-there given (SumOfSquares m) parts.2
 
-fold-there : (given means : List Agg) → AllByRecursion (HasPartsOf given) means → fold with_parts given means ≡ given
-fold-there given [] has = refl
-fold-there given (agg ∷ means) has =
-    ap (λ more. fold with_parts more means) (with_parts-there given agg has.0) ∙ fold-there given means has.1
+-- no aggregate of the partial form adds anything to it
+partial-there : (aggregates : List Agg) (agg : Agg) → Contains (partial_aggregates aggregates) agg
+    → with_parts (partial_aggregates aggregates) agg ≡ partial_aggregates aggregates
+partial-there aggregates (Avg m) among =
+    let parts = partial-mean aggregates m among in
+    mean_parts-there (partial_aggregates aggregates) m parts.0 parts.1
+partial-there aggregates (VarPop m) among =
+    variance_parts-there (partial_aggregates aggregates) m (partial-VarPop aggregates m among)
+partial-there aggregates (VarSamp m) among =
+    variance_parts-there (partial_aggregates aggregates) m (partial-VarSamp aggregates m among)
+partial-there aggregates (SumOfSquares m) among = refl
+partial-there aggregates CountAll among = refl
+partial-there aggregates (Count m) among = refl
+partial-there aggregates (Sum m) among = refl
+partial-there aggregates (Min m) among = refl
+partial-there aggregates (Max m) among = refl
+partial-there aggregates (CountDistinct m) among = refl
+partial-there aggregates (PercentileDisc m units places) among = refl
+
+fold-there : (given aggregates : List Agg) → AllByRecursion (λ agg. with_parts given agg ≡ given) aggregates
+    → fold with_parts given aggregates ≡ given
+fold-there given [] there = refl
+fold-there given (agg ∷ aggregates) there =
+    ap (λ more. fold with_parts more aggregates) there.0 ∙ fold-there given aggregates there.1
 
 partial_aggregates-itself : (aggregates : List Agg)
     → partial_aggregates (partial_aggregates aggregates) ≡ partial_aggregates aggregates
 partial_aggregates-itself aggregates =
     fold-there (partial_aggregates aggregates) (partial_aggregates aggregates)
-    (Contains-AllByRecursion (HasPartsOf (partial_aggregates aggregates))
-    (partial_aggregates aggregates) (λ agg among m is.
-    fold-HasParts aggregates aggregates m
-    (fold-Avg aggregates aggregates m (subst (Contains (partial_aggregates aggregates)) is among))))
+    (Contains-AllByRecursion (λ agg. with_parts (partial_aggregates aggregates) agg ≡ partial_aggregates aggregates)
+    (partial_aggregates aggregates) (partial-there aggregates))
 
 pub partial_form-itself : (s : Layout) → partial_form (partial_form s) ≡ partial_form s
 partial_form-itself s =
@@ -269,14 +373,28 @@ each-passes : (p : Agg → Bool) (xs : List Agg) → AllByRecursion (λ x. p x �
 each-passes p [] all = refl
 each-passes p (x ∷ xs) all = rw (all.0, each-passes p xs all.1) refl
 
+ContainsParts-makes : (given : List Agg) (m : ℕ) → ContainsParts given m → can_make_variance given m ≡ true
+ContainsParts-makes given m parts =
+    rw (
+      has_aggregate-among given (Count m) parts.1,
+      has_aggregate-among given (Sum m) parts.0,
+      has_aggregate-among given (SumOfSquares m) parts.2,
+    ) refl
+
 partial-makes : (aggregates : List Agg) (agg : Agg) → list_any is_holistic aggregates ≡ false
     → Contains (partial_aggregates aggregates) agg → can_be_made (partial_aggregates aggregates) agg ≡ true
 partial-makes aggregates (CountDistinct m) none among =
     absurd (partial-holistic aggregates (CountDistinct m) none among refl)
 partial-makes aggregates (PercentileDisc m units places) none among =
     absurd (partial-holistic aggregates (PercentileDisc m units places) none among refl)
+partial-makes aggregates (VarPop m) none among =
+    ContainsParts-makes (partial_aggregates aggregates) m (partial-VarPop aggregates m among)
+partial-makes aggregates (VarSamp m) none among =
+    ContainsParts-makes (partial_aggregates aggregates) m (partial-VarSamp aggregates m among)
+partial-makes aggregates (SumOfSquares m) none among =
+    has_aggregate-among (partial_aggregates aggregates) (SumOfSquares m) among
 partial-makes aggregates (Avg m) none among =
-    let parts = fold-HasParts aggregates aggregates m (fold-Avg aggregates aggregates m among) in
+    let parts = partial-mean aggregates m among in
     rw (
       has_aggregate-among (partial_aggregates aggregates) (Sum m) parts.0,
       has_aggregate-among (partial_aggregates aggregates) (Count m) parts.1,

@@ -2,7 +2,7 @@
 use Rattle.std.specs.Prelude.{◌≡◌, ◌==◌, ◌||◌, ◌+◌, ◌≤◌, ℕ, false, List, [], ◌∷◌, ◌++◌, codes, length}
 use Rattle.std.specs.Prelude.{◌≢◌, ◌<◌, ◌^◌, true, get_or, if◌then◌else◌}
 use Rattle.std.specs.List.{AllByRecursion, flat_map, list_any}
-use Rattle.std.proofs.Common.{refl, ap, ◌∙◌, arith}
+use Rattle.std.proofs.Common.{refl, ap, ap₂, ◌∙◌, arith}
 use Rattle.std.specs.Fmt.{decimal}
 use Rattle.std.specs.Str.{all_ascii_digits}
 use Rattle.std.specs.Str.Parse.{digits_value}
@@ -13,6 +13,7 @@ use Rattle.csv.specs.Quoting.{needs_byte}
 use Rattle.csv.specs.Writing.{default_writer, field_text, fields_text, is_blank}
 use Rattle.cube_core.specs.Layout.{sample_layout}
 use Rattle.cube_core.specs.Text.{line, padded, pointed, row_fields, text_of_rows}
+use Rattle.cube_core.proofs.LongDecimalLaws.{long_decimal_digit, long_decimal_is_decimal}
 use Rattle.cube_laws.specs.Decimals.{ArePrintedSo}
 use Rattle.cube_laws.specs.Lines.{IsPlain, IsPlainByte, sample_row}
 
@@ -105,6 +106,9 @@ decimals-printed = record {
   zero_itself = ap (λ digits. pointed 2 (padded 3 digits)) (decimal_digit 0 (omega arith));
   whole = decimal-1920;
   mean = λ i. (decimal-49 i ++ codes "/") ++ decimal-6 i;
+  squares = ap (λ digits. pointed 4 (padded 5 digits)) (long_decimal_is_decimal 1920 (omega arith) ∙ decimal-1920);
+  variance = ap₂ (λ (top bottom : List ℕ). (top ++ codes "/") ++ bottom) (long_decimal_digit 1 (omega arith))
+      (long_decimal_digit 6 (omega arith));
 }
 
 pub row_fields-sample : row_fields sample_layout sample_row

@@ -9,32 +9,41 @@ use Rattle.std.specs.List.{AllByRecursion, AllZip, cons_option, list_all, list_a
 use Rattle.std.proofs.lemmas.Bool.{cases_Bool, and_parts, or_cases, both_ways, false≢true, eqb-true}
 use Rattle.std.proofs.lemmas.Int.{ints, fits_signed_from_abs, unsigned_abs-mul}
 use Rattle.std.proofs.lemmas.List.Elements.{All-filter, All-from_recursion, recursion_from_All}
+use Rattle.std.proofs.lemmas.List.Sums.{sum_by-cons}
 use Rattle.std.proofs.lemmas.Nat.Gcd.{IsGcd-swap, le_of_dvd}
-use Rattle.std.proofs.Math.Nat.{dvd-mul_left, dvd-mul_right, mul_comm, le-mul_of_pos_right}
-use Rattle.cube_core.specs.Answer.{IsSum, IsBest, IsMean, IsAnswer, AreAnswers, IsPercentile}
+use Rattle.std.proofs.Math.Nat.{dvd-mul_left, dvd-mul_right, mul_comm, le-mul_of_pos_right, mul-le-mul}
+use Rattle.cube_core.specs.Answer.{IsSum, IsBest, IsMean, IsAnswer, AreAnswers, IsPercentile, IsSumOfSquares}
+use Rattle.cube_core.specs.Answer.{IsVarianceAnswer}
 use Rattle.cube_core.specs.Covers.{covers}
 use Rattle.cube_core.specs.Cube.{AreRows, HasAnswers, is_total, key_of}
 use Rattle.cube_core.specs.Fraction.{IsInLowestTerms}
 use Rattle.cube_core.specs.Group.{group_of, values_of, value_of, total_of}
 use Rattle.cube_core.specs.GroupingSet.{is_all_coord}
 use Rattle.cube_core.specs.Layout.{Layout, keeps}
+use Rattle.cube_core.specs.Variance.{IsVariance, freedom_of, spread, square, squares_of}
+use Rattle.cube_core.specs.Wide.{IsReduced}
 use Rattle.cube_core.specs.declared.aggregate.Agg.{Agg}
 use Rattle.cube_core.specs.declared.aggregate.Agg.TheVariants.{CountAll, Count, Sum, Min, Max, Avg}
 use Rattle.cube_core.specs.declared.aggregate.Agg.TheVariants.{CountDistinct, PercentileDisc}
+use Rattle.cube_core.specs.declared.aggregate.Agg.TheVariants.{SumOfSquares, VarPop, VarSamp}
 use Rattle.cube_core.specs.declared.aggregate.Answer.{Answer}
-use Rattle.cube_core.specs.declared.aggregate.Answer.TheVariants.{Whole}
+use Rattle.cube_core.specs.declared.aggregate.Answer.TheVariants.{Null, Count as CountOf, Whole, Ratio}
+use Rattle.cube_core.specs.declared.aggregate.Answer.TheVariants.{Squares, Variance}
 use Rattle.cube_core.specs.declared.fact.Fact.{Fact}
 use Rattle.cube_core.specs.declared.key.Key.{Key}
 use Rattle.cube_core.specs.declared.key.Row.{Row}
 use Rattle.cube_core.proofs.CommonDivisorLaws.{divides-coprime}
+use Rattle.cube_core.proofs.VarianceLaws.{squares_and_spread}
 use Rattle.cube_core.proofs.ListLaws.{AllByRecursion-Contains, Contains-AllByRecursion, map-Contains, filter-passed}
 use Rattle.cube_core.proofs.ListLaws.{Contains-head, Contains-nil, filter-failed}
-use Rattle.cube_merge.specs.Lawful.{IsCount, IsNumber, IsValue, IsFraction, IsOfKind, IsLawfulRow}
+use Rattle.cube_merge.specs.Lawful.{IsCount, IsNumber, IsValue, IsFraction, IsOfKind, IsLawfulRow, IsSquares}
+use Rattle.cube_merge.specs.Lawful.{IsVarianceFraction}
 use Rattle.cube_merge.specs.Lawful.{IsNoZero, CountsFacts, IsInOrder, IsAtLeast, IsWithin}
-use Rattle.cube_merge.specs.Lawful.{IsNoneAmong, TellsNone, measure_of, tells_none}
+use Rattle.cube_merge.specs.Lawful.{IsNoneAmong, TellsNone, measure_of, tells_no_value, tells_none}
 use Rattle.cube_laws.specs.Told.{HasSmallValues, AreCountable, CanBePrinted}
 use Rattle.cube_laws.proofs.HolisticLaws.{IsDistinct-length, IsPercentile-Contains}
 use Rattle.cube_laws.proofs.KeyLaws.{IsTold-is_cell}
+use Rattle.cube_laws.proofs.StatisticsLaws.{IsReduced-IsInLowestTerms, IsVariance-spread}
 
 -- ---- sizes
 -- a number is as far from 0 as its size
@@ -138,6 +147,66 @@ IsMean-IsFraction (v ∷ vs) a few small h =
       h.3.coprime,
     )
 
+-- the sum of the squares of fewer than 2 to the power 64 numbers of 64 bits
+square-small : (z : ℤ) → FitsSigned w64 z → square z ≤ 2 ^ 63 * 2 ^ 63
+square-small z fits =
+    mul-le-mul {n₁ = unsigned_abs z} {m₁ = unsigned_abs z} {n₂ = 2 ^ 63} {m₂ = 2 ^ 63}
+    (fits-unsigned_abs z fits) (fits-unsigned_abs z fits)
+
+squares_of-small : (values : List ℤ) → AllByRecursion (FitsSigned w64) values
+    → squares_of values ≤ length values * (2 ^ 63 * 2 ^ 63)
+squares_of-small [] small = omega arith
+squares_of-small (v ∷ vs) small =
+    omega (arith, square-small v small.0, squares_of-small vs small.1, sum_by-cons square v vs)
+
+squares_of-fits : (values : List ℤ) → length values < 2 ^ 64 → AllByRecursion (FitsSigned w64) values
+    → squares_of values < 2 ^ 190
+squares_of-fits values few small = omega (arith, squares_of-small values small, few)
+
+IsSumOfSquares-IsSquares : (values : List ℤ) (a : Answer) → length values < 2 ^ 64
+    → AllByRecursion (FitsSigned w64) values → IsSumOfSquares values a → IsSquares a
+IsSumOfSquares-IsSquares [] a few small h = subst IsSquares (sym h) tt
+IsSumOfSquares-IsSquares (v ∷ vs) a few small h =
+    subst IsSquares (sym h) (omega (arith, squares_of-fits (v ∷ vs) few small))
+
+-- a variance is no larger than what it is made of
+freedom_of-le : (is_sample : Bool) (n : ℕ) → freedom_of is_sample n ≤ n
+freedom_of-le true n = omega arith
+freedom_of-le false n = omega arith
+
+spread-fits : (values : List ℤ) → length values < 2 ^ 64 → AllByRecursion (FitsSigned w64) values
+    → spread values < 2 ^ 256
+spread-fits values few small =
+    let product : length values * squares_of values ≤ 2 ^ 64 * 2 ^ 190 =
+    mul-le-mul {n₁ = length values} {m₁ = squares_of values} {n₂ = 2 ^ 64} {m₂ = 2 ^ 190}
+    (omega (arith, few)) (omega (arith, squares_of-fits values few small)) in
+    omega (arith, product, squares_and_spread values)
+
+IsVariance-bounds : (values : List ℤ) (is_sample : Bool) (p q : ℕ) → length values < 2 ^ 64
+    → AllByRecursion (FitsSigned w64) values → IsVariance values is_sample p q → (p < 2 ^ 256) × (q < 2 ^ 128)
+IsVariance-bounds values is_sample p q few small h =
+    let n = length values in
+    let f = freedom_of is_sample n in
+    let reduced : IsReduced (spread values) (n * f) p q = IsVariance-spread values is_sample p q h in
+    let terms = IsReduced-IsInLowestTerms (spread values) (n * f) p q reduced in
+    let size = IsInLowestTerms-total (pos (spread values)) (n * f) (pos p) q reduced.some terms in
+    let count = IsInLowestTerms-count (pos (spread values)) (n * f) (pos p) q reduced.some terms in
+    let product : n * f ≤ 18446744073709551615 * 18446744073709551615 =
+    mul-le-mul {n₁ = n} {m₁ = f} {n₂ = 18446744073709551615} {m₂ = 18446744073709551615}
+    (omega (arith, few)) (omega (arith, few, freedom_of-le is_sample n)) in
+    (omega (arith, size, spread-fits values few small), omega (arith, count, product))
+
+IsVarianceAnswer-IsVarianceFraction : (is_sample : Bool) (values : List ℤ) (a : Answer) → length values < 2 ^ 64
+    → AllByRecursion (FitsSigned w64) values → IsVarianceAnswer is_sample values a → IsVarianceFraction a
+IsVarianceAnswer-IsVarianceFraction is_sample values Null few small h = tt
+IsVarianceAnswer-IsVarianceFraction is_sample values (Variance p q) few small h =
+    let bounds = IsVariance-bounds values is_sample p q few small h in
+    (bounds.0, bounds.1, h.fraction.positive, h.fraction.coprime)
+IsVarianceAnswer-IsVarianceFraction is_sample values (CountOf n) few small h = absurd h
+IsVarianceAnswer-IsVarianceFraction is_sample values (Whole z) few small h = absurd h
+IsVarianceAnswer-IsVarianceFraction is_sample values (Ratio p q) few small h = absurd h
+IsVarianceAnswer-IsVarianceFraction is_sample values (Squares n) few small h = absurd h
+
 -- ---- groups
 length-filter-le : {X : Type 0} (p : X → Bool) (xs : List X) → length (filter p xs) ≤ length xs
 length-filter-le p [] = omega arith
@@ -204,6 +273,24 @@ IsAnswer-IsOfKind group (CountDistinct m) a countable (numbers, sorted, same, is
     ))
 IsAnswer-IsOfKind group (PercentileDisc m units places) a countable h =
     IsPercentile-IsValue units places (values_of m group) a (values_of-small m group countable.small) h
+IsAnswer-IsOfKind group (SumOfSquares m) a countable h =
+    IsSumOfSquares-IsSquares (values_of m group) a (omega (
+      arith,
+      length-values_of-le m group,
+      countable.few,
+    )) (values_of-small m group countable.small) h
+IsAnswer-IsOfKind group (VarPop m) a countable h =
+    IsVarianceAnswer-IsVarianceFraction false (values_of m group) a (omega (
+      arith,
+      length-values_of-le m group,
+      countable.few,
+    )) (values_of-small m group countable.small) h
+IsAnswer-IsOfKind group (VarSamp m) a countable h =
+    IsVarianceAnswer-IsVarianceFraction true (values_of m group) a (omega (
+      arith,
+      length-values_of-le m group,
+      countable.few,
+    )) (values_of-small m group countable.small) h
 
 AreAnswers-AreOfKind : (group : List Fact) (aggregates : List Agg) (answers : List Answer) → AreCountable group
     → AreAnswers group aggregates answers → AllZip IsOfKind aggregates answers
@@ -245,6 +332,9 @@ IsAnswer-CountsFacts group (Max m) a some h = tt
 IsAnswer-CountsFacts group (Avg m) a some h = tt
 IsAnswer-CountsFacts group (CountDistinct m) a some h = tt
 IsAnswer-CountsFacts group (PercentileDisc m units places) a some h = tt
+IsAnswer-CountsFacts group (SumOfSquares m) a some h = tt
+IsAnswer-CountsFacts group (VarPop m) a some h = tt
+IsAnswer-CountsFacts group (VarSamp m) a some h = tt
 
 AreAnswers-CountFacts : (group : List Fact) (aggregates : List Agg) (answers : List Answer) → 0 < length group
     → AreAnswers group aggregates answers → AllZip CountsFacts aggregates answers
@@ -275,6 +365,9 @@ IsAnswer-IsAtLeast group m least (Max other) a h k =
 IsAnswer-IsAtLeast group m least (Avg other) a h k = tt
 IsAnswer-IsAtLeast group m least (CountDistinct other) a h k = tt
 IsAnswer-IsAtLeast group m least (PercentileDisc other units places) a h k = tt
+IsAnswer-IsAtLeast group m least (SumOfSquares other) a h k = tt
+IsAnswer-IsAtLeast group m least (VarPop other) a h k = tt
+IsAnswer-IsAtLeast group m least (VarSamp other) a h k = tt
 
 AreAnswers-AreAtLeast : (group : List Fact) (m : ℕ) (least : Answer) (aggregates : List Agg) (answers : List Answer)
     → IsAnswer group (Min m) least → AreAnswers group aggregates answers
@@ -298,6 +391,9 @@ module _ (group : List Fact) (aggregates : List Agg) (answers : List Answer)
   IsAnswer-IsWithin (Avg m) a h = tt
   IsAnswer-IsWithin (CountDistinct m) a h = tt
   IsAnswer-IsWithin (PercentileDisc m units places) a h = tt
+  IsAnswer-IsWithin (SumOfSquares m) a h = tt
+  IsAnswer-IsWithin (VarPop m) a h = tt
+  IsAnswer-IsWithin (VarSamp m) a h = tt
 
   AreAnswers-AreWithin : (some : List Agg) (their : List Answer) → AreAnswers group some their
       → AllZip (IsWithin aggregates answers) some their
@@ -330,9 +426,28 @@ empty-same xs [] empty within = refl
 empty-same xs (y ∷ ys) empty within =
     absurd (Contains-nil y (subst (λ zs. Contains zs y) empty (within y (Contains-head y ys))))
 
--- so does an answer of a measure
+-- of the population a variance is null where there is no value, and there alone
+none-of-variance : (values : List ℤ) (a : Answer) → IsVarianceAnswer false values a → tells_none a ≡ true → values ≡ []
+none-of-variance [] a h none = refl
+none-of-variance (v ∷ vs) Null h none = absurd (omega (arith, h))
+none-of-variance (v ∷ vs) (Variance p q) h none = absurd (false≢true none)
+none-of-variance (v ∷ vs) (CountOf n) h none = absurd h
+none-of-variance (v ∷ vs) (Whole z) h none = absurd h
+none-of-variance (v ∷ vs) (Ratio p q) h none = absurd h
+none-of-variance (v ∷ vs) (Squares n) h none = absurd h
+
+-- of no value a variance is null
+variance-of-none : (is_sample : Bool) (a : Answer) → IsVarianceAnswer is_sample [] a → tells_none a ≡ true
+variance-of-none is_sample Null h = refl
+variance-of-none is_sample (Variance p q) h = absurd (omega (arith, h.fraction.some))
+variance-of-none is_sample (CountOf n) h = absurd h
+variance-of-none is_sample (Whole z) h = absurd h
+variance-of-none is_sample (Ratio p q) h = absurd h
+variance-of-none is_sample (Squares n) h = absurd h
+
+-- so does an answer of a measure, but for the variance of a sample
 tells_none-values : (group : List Fact) (m : ℕ) (agg : Agg) (a : Answer) → IsAnswer group agg a
-    → measure_of agg ≡ Some m → tells_none a ≡ true → values_of m group ≡ []
+    → measure_of agg ≡ Some m → tells_no_value agg a ≡ true → values_of m group ≡ []
 tells_none-values group m CountAll a h is none = cc
 tells_none-values group m (Count k) a h is none =
     subst (λ n. values_of n group ≡ []) (some-same k m is)
@@ -360,6 +475,14 @@ tells_none-values group m (PercentileDisc k units places) a h is none =
       by_values : (values : List ℤ) → IsPercentile units places values a → values ≡ []
       by_values [] s = refl
       by_values (v ∷ vs) s = absurd (false≢true (ap tells_none (sym s.1) ∙ none))
+tells_none-values group m (SumOfSquares k) a h is none =
+    subst (λ n. values_of n group ≡ []) (some-same k m is) (by_values (values_of k group) h) where
+      by_values : (values : List ℤ) → IsSumOfSquares values a → values ≡ []
+      by_values [] s = refl
+      by_values (v ∷ vs) s = absurd (false≢true (ap tells_none (sym s) ∙ none))
+tells_none-values group m (VarPop k) a h is none =
+    subst (λ n. values_of n group ≡ []) (some-same k m is) (none-of-variance (values_of k group) a h none)
+tells_none-values group m (VarSamp k) a h is none = absurd (false≢true none)
 
 values-tells_none : (group : List Fact) (m : ℕ) (agg : Agg) (a : Answer) → values_of m group ≡ []
     → IsAnswer group agg a → TellsNone m agg a
@@ -380,6 +503,12 @@ values-tells_none group m (CountDistinct k) a empty (numbers, sorted, same, coun
     (empty-same (values_of k group) numbers (none-at group k m empty is) (λ x there. (same x).0 there))
 values-tells_none group m (PercentileDisc k units places) a empty h is =
     ap tells_none (subst (λ values. IsPercentile units places values a) (none-at group k m empty is) h)
+values-tells_none group m (SumOfSquares k) a empty h is =
+    ap tells_none (subst (λ values. IsSumOfSquares values a) (none-at group k m empty is) h)
+values-tells_none group m (VarPop k) a empty h is =
+    variance-of-none false a (subst (λ values. IsVarianceAnswer false values a) (none-at group k m empty is) h)
+values-tells_none group m (VarSamp k) a empty h is =
+    variance-of-none true a (subst (λ values. IsVarianceAnswer true values a) (none-at group k m empty is) h)
 
 AreAnswers-TellNone : (group : List Fact) (m : ℕ) (aggregates : List Agg) (answers : List Answer)
     → values_of m group ≡ [] → AreAnswers group aggregates answers → AllZip (TellsNone m) aggregates answers
@@ -392,7 +521,7 @@ AreAnswers-TellNone group m (agg ∷ aggregates) (a ∷ answers) empty all =
 module _ (group : List Fact) (aggregates : List Agg) (answers : List Answer)
     (all : AreAnswers group aggregates answers) where
   none-of_measure : (m : ℕ) (agg : Agg) (a : Answer) → IsAnswer group agg a → measure_of agg ≡ Some m
-      → tells_none a ≡ true → AllZip (TellsNone m) aggregates answers
+      → tells_no_value agg a ≡ true → AllZip (TellsNone m) aggregates answers
   none-of_measure m agg a h is none =
       AreAnswers-TellNone group m aggregates answers (tells_none-values group m agg a h is none) all
 
@@ -406,6 +535,9 @@ module _ (group : List Fact) (aggregates : List Agg) (answers : List Answer)
   IsAnswer-IsNoneAmong (CountDistinct m) a h none = none-of_measure m (CountDistinct m) a h refl none
   IsAnswer-IsNoneAmong (PercentileDisc m units places) a h none =
       none-of_measure m (PercentileDisc m units places) a h refl none
+  IsAnswer-IsNoneAmong (SumOfSquares m) a h none = none-of_measure m (SumOfSquares m) a h refl none
+  IsAnswer-IsNoneAmong (VarPop m) a h none = none-of_measure m (VarPop m) a h refl none
+  IsAnswer-IsNoneAmong (VarSamp m) a h none = none-of_measure m (VarSamp m) a h refl none
 
   AreAnswers-AreNone : (some : List Agg) (their : List Answer) → AreAnswers group some their
       → AllZip (IsNoneAmong aggregates answers) some their

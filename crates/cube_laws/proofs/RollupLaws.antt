@@ -49,6 +49,9 @@ measure_in (agg.Max m) = m
 measure_in (agg.Avg m) = m
 measure_in (agg.CountDistinct m) = m
 measure_in (agg.PercentileDisc m units places) = m
+measure_in (agg.SumOfSquares m) = m
+measure_in (agg.VarPop m) = m
+measure_in (agg.VarSamp m) = m
 
 -- what an answer to an aggregate of numbers says
 IsAnswer-Says : (group : List Fact) (aggregate : Agg) (a : Answer) → gives_numbers aggregate ≡ true →
@@ -63,6 +66,9 @@ IsAnswer-Says group (agg.Avg m) a numbers h = cc
 IsAnswer-Says group (agg.CountDistinct m) a numbers h = cc
 IsAnswer-Says group (agg.PercentileDisc m units places) a numbers h =
     IsPercentile-Says units places (values_of m group) a h
+IsAnswer-Says group (agg.SumOfSquares m) a numbers h = cc
+IsAnswer-Says group (agg.VarPop m) a numbers h = cc
+IsAnswer-Says group (agg.VarSamp m) a numbers h = cc
 
 module _ (s : Layout) (facts : List Fact) (rows : List Row) (row : Row) (dimension place : ℕ)
     (is : IsRolledUp s facts rows row dimension) where

@@ -1,5 +1,5 @@
 -- The rows of a cube over one list of facts are one list.
-use Rattle.std.proofs.Common.{◌≡◌, ℕ, ◌≤ℤ◌, ℤ, List, [], ◌∷◌, length, map, refl, sym}
+use Rattle.std.proofs.Common.{◌≡◌, ℕ, ◌≤ℤ◌, ℤ, true, false, List, [], ◌∷◌, length, map, refl, sym}
 use Rattle.std.proofs.Common.{ap, ap₂, ◌∙◌, subst, arith, zero-lt-suc}
 use Rattle.std.specs.List.{AllByRecursion}
 use Rattle.std.proofs.lemmas.Int.{ints}
@@ -17,6 +17,7 @@ use Rattle.cube_core.specs.declared.fact.Fact.{Fact}
 use Rattle.cube_core.specs.declared.key.Row.{Row}
 use Rattle.cube_laws.proofs.FractionLaws.{IsInLowestTerms-unique}
 use Rattle.cube_laws.proofs.HolisticLaws.{IsDistinctCount-unique, IsPercentile-unique}
+use Rattle.cube_laws.proofs.StatisticsLaws.{IsSumOfSquares-unique, IsVarianceAnswer-unique}
 use Rattle.cube_laws.proofs.SortedLaws.{IsStrictlySortedBy-unique}
 use Rattle.cube_core.proofs.KeyOrderLaws.{key_cmp-IsTotalOrder}
 use Rattle.cube_core.proofs.ListLaws.{AllByRecursion-Contains}
@@ -58,6 +59,9 @@ IsAnswer-unique group (agg.Avg m) a b h k = IsMean-unique (values_of m group) a 
 IsAnswer-unique group (agg.CountDistinct m) a b h k = IsDistinctCount-unique (values_of m group) a b h k
 IsAnswer-unique group (agg.PercentileDisc m units places) a b h k =
     IsPercentile-unique units places (values_of m group) a b h k
+IsAnswer-unique group (agg.SumOfSquares m) a b h k = IsSumOfSquares-unique (values_of m group) a b h k
+IsAnswer-unique group (agg.VarPop m) a b h k = IsVarianceAnswer-unique false (values_of m group) a b h k
+IsAnswer-unique group (agg.VarSamp m) a b h k = IsVarianceAnswer-unique true (values_of m group) a b h k
 
 -- the answers over a group are determined
 pub AreAnswers-unique : (group : List Fact) (aggregates : List Agg) (as' bs : List Answer) →

@@ -1,7 +1,8 @@
 -- Facts in another order have the same groups, up to order, and so the same answers and rows.
-use Rattle.std.proofs.Common.{◌≡◌, ℕ, suc, ◌≤ℤ◌, ℤ, ◌+ℤ◌, Bool, cond, List, [], ◌∷◌, length}
+use Rattle.std.proofs.Common.{◌≡◌, ℕ, suc, ◌*◌, ◌≤ℤ◌, ℤ, pos, ◌+ℤ◌, ◌-ℤ◌, ◌*ℤ◌, Bool, true, false, cond, List, [], ◌∷◌}
+use Rattle.std.proofs.Common.{length, sum_by}
 use Rattle.std.proofs.Common.{map, filter_map, Option, Some, None, Contains, IsPermutation, IsTrue}
-use Rattle.std.proofs.Common.{◌↔◌, ◌||◌, ◌&&◌, refl, sym, ap, ◌∙◌, subst, subst₂, arith}
+use Rattle.std.proofs.Common.{◌↔◌, ◌||◌, ◌&&◌, refl, sym, ap, ◌∙◌, subst, subst₂, ap₂, arith}
 use Rattle.std.specs.List.{AllByRecursion, cons_option, count_by}
 use Rattle.std.specs.Ordering.{int_cmp, is_lt, is_le}
 use Rattle.std.proofs.lemmas.Int.{ints}
@@ -12,13 +13,15 @@ use Rattle.cube_core.specs.Layout.{Layout}
 use Rattle.cube_core.proofs.ReorderedLaws.{Reordered, none, next, exchange, both, Reordered-refl, IsPermutation-Reordered}
 use Rattle.cube_core.proofs.ReorderedLaws.{Reordered-sym, Reordered-IsPermutation, filter-Reordered}
 use Rattle.cube_core.specs.Answer.{IsSum, IsBest, IsMean, IsAnswer, AreAnswers, IsDistinctCount, IsPercentile, StandsAt}
-use Rattle.cube_core.specs.Answer.{percentile_place}
+use Rattle.cube_core.specs.Answer.{IsSumOfSquares, IsVarianceAnswer, percentile_place}
 use Rattle.cube_core.specs.Covers.{covers}
 use Rattle.cube_core.specs.Cube.{AreRowsOver, HasAnswers, key_of, is_cell, is_total}
 use Rattle.cube_core.specs.Fraction.{IsInLowestTerms}
 use Rattle.cube_core.specs.Group.{group_of, total_of, values_of, value_of}
 use Rattle.cube_core.specs.GroupingSet.{is_among, mask_of}
 use Rattle.cube_core.specs.Printed.{IsPrinted}
+use Rattle.cube_core.specs.Variance.{deviations_of, freedom_of, square, squares_of}
+use Rattle.cube_core.specs.Wide.{IsReduced}
 use Rattle.cube_core.specs.declared.aggregate.Agg.{Agg}
 use Rattle.cube_core.specs.declared.aggregate.Agg.TheVariants as agg
 use Rattle.cube_core.specs.declared.aggregate.Answer.{Answer}
@@ -145,6 +148,36 @@ IsPercentile-Reordered units places (v ∷ vs) (w ∷ ws) a r (x, is, stands) = 
       (subst (λ (n : ℕ). StandsAt (percentile_place units places n) (v ∷ vs) x) (length-Reordered r) stands),
 )
 
+-- the same squares
+squares_of-Reordered : {xs ys : List ℤ} → Reordered xs ys → squares_of xs ≡ squares_of ys
+squares_of-Reordered {xs} {ys} r = sym (sum_by-IsPermutation square xs ys (Reordered-IsPermutation r))
+
+IsSumOfSquares-Reordered : (values values' : List ℤ) (a : Answer) → Reordered values values' → IsSumOfSquares values a
+    → IsSumOfSquares values' a
+IsSumOfSquares-Reordered [] [] a r h = h
+IsSumOfSquares-Reordered [] (w ∷ ws) a r h = absurd (omega (arith, length-Reordered r))
+IsSumOfSquares-Reordered (v ∷ vs) [] a r h = absurd (omega (arith, length-Reordered r))
+IsSumOfSquares-Reordered (v ∷ vs) (w ∷ ws) a r h = h ∙ ap answer.Squares (squares_of-Reordered r)
+
+-- as far from their mean
+deviations_of-Reordered : {xs ys : List ℤ} → Reordered xs ys → deviations_of xs ≡ deviations_of ys
+deviations_of-Reordered {xs} {ys} r =
+    ap₂ (λ (n : ℕ) (z : ℤ). sum_by (λ x. square (pos n *ℤ x -ℤ z)) xs) (length-Reordered r) (total_of-Reordered r)
+    ∙ sym (sum_by-IsPermutation (λ x. square (pos (length ys) *ℤ x -ℤ total_of ys)) xs ys (Reordered-IsPermutation r))
+
+IsVarianceAnswer-Reordered : (is_sample : Bool) (values values' : List ℤ) (a : Answer) → Reordered values values'
+    → IsVarianceAnswer is_sample values a → IsVarianceAnswer is_sample values' a
+IsVarianceAnswer-Reordered is_sample values values' answer.Null r h =
+    subst (λ n. freedom_of is_sample n ≡ 0) (length-Reordered r) h
+IsVarianceAnswer-Reordered is_sample values values' (answer.Variance p q) r h = record {
+  fraction = subst₂ (λ d n. IsReduced d (n * n * freedom_of is_sample n) p q)
+      (deviations_of-Reordered r) (length-Reordered r) h.fraction;
+}
+IsVarianceAnswer-Reordered is_sample values values' (answer.Count n) r h = absurd h
+IsVarianceAnswer-Reordered is_sample values values' (answer.Whole z) r h = absurd h
+IsVarianceAnswer-Reordered is_sample values values' (answer.Ratio p q) r h = absurd h
+IsVarianceAnswer-Reordered is_sample values values' (answer.Squares n) r h = absurd h
+
 -- an answer over a group is one over the group in another order
 IsAnswer-Reordered : (group group' : List Fact) (aggregate : Agg) (a : Answer) → Reordered group group' →
     IsAnswer group aggregate a → IsAnswer group' aggregate a
@@ -162,6 +195,12 @@ IsAnswer-Reordered group group' (agg.CountDistinct m) a r h =
     IsDistinctCount-Reordered (values_of m group) (values_of m group') a (values_of-Reordered m r) h
 IsAnswer-Reordered group group' (agg.PercentileDisc m units places) a r h =
     IsPercentile-Reordered units places (values_of m group) (values_of m group') a (values_of-Reordered m r) h
+IsAnswer-Reordered group group' (agg.SumOfSquares m) a r h =
+    IsSumOfSquares-Reordered (values_of m group) (values_of m group') a (values_of-Reordered m r) h
+IsAnswer-Reordered group group' (agg.VarPop m) a r h =
+    IsVarianceAnswer-Reordered false (values_of m group) (values_of m group') a (values_of-Reordered m r) h
+IsAnswer-Reordered group group' (agg.VarSamp m) a r h =
+    IsVarianceAnswer-Reordered true (values_of m group) (values_of m group') a (values_of-Reordered m r) h
 
 AreAnswers-Reordered : (group group' : List Fact) (aggregates : List Agg) (answers : List Answer)
     → Reordered group group' →

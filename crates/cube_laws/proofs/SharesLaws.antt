@@ -1,31 +1,38 @@
 -- What the answers of rows over shares of facts make is the answer over all of the facts.
-use Rattle.std.proofs.Common.{◌≡◌, ℕ, zero, suc, ◌≤ℤ◌, ℤ, List, [], ◌∷◌, ◌++◌, length, map, flat_map, sum_by, slice_get}
+use Rattle.std.proofs.Common.{◌≡◌, ◌↔◌, ℕ, zero, suc, ◌+◌, ◌≤ℤ◌, ℤ, Bool, true, false, List, [], ◌∷◌, ◌++◌}
+use Rattle.std.proofs.Common.{length, map, flat_map, sum_by, slice_get}
 use Rattle.std.proofs.Common.{Some, IsPermutation, refl, sym, ap, ◌∙◌, subst, arith}
-use Rattle.std.specs.List.{AllByRecursion, AllZip, cons_option}
+use Rattle.std.specs.List.{AllByRecursion, AllZip, cons_option, filter_map}
 use Rattle.std.proofs.lemmas.Int.{ints}
 use Rattle.std.proofs.lemmas.List.Concat.{length-flat_map}
 use Rattle.std.proofs.lemmas.List.Elements.{filter_map-append}
 use Rattle.std.proofs.lemmas.List.Sorted.{IsPermutation-map, sum_by-IsPermutation}
-use Rattle.cube_core.specs.Answer.{IsSum, IsBest, IsMean, IsAnswer, AreAnswers}
+use Rattle.std.proofs.lemmas.List.Sums.{sum_by-append, sum_by-cons}
+use Rattle.cube_core.specs.Answer.{IsSum, IsBest, IsMean, IsAnswer, AreAnswers, IsSumOfSquares, IsVarianceAnswer}
 use Rattle.cube_core.specs.Fraction.{IsInLowestTerms}
 use Rattle.cube_core.specs.Group.{values_of, value_of, total_of}
 use Rattle.cube_core.specs.Merged.{count_answered, number_in, sum_of_counts, numbers_of, column, IsMeanOf, IsMerged}
+use Rattle.cube_core.specs.Merged.{IsMadeVariance, IsSumOfAll, IsVarianceOf, squares_among, squares_in, sum_of_squares}
+use Rattle.cube_core.specs.Variance.{freedom_of, square, squares_of}
 use Rattle.cube_core.specs.declared.aggregate.Agg.{Agg}
 use Rattle.cube_core.specs.declared.aggregate.Agg.TheVariants.{CountAll, Count, Sum, Min, Max, Avg}
 use Rattle.cube_core.specs.declared.aggregate.Agg.TheVariants.{CountDistinct, PercentileDisc}
+use Rattle.cube_core.specs.declared.aggregate.Agg.TheVariants.{SumOfSquares, VarPop, VarSamp}
 use Rattle.cube_core.specs.declared.aggregate.Answer.{Answer}
 use Rattle.cube_core.specs.declared.aggregate.Answer.TheVariants as answer
 use Rattle.cube_core.specs.declared.fact.Fact.{Fact}
 use Rattle.cube_core.specs.declared.key.Row.{Row}
 use Rattle.cube_core.proofs.ListLaws.{AllByRecursion-Contains, Contains-AllByRecursion, sum_by-map, sum_by-same}
 use Rattle.cube_laws.specs.Cells.{answer_at}
-use Rattle.cube_laws.specs.Merging.{CanBeMadeOf}
+use Rattle.cube_laws.specs.Merging.{CanBeMadeOf, HasVarianceParts}
 use Rattle.cube_laws.proofs.CountLaws.{AreAnswers-slice_get}
-use Rattle.cube_core.proofs.ReorderedLaws.{Reordered, IsPermutation-Reordered}
-use Rattle.cube_laws.proofs.RowOrderLaws.{filter_map-Reordered, total_of-Reordered}
+use Rattle.cube_core.proofs.ReorderedLaws.{Reordered, IsPermutation-Reordered, Reordered-IsPermutation}
+use Rattle.cube_core.proofs.VarianceLaws.{IsVariance-sums}
+use Rattle.cube_laws.proofs.RowOrderLaws.{filter_map-Reordered, length-Reordered, total_of-Reordered}
 use Rattle.cube_laws.proofs.RowOrderLaws.{IsSum-Reordered, IsBest-Reordered}
 use Rattle.cube_laws.proofs.RollupBestLaws.{Says, IsSum-Says, numbers_among, numbers_among-none, numbers_among-total_of}
 use Rattle.cube_laws.proofs.RollupBestLaws.{IsBest-numbers_among, IsBest-values_under, IsSum-total_of}
+use Rattle.cube_laws.proofs.StatisticsLaws.{IsVariance-reduced}
 
 -- a share of facts: some of them, and the row that answers over these
 abbrev pub Share : Type 0
@@ -113,6 +120,99 @@ IsMean-IsMeanOf (v ∷ vs) total (suc n) a sums counts h = (
       (subst (λ k. IsInLowestTerms (total_of (v ∷ vs)) k h.0 h.1) (sym counts) h.3),
 )
 
+-- ---- squares
+-- the sums of squares that the rows of shares answer
+abbrev squares_in_shares : ℕ → List Share → List ℕ
+squares_in_shares place shares = filter_map (λ share. squares_in (answer_in place share)) shares
+
+squares_among-shares : (place : ℕ) (shares : List Share)
+    → squares_among (column place (map row_in shares)) ≡ squares_in_shares place shares
+squares_among-shares place [] = refl
+squares_among-shares place (share ∷ shares) =
+    ap (cons_option (squares_in (answer_in place share))) (squares_among-shares place shares)
+
+-- one more answer, with its values, keeps both lists empty or neither
+squares_in-none : (values : List ℤ) (a : Answer) (sums : List ℕ) (others : List ℤ) → IsSumOfSquares values a
+    → (length sums ≡ 0) ↔ (length others ≡ 0)
+    → (length (cons_option (squares_in a) sums) ≡ 0) ↔ (length (values ++ others) ≡ 0)
+squares_in-none [] a sums others h both =
+    subst (λ b. (length (cons_option (squares_in b) sums) ≡ 0) ↔ (length others ≡ 0)) (sym h) both
+squares_in-none (v ∷ vs) a sums others h both =
+    subst (λ b. (length (cons_option (squares_in b) sums) ≡ 0) ↔ (length (v ∷ vs ++ others) ≡ 0)) (sym h)
+    (λ some. absurd (omega (arith, some)), λ some. absurd (omega (arith, some)))
+
+-- one more answer that is a sum of squares
+squares_in-sum : (values : List ℤ) (a : Answer) (sums : List ℕ) (others : List ℤ) → IsSumOfSquares values a
+    → sum_by (λ n. n) sums ≡ squares_of others
+    → sum_by (λ n. n) (cons_option (squares_in a) sums) ≡ squares_of (values ++ others)
+squares_in-sum [] a sums others h same = ap (λ b. sum_by (λ n. n) (cons_option (squares_in b) sums)) h ∙ same
+squares_in-sum (v ∷ vs) a sums others h same =
+    ap (λ b. sum_by (λ n. n) (cons_option (squares_in b) sums)) h
+    ∙ sum_by-cons (λ n. n) (squares_of (v ∷ vs)) sums
+    ∙ ap (λ t. squares_of (v ∷ vs) + t) same
+    ∙ sym (sum_by-append square (v ∷ vs) others)
+
+-- so of all shares
+squares_in_shares-none : (place m : ℕ) (shares : List Share)
+    → AllByRecursion (λ share. IsSumOfSquares (values_in m share) (answer_in place share)) shares
+    → (length (squares_in_shares place shares) ≡ 0) ↔ (length (flat_map (values_in m) shares) ≡ 0)
+squares_in_shares-none place m [] each = (λ e. e, λ e. e)
+squares_in_shares-none place m (share ∷ shares) each =
+    squares_in-none (values_in m share) (answer_in place share) (squares_in_shares place shares)
+    (flat_map (values_in m) shares) each.0 (squares_in_shares-none place m shares each.1)
+
+squares_in_shares-sum : (place m : ℕ) (shares : List Share)
+    → AllByRecursion (λ share. IsSumOfSquares (values_in m share) (answer_in place share)) shares
+    → sum_by (λ n. n) (squares_in_shares place shares) ≡ squares_of (flat_map (values_in m) shares)
+squares_in_shares-sum place m [] each = refl
+squares_in_shares-sum place m (share ∷ shares) each =
+    squares_in-sum (values_in m share) (answer_in place share) (squares_in_shares place shares)
+    (flat_map (values_in m) shares) each.0 (squares_in_shares-sum place m shares each.1)
+
+-- a sum of sums of squares is the sum of the values' squares, where these are the same, and none or some
+IsSumOfAll-IsSumOfSquares : (sums : List ℕ) (values : List ℤ) (a : Answer)
+    → (length sums ≡ 0) ↔ (length values ≡ 0) → sum_by (λ n. n) sums ≡ squares_of values
+    → IsSumOfAll sums a → IsSumOfSquares values a
+IsSumOfAll-IsSumOfSquares [] [] a both same h = h
+IsSumOfAll-IsSumOfSquares [] (v ∷ vs) a both same h = absurd (omega (arith, both.0 refl))
+IsSumOfAll-IsSumOfSquares (n ∷ ns) [] a both same h = absurd (omega (arith, both.1 refl))
+IsSumOfAll-IsSumOfSquares (n ∷ ns) (v ∷ vs) a both same h = h ∙ ap answer.Squares same
+
+IsSumOfSquares-IsSumOfAll : (sums : List ℕ) (values : List ℤ) (a : Answer)
+    → (length sums ≡ 0) ↔ (length values ≡ 0) → sum_by (λ n. n) sums ≡ squares_of values
+    → IsSumOfSquares values a → IsSumOfAll sums a
+IsSumOfSquares-IsSumOfAll [] [] a both same h = h
+IsSumOfSquares-IsSumOfAll [] (v ∷ vs) a both same h = absurd (omega (arith, both.0 refl))
+IsSumOfSquares-IsSumOfAll (n ∷ ns) [] a both same h = absurd (omega (arith, both.1 refl))
+IsSumOfSquares-IsSumOfAll (n ∷ ns) (v ∷ vs) a both same h = h ∙ ap answer.Squares (sym same)
+
+-- ---- variances
+-- a variance of values is made of their count, their sum and the sum of their squares
+IsVarianceOf-IsVarianceAnswer : (is_sample : Bool) (values : List ℤ) (count : ℕ) (total : ℤ) (squares : ℕ) (a : Answer)
+    → count ≡ length values → total ≡ total_of values → squares ≡ squares_of values
+    → IsVarianceOf is_sample count total squares a → IsVarianceAnswer is_sample values a
+IsVarianceOf-IsVarianceAnswer is_sample values count total squares answer.Null counts sums squared h =
+    subst (λ n. freedom_of is_sample n ≡ 0) counts h
+IsVarianceOf-IsVarianceAnswer is_sample values count total squares (answer.Variance p q) counts sums squared h =
+    IsVariance-sums values is_sample p q (rw (counts, sums, squared) at h)
+IsVarianceOf-IsVarianceAnswer is_sample values count total squares (answer.Count n) counts sums squared h = absurd h
+IsVarianceOf-IsVarianceAnswer is_sample values count total squares (answer.Whole z) counts sums squared h = absurd h
+IsVarianceOf-IsVarianceAnswer is_sample values count total squares (answer.Ratio p q) counts sums squared h = absurd h
+IsVarianceOf-IsVarianceAnswer is_sample values count total squares (answer.Squares n) counts sums squared h = absurd h
+
+-- and a variance that is made of them is that of the values
+IsVarianceAnswer-IsVarianceOf : (is_sample : Bool) (values : List ℤ) (count : ℕ) (total : ℤ) (squares : ℕ) (a : Answer)
+    → count ≡ length values → total ≡ total_of values → squares ≡ squares_of values
+    → IsVarianceAnswer is_sample values a → IsVarianceOf is_sample count total squares a
+IsVarianceAnswer-IsVarianceOf is_sample values count total squares answer.Null counts sums squared h =
+    subst (λ n. freedom_of is_sample n ≡ 0) (sym counts) h
+IsVarianceAnswer-IsVarianceOf is_sample values count total squares (answer.Variance p q) counts sums squared h =
+    rw (counts, sums, squared) (IsVariance-reduced values is_sample p q h)
+IsVarianceAnswer-IsVarianceOf is_sample values count total squares (answer.Count n) counts sums squared h = absurd h
+IsVarianceAnswer-IsVarianceOf is_sample values count total squares (answer.Whole z) counts sums squared h = absurd h
+IsVarianceAnswer-IsVarianceOf is_sample values count total squares (answer.Ratio p q) counts sums squared h = absurd h
+IsVarianceAnswer-IsVarianceOf is_sample values count total squares (answer.Squares n) counts sums squared h = absurd h
+
 module _ (given : List Agg) (shares : List Share) (each : AllByRecursion (Answers given) shares) where
   -- all facts, and the rows
   abbrev all_facts : List Fact
@@ -171,6 +271,36 @@ module _ (given : List Agg) (shares : List Share) (each : AllByRecursion (Answer
       (answers-at (λ share. IsBest R (values_in m share) (answer_in place share)) place agg stands best)
       (subst (λ numbers. IsBest R numbers a) (numbers_of-shares place shares) h))
 
+  -- sums of squares are the sum of the squares
+  squares-at : (place m : ℕ) → slice_get given place ≡ Some (SumOfSquares m)
+      → AllByRecursion (λ share. IsSumOfSquares (values_in m share) (answer_in place share)) shares
+  squares-at place m stands =
+      answers-at (λ share. IsSumOfSquares (values_in m share) (answer_in place share)) place (SumOfSquares m) stands
+      (λ share is. is)
+
+  Squares-sum : (place m : ℕ) → slice_get given place ≡ Some (SumOfSquares m)
+      → sum_of_squares (column place share_rows) ≡ squares_of (values_of m all_facts)
+  Squares-sum place m stands =
+      ap (λ (sums : List ℕ). sum_by (λ n. n) sums) (squares_among-shares place shares)
+      ∙ squares_in_shares-sum place m shares (squares-at place m stands)
+      ∙ ap squares_of (sym (values_of-shares m shares))
+
+  Squares-none : (place m : ℕ) → slice_get given place ≡ Some (SumOfSquares m)
+      → (length (squares_among (column place share_rows)) ≡ 0) ↔ (length (values_of m all_facts) ≡ 0)
+  Squares-none place m stands =
+      subst (λ (values : List ℤ). (length (squares_among (column place share_rows)) ≡ 0) ↔ (length values ≡ 0))
+      (sym (values_of-shares m shares))
+      (subst (λ (sums : List ℕ). (length sums ≡ 0) ↔ (length (flat_map (values_in m) shares) ≡ 0))
+      (sym (squares_among-shares place shares))
+      (squares_in_shares-none place m shares (squares-at place m stands)))
+
+  Variance-shares : (is_sample : Bool) (m : ℕ) (a : Answer) → IsMadeVariance is_sample given share_rows m a
+      → IsVarianceAnswer is_sample (values_of m all_facts) a
+  Variance-shares is_sample m a h =
+      IsVarianceOf-IsVarianceAnswer is_sample (values_of m all_facts) (sum_of_counts (column h.1 share_rows))
+      (total_of (numbers_of (column h.0 share_rows))) (sum_of_squares (column h.2 share_rows)) a
+      (Count-shares h.1 m h.4) (Sum-total_of h.0 m h.3) (Squares-sum h.2 m h.5) h.6
+
   -- so what the rows' answers make is the answer over all facts
   pub IsMerged-shares : (agg : Agg) (a : Answer) → IsMerged given share_rows agg a → IsAnswer all_facts agg a
   IsMerged-shares CountAll a h =
@@ -189,6 +319,11 @@ module _ (given : List Agg) (shares : List Share) (each : AllByRecursion (Answer
       (Sum-total_of h.0 m h.2) (Count-shares h.1 m h.3) h.4
   IsMerged-shares (CountDistinct m) a h = absurd h
   IsMerged-shares (PercentileDisc m units places) a h = absurd h
+  IsMerged-shares (SumOfSquares m) a h =
+      IsSumOfAll-IsSumOfSquares (squares_among (column h.0 share_rows)) (values_of m all_facts) a
+      (Squares-none h.0 m h.1) (Squares-sum h.0 m h.1) h.2
+  IsMerged-shares (VarPop m) a h = Variance-shares false m a h
+  IsMerged-shares (VarSamp m) a h = Variance-shares true m a h
 
   pub AreMerged-shares : (wanted : List Agg) (answers : List Answer) → AllZip (IsMerged given share_rows) wanted answers
       → AreAnswers all_facts wanted answers
@@ -220,6 +355,20 @@ module _ (given : List Agg) (shares : List Share) (each : AllByRecursion (Answer
       (IsBest-numbers_among (values_in m) (answer_in place) R one shares a
       (answers-at (λ share. IsBest R (values_in m share) (answer_in place share)) place agg stands best)
       (subst (λ values. IsBest R values a) (values_of-shares m shares) h))
+
+  Variance-back : (is_sample : Bool) (m : ℕ) (a : Answer) → HasVarianceParts given m
+      → IsVarianceAnswer is_sample (values_of m all_facts) a → IsMadeVariance is_sample given share_rows m a
+  Variance-back is_sample m a made h = (
+    made.0.0,
+    made.1.0,
+    made.2.0,
+    made.0.1,
+    made.1.1,
+    made.2.1,
+    IsVarianceAnswer-IsVarianceOf is_sample (values_of m all_facts) (sum_of_counts (column made.1.0 share_rows))
+        (total_of (numbers_of (column made.0.0 share_rows))) (sum_of_squares (column made.2.0 share_rows)) a
+        (Count-shares made.1.0 m made.1.1) (Sum-total_of made.0.0 m made.0.1) (Squares-sum made.2.0 m made.2.1) h,
+  )
 
   IsAnswer-shares : (agg : Agg) (a : Answer) → CanBeMadeOf given agg → IsAnswer all_facts agg a
       → IsMerged given share_rows agg a
@@ -253,6 +402,14 @@ module _ (given : List Agg) (shares : List Share) (each : AllByRecursion (Answer
   )
   IsAnswer-shares (CountDistinct m) a made h = absurd made
   IsAnswer-shares (PercentileDisc m units places) a made h = absurd made
+  IsAnswer-shares (SumOfSquares m) a made h = (
+    made.0,
+    made.1,
+    IsSumOfSquares-IsSumOfAll (squares_among (column made.0 share_rows)) (values_of m all_facts) a
+        (Squares-none made.0 m made.1) (Squares-sum made.0 m made.1) h,
+  )
+  IsAnswer-shares (VarPop m) a made h = Variance-back false m a made h
+  IsAnswer-shares (VarSamp m) a made h = Variance-back true m a made h
 
   pub AreAnswers-shares : (wanted : List Agg) (answers : List Answer) → AllByRecursion (CanBeMadeOf given) wanted
       → AreAnswers all_facts wanted answers → AllZip (IsMerged given share_rows) wanted answers
@@ -274,6 +431,44 @@ numbers_of-Reordered : (place : ℕ) (rows rows' : List Row) → IsPermutation r
 numbers_of-Reordered place rows rows' h =
     filter_map-Reordered number_in (IsPermutation-Reordered (column place rows) (column place rows')
     (IsPermutation-map (answer_at place) rows rows' h))
+
+squares_among-Reordered : (place : ℕ) (rows rows' : List Row) → IsPermutation rows rows'
+    → Reordered (squares_among (column place rows)) (squares_among (column place rows'))
+squares_among-Reordered place rows rows' h =
+    filter_map-Reordered squares_in (IsPermutation-Reordered (column place rows) (column place rows')
+    (IsPermutation-map (answer_at place) rows rows' h))
+
+sum_of_squares-IsPermutation : (place : ℕ) (rows rows' : List Row) → IsPermutation rows rows'
+    → sum_of_squares (column place rows') ≡ sum_of_squares (column place rows)
+sum_of_squares-IsPermutation place rows rows' h =
+    sum_by-IsPermutation (λ n. n) (squares_among (column place rows)) (squares_among (column place rows'))
+    (Reordered-IsPermutation (squares_among-Reordered place rows rows' h))
+
+IsSumOfAll-Reordered : (sums sums' : List ℕ) (a : Answer) → Reordered sums sums' → IsSumOfAll sums a
+    → IsSumOfAll sums' a
+IsSumOfAll-Reordered [] [] a r h = h
+IsSumOfAll-Reordered [] (n ∷ ns) a r h = absurd (omega (arith, length-Reordered r))
+IsSumOfAll-Reordered (n ∷ ns) [] a r h = absurd (omega (arith, length-Reordered r))
+IsSumOfAll-Reordered (n ∷ ns) (k ∷ ks) a r h =
+    h ∙ ap answer.Squares (sym (sum_by-IsPermutation (λ n. n) (n ∷ ns) (k ∷ ks) (Reordered-IsPermutation r)))
+
+IsMadeVariance-IsPermutation : (is_sample : Bool) (given : List Agg) (rows rows' : List Row) (m : ℕ) (a : Answer)
+    → IsPermutation rows rows' → IsMadeVariance is_sample given rows m a → IsMadeVariance is_sample given rows' m a
+IsMadeVariance-IsPermutation is_sample given rows rows' m a p h = (
+  h.0,
+  h.1,
+  h.2,
+  h.3,
+  h.4,
+  h.5,
+  subst (λ (count : ℕ). IsVarianceOf is_sample count (total_of (numbers_of (column h.0 rows')))
+      (sum_of_squares (column h.2 rows')) a) (sym (sum_of_counts-IsPermutation h.1 rows rows' p))
+      (subst (λ (total : ℤ). IsVarianceOf is_sample (sum_of_counts (column h.1 rows)) total
+      (sum_of_squares (column h.2 rows')) a) (total_of-Reordered (numbers_of-Reordered h.0 rows rows' p))
+      (subst (λ (squares : ℕ). IsVarianceOf is_sample (sum_of_counts (column h.1 rows))
+      (total_of (numbers_of (column h.0 rows))) squares a)
+      (sym (sum_of_squares-IsPermutation h.2 rows rows' p)) h.6)),
+)
 
 -- rows in another order make the same answer
 pub IsMerged-IsPermutation : (given : List Agg) (rows rows' : List Row) (agg : Agg) (a : Answer)
@@ -300,6 +495,12 @@ IsMerged-IsPermutation given rows rows' (Avg m) a p h = (
 )
 IsMerged-IsPermutation given rows rows' (CountDistinct m) a p h = absurd h
 IsMerged-IsPermutation given rows rows' (PercentileDisc m units places) a p h = absurd h
+IsMerged-IsPermutation given rows rows' (SumOfSquares m) a p h =
+    (h.0, h.1, IsSumOfAll-Reordered _ _ a (squares_among-Reordered h.0 rows rows' p) h.2)
+IsMerged-IsPermutation given rows rows' (VarPop m) a p h =
+    IsMadeVariance-IsPermutation false given rows rows' m a p h
+IsMerged-IsPermutation given rows rows' (VarSamp m) a p h =
+    IsMadeVariance-IsPermutation true given rows rows' m a p h
 
 pub AreMerged-IsPermutation : (given : List Agg) (rows rows' : List Row) (wanted : List Agg) (answers : List Answer)
     → IsPermutation rows rows'

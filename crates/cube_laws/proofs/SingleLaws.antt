@@ -4,20 +4,22 @@ use Rattle.std.proofs.Common.{true, false, List, [], ◌∷◌, length, map, Opt
 use Rattle.std.proofs.Common.{ap₂, ◌∙◌, subst, inl, inr, arith}
 use Rattle.std.specs.List.{AllByRecursion, AllZip, cons_option, list_any, list_all}
 use Rattle.std.specs.List.Sorted.{IsStrictlySortedBy}
-use Rattle.std.proofs.Math.Nat.{pow-suc}
+use Rattle.std.proofs.Math.Nat.{one-dvd, pow-suc}
 use Rattle.std.proofs.lemmas.Bool.{and_from, and_parts, or_cases, or_right, eq-eqb, eqb-true, false≢true}
 use Rattle.std.proofs.lemmas.Int.{ints}
 use Rattle.std.proofs.lemmas.List.{length-map}
+use Rattle.std.proofs.lemmas.List.Sums.{sum_by-cons}
 use Rattle.std.proofs.lemmas.Map.Steps.{le-length_from_below}
 use Rattle.std.proofs.lemmas.Nat.Gcd.{IsGcd-from_mod, IsGcd-from_zero}
 use Rattle.std.proofs.lemmas.Slice.Eq.{bytes_eq-Decides}
 use Rattle.cube_core.specs.Answer.{IsAnswer, IsSum, IsLeast, IsGreatest, IsMean, IsDistinctCount, IsPercentile}
-use Rattle.cube_core.specs.Answer.{AreAnswers}
+use Rattle.cube_core.specs.Answer.{AreAnswers, IsSumOfSquares, IsVarianceAnswer}
 use Rattle.cube_core.specs.Covers.{covers, all_stand_for, stands_for}
 use Rattle.cube_core.specs.Cube.{AreRows, HasAnswers, key_of, is_cell, is_total}
 use Rattle.cube_core.specs.Group.{value_of}
 use Rattle.cube_core.specs.GroupingSet.{all_sets, is_all_coord, is_among, mask_of}
 use Rattle.cube_core.specs.Layout.{Layout, keeps}
+use Rattle.cube_core.specs.Variance.{IsVariance, square}
 use Rattle.cube_core.specs.declared.aggregate.Agg.{Agg}
 use Rattle.cube_core.specs.declared.aggregate.Agg.TheVariants as agg
 use Rattle.cube_core.specs.declared.aggregate.Answer.{Answer}
@@ -33,9 +35,11 @@ use Rattle.cube_core.proofs.GroupingLaws.{list_any-all_sets}
 use Rattle.cube_core.proofs.LifeLaws.{bytes_eq-itself}
 use Rattle.cube_core.proofs.ListLaws.{AllByRecursion-Contains, Contains-AllByRecursion, Contains-cases, Contains-head}
 use Rattle.cube_core.proofs.ListLaws.{Contains-list_any, Contains-nil, filter-passed, map-Contains}
+use Rattle.cube_core.proofs.VarianceLaws.{deviations_are_spread}
 use Rattle.cube_laws.specs.Cells.{most_cells}
 use Rattle.cube_laws.specs.Single.{HasValuesOrAll, coord_for, count_of_value, answer_of_value, mean_of_value}
 use Rattle.cube_laws.specs.Single.{answer_of_fact, answer_of_none, all_coords, total_of_none}
+use Rattle.cube_laws.specs.Single.{squares_of_value, variance_of_value}
 use Rattle.cube_laws.proofs.CellCountLaws.{AreRows-most_cells}
 use Rattle.cube_laws.proofs.CountLaws.{key_in_set}
 use Rattle.cube_laws.proofs.HolisticLaws.{IsPercentile-Contains}
@@ -212,6 +216,29 @@ IsPercentile-one units places (Some value) a h =
       | inr none ↦ absurd (Contains-nil w none)
     ]
 
+IsSumOfSquares-one : (value : Option ℤ) → IsSumOfSquares (cons_option value []) (squares_of_value value)
+IsSumOfSquares-one None = refl
+IsSumOfSquares-one (Some value) = ap answer.Squares (omega (arith, sum_by-cons square value []))
+
+-- the variance of one value is 0, and as a sample it is null
+IsVariance-one : (value : ℤ) → IsVariance (value ∷ []) false 0 1
+IsVariance-one value = record {
+  fraction = record {
+    some = omega arith;
+    positive = omega arith;
+    coprime = (one-dvd 0, one-dvd 1, λ d p q. q);
+    equal = omega (arith, deviations_are_spread (value ∷ []));
+  };
+}
+
+IsVarianceAnswer-one : (value : Option ℤ) → IsVarianceAnswer false (cons_option value []) (variance_of_value value)
+IsVarianceAnswer-one None = refl
+IsVarianceAnswer-one (Some value) = IsVariance-one value
+
+IsVarianceAnswer-sample : (value : Option ℤ) → IsVarianceAnswer true (cons_option value []) answer.Null
+IsVarianceAnswer-sample None = refl
+IsVarianceAnswer-sample (Some value) = refl
+
 IsAnswer-one : (fact : Fact) (aggregate : Agg) (a : Answer) → IsAnswer (fact ∷ []) aggregate a
     → a ≡ answer_of_fact fact aggregate
 IsAnswer-one fact agg.CountAll a h = h
@@ -228,6 +255,14 @@ IsAnswer-one fact (agg.CountDistinct m) a h =
     IsAnswer-unique (fact ∷ []) (agg.CountDistinct m) a (count_of_value (value_of m fact)) h
     (IsDistinctCount-one (value_of m fact))
 IsAnswer-one fact (agg.PercentileDisc m units places) a h = IsPercentile-one units places (value_of m fact) a h
+IsAnswer-one fact (agg.SumOfSquares m) a h =
+    IsAnswer-unique (fact ∷ []) (agg.SumOfSquares m) a (squares_of_value (value_of m fact)) h
+    (IsSumOfSquares-one (value_of m fact))
+IsAnswer-one fact (agg.VarPop m) a h =
+    IsAnswer-unique (fact ∷ []) (agg.VarPop m) a (variance_of_value (value_of m fact)) h
+    (IsVarianceAnswer-one (value_of m fact))
+IsAnswer-one fact (agg.VarSamp m) a h =
+    IsAnswer-unique (fact ∷ []) (agg.VarSamp m) a answer.Null h (IsVarianceAnswer-sample (value_of m fact))
 
 AreAnswers-one : (fact : Fact) (aggregates : List Agg) (answers : List Answer)
     → AreAnswers (fact ∷ []) aggregates answers → answers ≡ map (answer_of_fact fact) aggregates
@@ -259,6 +294,9 @@ IsAnswer-none (agg.Max m) = refl
 IsAnswer-none (agg.Avg m) = refl
 IsAnswer-none (agg.CountDistinct m) = IsDistinctCount-one None
 IsAnswer-none (agg.PercentileDisc m units places) = refl
+IsAnswer-none (agg.SumOfSquares m) = refl
+IsAnswer-none (agg.VarPop m) = refl
+IsAnswer-none (agg.VarSamp m) = refl
 
 AreAnswers-none : (aggregates : List Agg) → AreAnswers [] aggregates (map answer_of_none aggregates)
 AreAnswers-none [] = tt

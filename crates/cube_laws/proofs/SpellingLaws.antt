@@ -13,12 +13,13 @@ use Rattle.std.proofs.lemmas.Iterator.Adapters.{position_from-zero}
 use Rattle.std.proofs.lemmas.List.Folds.{list_all-append}
 use Rattle.cube_core.specs.Layout.{Layout, IsSchema, spelling_of, is_aggregate_of, is_listed, are_distinct}
 use Rattle.cube_core.specs.Layout.{is_lawful_name, is_level, level_text, percentile_opening}
-use Rattle.cube_core.specs.SchemaDocument.{aggregate_spelled}
+use Rattle.cube_core.specs.SchemaDocument.{aggregate_spelled, statistic_spelled}
 use Rattle.cube_core.specs.declared.aggregate.Agg.{Agg}
 use Rattle.cube_core.specs.declared.aggregate.Agg.TheVariants.{CountAll, Count, Sum, Min, Max, Avg}
 use Rattle.cube_core.specs.declared.aggregate.Agg.TheVariants.{CountDistinct, PercentileDisc}
+use Rattle.cube_core.specs.declared.aggregate.Agg.TheVariants.{SumOfSquares, VarPop, VarSamp}
 use Rattle.cube_core.proofs.SchemaSpellingLaws.{aggregate_spelled_measure_in, measure_in, position-between}
-use Rattle.cube_core.proofs.SchemaSpellingLaws.{position-between_none, bytes_eq-between}
+use Rattle.cube_core.proofs.SchemaSpellingLaws.{position-between_none, bytes_eq-between, statistic_spelled_measure_in}
 use Rattle.cube_core.proofs.PercentileSpellingLaws.{percentiles_over-one}
 use Rattle.cube_laws.specs.Written.{is_told_apart}
 
@@ -118,6 +119,22 @@ percentile-argument units places name =
     ap (λ t. t ++ codes ")") (sym (append_assoc (codes "percentile_disc(" ++ level_text places units) (codes ",") name
     ∙ append_assoc (codes "percentile_disc(") (level_text places units) (44 ∷ name)))
 
+-- a text that no count, sum, least or greatest value or mean has is looked for among the others
+statistic-last : (measures : List (List ℕ)) (text : List ℕ) (agg : Agg) → bytes_eq text (codes "count(*)") ≡ false
+    → measure_in measures text (codes "count(") ≡ None
+    → ((name : List ℕ) → bytes_eq text ((codes "sum(" ++ name) ++ codes ")") ≡ false)
+    → ((name : List ℕ) → bytes_eq text ((codes "min(" ++ name) ++ codes ")") ≡ false)
+    → ((name : List ℕ) → bytes_eq text ((codes "max(" ++ name) ++ codes ")") ≡ false)
+    → ((name : List ℕ) → bytes_eq text ((codes "avg(" ++ name) ++ codes ")") ≡ false)
+    → statistic_spelled measures text ≡ Some agg → aggregate_spelled measures text ≡ Some agg
+statistic-last measures text agg star counts sums least greatest means found =
+    aggregate_spelled_measure_in measures text
+    ∙ rw star (option_or-None Count _ _ _ counts
+    (option_or-None Sum _ _ _ (measure_in-other measures text (codes "sum(") sums)
+    (option_or-None Min _ _ _ (measure_in-other measures text (codes "min(") least)
+    (option_or-None Max _ _ _ (measure_in-other measures text (codes "max(") greatest)
+    (option_or-None Avg _ _ _ (measure_in-other measures text (codes "avg(") means) found)))))
+
 pub aggregate_spelled-spelling_of : (measures : List (List ℕ)) (agg : Agg) → list_all is_lawful_name measures ≡ true
     → are_distinct measures ≡ true → is_aggregate_of (length measures) agg ≡ true → is_told_apart measures agg ≡ true
     → aggregate_spelled measures (spelling_of measures agg) ≡ Some agg
@@ -164,28 +181,53 @@ aggregate_spelled-spelling_of measures (Avg m) lawful distinct of apart =
 aggregate_spelled-spelling_of measures (CountDistinct m) lawful distinct of apart =
     let inside : m < length measures = grind (arith, nat_tests) in
     let text : List ℕ = spelling_of measures (CountDistinct m) in
-    aggregate_spelled_measure_in measures text
-    ∙ option_or-None Count _ _ _ (measure_in-apart measures m apart)
-    (option_or-None Sum _ _ _ (measure_in-other measures text (codes "sum(") (λ name. refl))
-    (option_or-None Min _ _ _ (measure_in-other measures text (codes "min(") (λ name. refl))
-    (option_or-None Max _ _ _ (measure_in-other measures text (codes "max(") (λ name. refl))
-    (option_or-None Avg _ _ _ (measure_in-other measures text (codes "avg(") (λ name. refl))
-    (option_or-Some CountDistinct _ _ m (measure_in-own measures m (codes "count(distinct ") distinct inside))))))
+    statistic-last measures text (CountDistinct m) refl (measure_in-apart measures m apart) (λ name. refl)
+    (λ name. refl) (λ name. refl) (λ name. refl)
+    (statistic_spelled_measure_in measures text
+    ∙ option_or-Some CountDistinct _ _ m (measure_in-own measures m (codes "count(distinct ") distinct inside))
+aggregate_spelled-spelling_of measures (SumOfSquares m) lawful distinct of apart =
+    let inside : m < length measures = grind (arith, nat_tests) in
+    let text : List ℕ = spelling_of measures (SumOfSquares m) in
+    statistic-last measures text (SumOfSquares m) refl (measure_in-other measures text (codes "count(") (λ name. refl))
+    (λ name. refl) (λ name. refl) (λ name. refl) (λ name. refl)
+    (statistic_spelled_measure_in measures text
+    ∙ option_or-None CountDistinct _ _ _ (measure_in-other measures text (codes "count(distinct ") (λ name. refl))
+    (option_or-Some SumOfSquares _ _ m (measure_in-own measures m (codes "sum_of_squares(") distinct inside)))
+aggregate_spelled-spelling_of measures (VarPop m) lawful distinct of apart =
+    let inside : m < length measures = grind (arith, nat_tests) in
+    let text : List ℕ = spelling_of measures (VarPop m) in
+    statistic-last measures text (VarPop m) refl (measure_in-other measures text (codes "count(") (λ name. refl))
+    (λ name. refl) (λ name. refl) (λ name. refl) (λ name. refl)
+    (statistic_spelled_measure_in measures text
+    ∙ option_or-None CountDistinct _ _ _ (measure_in-other measures text (codes "count(distinct ") (λ name. refl))
+    (option_or-None SumOfSquares _ _ _ (measure_in-other measures text (codes "sum_of_squares(") (λ name. refl))
+    (option_or-Some VarPop _ _ m (measure_in-own measures m (codes "var_pop(") distinct inside))))
+aggregate_spelled-spelling_of measures (VarSamp m) lawful distinct of apart =
+    let inside : m < length measures = grind (arith, nat_tests) in
+    let text : List ℕ = spelling_of measures (VarSamp m) in
+    statistic-last measures text (VarSamp m) refl (measure_in-other measures text (codes "count(") (λ name. refl))
+    (λ name. refl) (λ name. refl) (λ name. refl) (λ name. refl)
+    (statistic_spelled_measure_in measures text
+    ∙ option_or-None CountDistinct _ _ _ (measure_in-other measures text (codes "count(distinct ") (λ name. refl))
+    (option_or-None SumOfSquares _ _ _ (measure_in-other measures text (codes "sum_of_squares(") (λ name. refl))
+    (option_or-None VarPop _ _ _ (measure_in-other measures text (codes "var_pop(") (λ name. refl))
+    (option_or-Some VarSamp _ _ m (measure_in-own measures m (codes "var_samp(") distinct inside)))))
 aggregate_spelled-spelling_of measures (PercentileDisc m units places) lawful distinct of apart =
     let (below, level) = and_parts (nat_lt m (length measures)) (is_level units places) of in
     let inside : m < length measures = grind (arith, nat_tests, below) in
     let text : List ℕ = spelling_of measures (PercentileDisc m units places) in
     let argument : List ℕ = level_text places units ++ 44 ∷ get_or measures m [] in
-    aggregate_spelled_measure_in measures text
-    ∙ option_or-None Count _ _ _ (measure_in-other measures text (codes "count(") (λ name. refl))
-    (option_or-None Sum _ _ _ (measure_in-other measures text (codes "sum(") (λ name. refl))
-    (option_or-None Min _ _ _ (measure_in-other measures text (codes "min(") (λ name. refl))
-    (option_or-None Max _ _ _ (measure_in-other measures text (codes "max(") (λ name. refl))
-    (option_or-None Avg _ _ _ (measure_in-other measures text (codes "avg(") (λ name. refl))
-    (option_or-None CountDistinct _ _ _ (measure_in-other measures text (codes "count(distinct ") (λ name. refl))
+    statistic-last measures text (PercentileDisc m units places) refl
+    (measure_in-other measures text (codes "count(") (λ name. refl)) (λ name. refl) (λ name. refl) (λ name. refl)
+    (λ name. refl)
+    (statistic_spelled_measure_in measures text
+    ∙ option_or-None CountDistinct _ _ _ (measure_in-other measures text (codes "count(distinct ") (λ name. refl))
+    (option_or-None SumOfSquares _ _ _ (measure_in-other measures text (codes "sum_of_squares(") (λ name. refl))
+    (option_or-None VarPop _ _ _ (measure_in-other measures text (codes "var_pop(") (λ name. refl))
+    (option_or-None VarSamp _ _ _ (measure_in-other measures text (codes "var_samp(") (λ name. refl))
     (percentiles_over-one measures text argument units places (get_or measures m []) level
     (percentile-argument units places (get_or measures m [])) refl
-    ∙ ap (option_map (λ k. PercentileDisc k units places)) (position-own measures m distinct inside)))))))
+    ∙ ap (option_map (λ k. PercentileDisc k units places)) (position-own measures m distinct inside))))))
 
 -- the measures of a schema are lawful and differ, being its last names
 are_distinct-end : (front end : List (List ℕ)) → are_distinct (front ++ end) ≡ true → are_distinct end ≡ true

@@ -25,12 +25,12 @@ abbrev pub IsPlain : ℕ → Type 0
 IsPlain byte = (byte < 92) × (byte ≢ 47)
 
 -- a byte of a number without its sign: no minus sign either
-abbrev IsUnsigned : ℕ → Type 0
+abbrev pub IsUnsigned : ℕ → Type 0
 IsUnsigned byte = (46 ≤ byte) × (byte < 92) × (byte ≢ 47)
 
 -- ---- what is true of each byte
 module _ (P : ℕ → Type 0) where
-  all-append : (xs ys : List ℕ) → AllByRecursion P xs → AllByRecursion P ys → AllByRecursion P (xs ++ ys)
+  pub all-append : (xs ys : List ℕ) → AllByRecursion P xs → AllByRecursion P ys → AllByRecursion P (xs ++ ys)
   all-append [] ys one two = two
   all-append (x ∷ xs) ys one two = (one.0, all-append xs ys one.1 two)
 
@@ -48,7 +48,7 @@ module _ (P : ℕ → Type 0) where
   all-replicate zero x here = tt
   all-replicate (suc n) x here = (here, all-replicate n x here)
 
-unsigned-plain : (bytes : List ℕ) → AllByRecursion IsUnsigned bytes → AllByRecursion IsPlain bytes
+pub unsigned-plain : (bytes : List ℕ) → AllByRecursion IsUnsigned bytes → AllByRecursion IsPlain bytes
 unsigned-plain [] all = tt
 unsigned-plain (byte ∷ bytes) all = ((all.0.1, all.0.2), unsigned-plain bytes all.1)
 
@@ -86,7 +86,7 @@ length-pointed k xs =
     )
 
 -- the digits without the point
-pointed-unique : (k : ℕ) (xs ys : List ℕ) → pointed k xs ≡ pointed k ys → xs ≡ ys
+pub pointed-unique : (k : ℕ) (xs ys : List ℕ) → pointed k xs ≡ pointed k ys → xs ≡ ys
 pointed-unique k xs ys same =
     let long : length xs ≡ length ys =
     omega (arith, length-pointed k xs, length-pointed k ys, ap (λ (l : List ℕ). length l) same) in
@@ -109,7 +109,7 @@ pointed-unique k xs ys same =
     ∙ take-append-drop i ys
 
 -- zeros before digits
-zeros-value : (n : ℕ) (digits : List ℕ) → digits_value 10 (replicate n 48 ++ digits) ≡ digits_value 10 digits
+pub zeros-value : (n : ℕ) (digits : List ℕ) → digits_value 10 (replicate n 48 ++ digits) ≡ digits_value 10 digits
 zeros-value zero digits = refl
 zeros-value (suc n) digits = zeros-value n digits
 
@@ -146,20 +146,24 @@ units_text-unique k m n small small' same = elim (cases_Bool (k == 0)) [
       sym (padded-value (k + 1) m small) ∙ ap (digits_value 10) digits ∙ padded-value (k + 1) n small'
 ]
 
+-- no byte of digits with zeros before them, and a point among them, is a minus sign
+pub pointed-IsUnsigned : (k : ℕ) (digits : List ℕ) → AllByRecursion IsUnsigned digits
+    → AllByRecursion IsUnsigned (pointed k (padded (k + 1) digits))
+pointed-IsUnsigned k digits unsigned =
+    let more = padded (k + 1) digits in
+    let i = length more - k in
+    let zero_byte : IsUnsigned 48 = (omega arith, omega arith, λ same. omega (arith, same)) in
+    let point : IsUnsigned 46 = (omega arith, omega arith, λ same. omega (arith, same)) in
+    let all : AllByRecursion IsUnsigned more = all-append IsUnsigned (replicate (k + 1 - length digits) 48) digits
+    (all-replicate IsUnsigned (k + 1 - length digits) 48 zero_byte) unsigned in
+    all-append IsUnsigned (take i more ++ codes ".") (drop i more)
+    (all-append IsUnsigned (take i more) (codes ".") (all-take IsUnsigned i more all) (point, tt))
+    (all-drop IsUnsigned i more all)
+
 units_text-IsUnsigned : (k n : ℕ) → n < 10 ^ 64 → AllByRecursion IsUnsigned (units_text k n)
 units_text-IsUnsigned k n small = elim (cases_Bool (k == 0)) [
   | inl none ↦ rw none (decimal-IsUnsigned n small)
-  | inr some ↦
-      let digits = padded (k + 1) (decimal n) in
-      let i = length digits - k in
-      let zero_byte : IsUnsigned 48 = (omega arith, omega arith, λ same. omega (arith, same)) in
-      let point : IsUnsigned 46 = (omega arith, omega arith, λ same. omega (arith, same)) in
-      let all : AllByRecursion IsUnsigned digits = all-append IsUnsigned
-      (replicate (k + 1 - length (decimal n)) 48) (decimal n)
-      (all-replicate IsUnsigned (k + 1 - length (decimal n)) 48 zero_byte) (decimal-IsUnsigned n small) in
-      rw some (all-append IsUnsigned (take i digits ++ codes ".") (drop i digits)
-      (all-append IsUnsigned (take i digits) (codes ".") (all-take IsUnsigned i digits all) (point, tt))
-      (all-drop IsUnsigned i digits all))
+  | inr some ↦ rw some (pointed-IsUnsigned k (decimal n) (decimal-IsUnsigned n small))
 ]
 
 pub signed_units_text-unique : (k : ℕ) (y z : ℤ) → FitsSigned w128 y → FitsSigned w128 z
@@ -206,7 +210,7 @@ signed_decimal-IsPlain (negsuc n) small = (
 )
 
 -- two texts with a slash after bytes that are none
-slash-unique : (xs ys as' bs : List ℕ) → AllByRecursion IsPlain xs → AllByRecursion IsPlain ys
+pub slash-unique : (xs ys as' bs : List ℕ) → AllByRecursion IsPlain xs → AllByRecursion IsPlain ys
     → xs ++ 47 ∷ as' ≡ ys ++ 47 ∷ bs → (xs ≡ ys) × (as' ≡ bs)
 slash-unique [] [] as' bs plain plain' same = (refl, cc)
 slash-unique [] (y ∷ ys) as' bs plain plain' same = let first : 47 ≡ y = cc in absurd (plain'.0.1 (sym first))
@@ -289,7 +293,7 @@ fraction_text-unique k p p' q q' few fits fits' small small' some some' coprime 
 
 -- ---- null
 -- the first byte for null is none of a number's, with or without a slash after it
-null_text-plain : (xs as' : List ℕ) → AllByRecursion IsPlain xs → null_text ≡ xs ++ 47 ∷ as' → ⊥
+pub null_text-plain : (xs as' : List ℕ) → AllByRecursion IsPlain xs → null_text ≡ xs ++ 47 ∷ as' → ⊥
 null_text-plain [] as' plain same =
     let first : 92 ≡ 47 = ap (λ (bytes : List ℕ). get_or bytes 0 0) same in omega (arith, first)
 null_text-plain (x ∷ xs) as' plain same =

@@ -1,5 +1,6 @@
 -- What the laws of merging speak of: facts in parts, and the merged rows of their cubes (Gray et al. 1997: COUNT, SUM,
--- MIN and MAX are distributive, AVG is algebraic, made of SUM and COUNT; the merging of rows is this project's choice).
+-- MIN and MAX are distributive, AVG is algebraic, made of SUM and COUNT, as a variance is of these and the sum of the
+-- squares; the merging of rows is this project's choice).
 use Rattle.std.specs.Prelude.{◌≡◌, ◌<◌, ◌≤◌, ℕ, List, [], ◌∷◌, ◌++◌, length, get_or, slice_get, Some, IsPermutation}
 use Rattle.std.specs.List.{AllByRecursion, flat_map}
 use Rattle.cube_core.specs.Layout.{Layout}
@@ -11,6 +12,7 @@ use Rattle.cube_core.specs.Text.{text_of_rows}
 use Rattle.cube_merge.specs.Lawful.{IsLawfulRow}
 use Rattle.cube_core.specs.declared.aggregate.Agg.{Agg}
 use Rattle.cube_core.specs.declared.aggregate.Agg.TheVariants.{Count, Sum, Avg, CountDistinct, PercentileDisc}
+use Rattle.cube_core.specs.declared.aggregate.Agg.TheVariants.{SumOfSquares, VarPop, VarSamp}
 use Rattle.cube_core.specs.declared.fact.Fact.{Fact}
 use Rattle.cube_core.specs.declared.key.Row.{Row}
 
@@ -29,10 +31,16 @@ pub record AreMergedOf (given wanted : List Agg) (cubes : List (List Row)) (rows
 abbrev pub Stands : List Agg → Agg → Type 0
 Stands given agg = (place : ℕ) × (slice_get given place ≡ Some agg)
 
--- of answers to the given aggregates an answer to this one is made:
--- it is one of them and neither a distinct count nor a percentile, or a mean whose sum and count are
+-- what a variance of a measure is made of stands in a list of aggregates
+abbrev pub HasVarianceParts : List Agg → ℕ → Type 0
+HasVarianceParts given m = Stands given (Sum m) × Stands given (Count m) × Stands given (SumOfSquares m)
+
+-- of answers to the given aggregates an answer to this one is made: it is one of them and neither a distinct count nor
+-- a percentile, or a mean whose sum and count are, or a variance whose sum, count and sum of squares are
 abbrev pub CanBeMadeOf : List Agg → Agg → Type 0
 CanBeMadeOf given (Avg m) = Stands given (Sum m) × Stands given (Count m)
+CanBeMadeOf given (VarPop m) = HasVarianceParts given m
+CanBeMadeOf given (VarSamp m) = HasVarianceParts given m
 CanBeMadeOf given (CountDistinct m) = ⊥
 CanBeMadeOf given (PercentileDisc m units places) = ⊥
 CanBeMadeOf given agg = Stands given agg

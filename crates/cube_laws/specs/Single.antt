@@ -3,6 +3,7 @@
 use Rattle.std.specs.Prelude.{◌≡◌, ◌⊎◌, ℕ, ℤ, zero, suc, List, [], ◌∷◌, length, map, get_or, Option, Some, None}
 use Rattle.std.specs.List.{AllZip}
 use Rattle.cube_core.specs.Layout.{Layout}
+use Rattle.cube_core.specs.Variance.{square}
 use Rattle.cube_core.specs.declared.aggregate.Agg.{Agg}
 use Rattle.cube_core.specs.declared.aggregate.Agg.TheVariants as agg
 use Rattle.cube_core.specs.declared.aggregate.Answer.{Answer}
@@ -37,6 +38,16 @@ abbrev pub mean_of_value : Option ℤ → Answer
 mean_of_value None = answer.Null
 mean_of_value (Some value) = answer.Ratio value 1
 
+-- the sum of the squares of one value, or of null
+abbrev pub squares_of_value : Option ℤ → Answer
+squares_of_value None = answer.Null
+squares_of_value (Some value) = answer.Squares (square value)
+
+-- the variance of one value, or of null, as the population
+abbrev pub variance_of_value : Option ℤ → Answer
+variance_of_value None = answer.Null
+variance_of_value (Some value) = answer.Variance 0 1
+
 -- what an aggregate answers of one fact
 abbrev pub answer_of_fact : Fact → Agg → Answer
 answer_of_fact fact agg.CountAll = answer.Count 1
@@ -47,6 +58,9 @@ answer_of_fact fact (agg.Max m) = answer_of_value (get_or fact.measures m None)
 answer_of_fact fact (agg.Avg m) = mean_of_value (get_or fact.measures m None)
 answer_of_fact fact (agg.CountDistinct m) = count_of_value (get_or fact.measures m None)
 answer_of_fact fact (agg.PercentileDisc m units places) = answer_of_value (get_or fact.measures m None)
+answer_of_fact fact (agg.SumOfSquares m) = squares_of_value (get_or fact.measures m None)
+answer_of_fact fact (agg.VarPop m) = variance_of_value (get_or fact.measures m None)
+answer_of_fact fact (agg.VarSamp m) = answer.Null
 
 -- what an aggregate answers of no fact
 abbrev pub answer_of_none : Agg → Answer
@@ -58,6 +72,9 @@ answer_of_none (agg.Max m) = answer.Null
 answer_of_none (agg.Avg m) = answer.Null
 answer_of_none (agg.CountDistinct m) = answer.Count 0
 answer_of_none (agg.PercentileDisc m units places) = answer.Null
+answer_of_none (agg.SumOfSquares m) = answer.Null
+answer_of_none (agg.VarPop m) = answer.Null
+answer_of_none (agg.VarSamp m) = answer.Null
 
 -- so many coordinates that are all ALL
 abbrev pub all_coords : ℕ → List Coord

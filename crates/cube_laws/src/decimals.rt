@@ -9,8 +9,8 @@ pub fn decimals_are_read_so()
     ensures { AreReadSo }
 {}
 
-/// How they are printed: with exactly as many digits as their measure may have, and a mean as the fraction of the value itself
-/// (this project's choice).
+/// How they are printed: with exactly as many digits as their measure may have, a sum of squares with twice as many, and
+/// a mean and a variance as the fraction of the value itself (this project's choice).
 pub fn decimals_are_printed_so()
     ensures { ArePrintedSo }
 {}

@@ -22,5 +22,6 @@ pub mod schema;
 pub mod sets;
 pub mod shards;
 pub mod single;
+pub mod statistics;
 pub mod survivors;
 pub mod text_back;

@@ -2,7 +2,7 @@
 ghost use Rattle.std.specs.Prelude.{◌≡◌, ◌≤◌, ℕ, List, IsPermutation, Some, length, map, false, true};
 ghost use Rattle.std.specs.List.{AllByRecursion, AllZip, list_all};
 ghost use Rattle.cube_core.specs.Cube.{AreRows, AreRowsOver};
-ghost use Rattle.cube_core.specs.Layout.{IsSchema, Layout, needs_numbers};
+ghost use Rattle.cube_core.specs.Layout.{IsSchema, Layout, has_holistic};
 ghost use Rattle.cube_core.specs.PartialForm.{partial_aggregates, partial_form};
 ghost use Rattle.cube_core.specs.Printed.{IsPrinted};
 ghost use Rattle.cube_core.specs.Sources.{IsPrintedOf};
@@ -16,7 +16,7 @@ ghost use Rattle.cube_core.specs.declared.key.Row.{Row};
 
 /// The merged rows of the partial cubes of parts of the facts are the rows of the cube of all facts, and so under the
 /// partial form itself; there is a part at least (Gray et al. 1997: COUNT, SUM, MIN and MAX are distributive, AVG is
-/// algebraic, made of SUM and COUNT).
+/// algebraic, made of SUM and COUNT, as a variance is of these and the sum of the squares).
 pub fn cubes_add_up()
     ensures whole { (s : Layout) (parts : List (List Fact)) (cubes : List (List Row)) (rows : List Row) →
         1 ≤ length parts → AllZip (AreRows (partial_form s)) parts cubes →
@@ -32,9 +32,9 @@ pub fn cubes_add_up()
 /// each of the partial form's, so that no merge from the one to the other is given up for its aggregates (this project's
 /// choice).
 pub fn partial_form_makes_each_aggregate()
-    ensures whole { (s : Layout) → needs_numbers s ≡ false →
+    ensures whole { (s : Layout) → has_holistic s ≡ false →
         list_all (can_be_made (partial_aggregates s.aggregates)) s.aggregates ≡ true }
-    ensures partial { (s : Layout) → needs_numbers s ≡ false → list_all
+    ensures partial { (s : Layout) → has_holistic s ≡ false → list_all
         (can_be_made (partial_aggregates s.aggregates)) (partial_aggregates s.aggregates) ≡ true }
 {}
 
@@ -42,11 +42,11 @@ pub fn partial_form_makes_each_aggregate()
 /// percentile, and no others are, since cubes add up (Gray et al. 1997).
 pub fn whole_rows_are_merged_rows()
     ensures whole { (s : Layout) (parts : List (List Fact)) (cubes : List (List Row)) (rows : List Row) →
-        needs_numbers s ≡ false → 1 ≤ length parts → AllZip (AreRows (partial_form s)) parts cubes →
+        has_holistic s ≡ false → 1 ≤ length parts → AllZip (AreRows (partial_form s)) parts cubes →
         AreRows s (joined parts) rows →
         AreMergedOf (partial_aggregates s.aggregates) s.aggregates cubes rows }
     ensures partial { (s : Layout) (parts : List (List Fact)) (cubes : List (List Row)) (rows : List Row) →
-        needs_numbers s ≡ false → 1 ≤ length parts → AllZip (AreRows (partial_form s)) parts cubes →
+        has_holistic s ≡ false → 1 ≤ length parts → AllZip (AreRows (partial_form s)) parts cubes →
         AreRows (partial_form s) (joined parts) rows →
         AreMergedOf (partial_aggregates s.aggregates) (partial_aggregates s.aggregates) cubes rows }
 {}

@@ -78,7 +78,8 @@ pub fn names_make_the_schema_of_their_document()
         schema_of document ≡ schema_of_parts (named_parts dimensions measures spellings) }
 {}
 
-/// The partial form of a partial form is itself: it has what each of its means is made of (this project's choice).
+/// The partial form of a partial form is itself: it has what each of its means and variances is made of (this project's
+/// choice).
 pub fn partial_form_is_its_own()
     ensures { (s : Layout) → partial_form (partial_form s) ≡ partial_form s }
 {}

@@ -31,9 +31,10 @@ pub fn cube_reads_back()
 {}
 
 /// A row of a cube has a coordinate for each dimension, none of them the text that stands for null, a grouping set that
-/// the schema keeps, and answers of the kinds of their aggregates, in their ranges, each mean in lowest terms, no least
-/// value above the greatest, those of a measure null together, where its count is 0; and it counts a fact, if it isn't the
-/// grand total; where the facts fit and can be counted (this project's choice).
+/// the schema keeps, and answers of the kinds of their aggregates, in their ranges, each mean and each variance in
+/// lowest terms, no least value above the greatest, those of a measure null together, where its count is 0, but for the
+/// variance of a sample, which may be null where the others aren't; and it counts a fact, if it isn't the grand total;
+/// where the facts fit and can be counted (this project's choice).
 pub fn rows_of_a_cube_are_of_its_schema()
     ensures { (s : Layout) (facts : List Fact) (rows : List Row) →
         CanBePrinted s facts → AreRows s facts rows →
