@@ -32,7 +32,6 @@ use Rattle.cube_rings.specs.Shares.{StandAtShares, StandInShares}
 use Rattle.cube_rings.specs.declared.gatherer.Gatherer.{Gatherer}
 use Rattle.cube_build.specs.CountedRun.{CountsFeeds}
 use Rattle.cube_build.specs.Counting.{AreWeighed, CountsAt, CounterStandsFrom, CounterView, IsCounted, IsCounter}
-use Rattle.cube_build.specs.Counting.{IsNewCounter, IsWeighed}
 use Rattle.cube_build.specs.CounterShares.{AreNewCounters, AreUnspent, IsCounterOf, IsGathererOf, IsJoined, IsUnder}
 use Rattle.cube_build.specs.CounterShares.{MayJoin, appended, counter_sources, ledgers_of}
 use Rattle.cube_build.proofs.BuilderLaws.{HasFacts-permutation}

@@ -1,9 +1,9 @@
 -- Counters: what an item does to the ledger that clauses see, and what a run has counted.
-use Rattle.std.proofs.Common.{◌≡◌, ◌≢◌, ◌<◌, ◌≤◌, ◌+◌, ◌-◌, ℕ, zero, suc, Bool, true, false, List, [], ◌∷◌, ◌++◌}
-use Rattle.std.proofs.Common.{length, get_or, map, replicate, filter, refl, sym, ap, ◌∙◌, subst, arith, inl, inr}
+use Rattle.std.proofs.Common.{◌≡◌, ◌<◌, ◌≤◌, ◌+◌, ◌-◌, ℕ, zero, suc, Bool, true, false, List, [], ◌∷◌, ◌++◌}
+use Rattle.std.proofs.Common.{length, get_or, map, replicate, refl, sym, ap, ◌∙◌, subst, arith, inl, inr}
 use Rattle.std.proofs.Common.{get_or-set_other, get_or-set_same, IsPermutation}
-use Rattle.std.specs.Prelude.{Option, Some, None, Ok, Err, slice_set, All, ◌==◌, if◌then◌else◌}
-use Rattle.std.specs.List.{AllByRecursion, AllZip, IsDistinct}
+use Rattle.std.specs.Prelude.{Some, None, Ok, Err, slice_set, All, ◌==◌, if◌then◌else◌}
+use Rattle.std.specs.List.{AllByRecursion, IsDistinct}
 use Rattle.std.specs.Map.{keys_of}
 use Rattle.std.specs.Str.{bytes_eq}
 use Rattle.std.specs.Cmp.Lexicographic.{nat_list_eq_equiv}
@@ -21,7 +21,6 @@ use Rattle.cube_core.specs.Layout.{Layout}
 use Rattle.cube_core.specs.Refusals.{code_of_fault}
 use Rattle.cube_core.specs.Run.{SourceBytes, AreGood}
 use Rattle.cube_core.specs.Takes.{fits, is_id}
-use Rattle.cube_core.specs.declared.change.Change.{Change}
 use Rattle.cube_core.specs.declared.change.Change.TheVariants.{Insert}
 use Rattle.cube_core.specs.declared.change.Item.{Item}
 use Rattle.cube_core.specs.declared.change.LineFault.{LineFault}
@@ -30,7 +29,7 @@ use Rattle.cube_core.specs.declared.condition.Condition.{Condition}
 use Rattle.cube_core.specs.declared.fact.Fact.{Fact}
 use Rattle.cube_core.proofs.ListLaws.{AllZip-length}
 use Rattle.cube_core.proofs.ReorderedLaws.{filter-IsPermutation}
-use Rattle.cube_cells.specs.Cube.{AddsFact, IsCubeOf, IsNewLattice, Lattice, SameSets}
+use Rattle.cube_cells.specs.Cube.{AddsFact, IsCubeOf, IsNewLattice, Lattice}
 use Rattle.cube_cells.specs.Fill.{IsCubeOfAll, finest_set}
 use Rattle.cube_ledger.specs.Book.{Entries, IsBook, fact_at, facts_of}
 use Rattle.cube_ledger.specs.Interest.{ledger_of_interest}
@@ -41,11 +40,11 @@ use Rattle.cube_ledger.proofs.LedgerLaws.{all_facts-exchange, all_facts-new}
 use Rattle.cube_ledger.proofs.StandLaws.{LedgerStandsAt-Enters, LedgerStandsAt-new}
 use Rattle.cube_rings.specs.FeedingAll.{IsNew, TakeAll, TakesFeeds}
 use Rattle.cube_rings.specs.declared.gatherer.Gatherer.{Gatherer}
-use Rattle.cube_build.specs.Builder.{BuilderView, GainsFacts, HasFacts}
+use Rattle.cube_build.specs.Builder.{BuilderView, GainsFacts}
 use Rattle.cube_build.specs.Counting.{AreCountsOf, AreRefusedOf, AreWeighed, CounterStandsFrom, CounterView}
-use Rattle.cube_build.specs.Counting.{AreCounts, CountsAt, CountsItem, IsCounted, IsCounter, IsNewCounter}
+use Rattle.cube_build.specs.Counting.{AreCounts, CountsItem, IsCounted, IsCounter}
 use Rattle.cube_build.specs.Counting.{IsOneCounter, IsWeighed, putting}
-use Rattle.cube_build.specs.Counting.{refusals_in, refusing, weight_of, with_account, with_entry}
+use Rattle.cube_build.specs.Counting.{refusing, weight_of, with_account, with_entry}
 use Rattle.cube_build.specs.CountedRun.{CountsFeeds}
 use Rattle.cube_build.proofs.BuilderLaws.{HasFacts-add, HasFacts-permutation}
 

@@ -15,7 +15,7 @@ use Rattle.cube_cells.specs.Fill.{IsCubeOfAll}
 use Rattle.std.proofs.lemmas.List.{length-replicate}
 use Rattle.cube_ledger.specs.Interest.{ledger_of_interest}
 use Rattle.cube_ledger.specs.Ledger.{AllFit, LedgerStandsAt, LedgerView, all_facts, new_account}
-use Rattle.cube_rings.specs.FeedingAll.{TakeAll, TakesFeeds}
+use Rattle.cube_rings.specs.FeedingAll.{TakesFeeds}
 use Rattle.cube_rings.specs.declared.gatherer.Gatherer.{Gatherer}
 use Rattle.cube_rings.proofs.PlaceLaws.{some_of}
 use Rattle.cube_rings.proofs.TakeLaws.{all_zip-at}

@@ -44,7 +44,7 @@ fn obey(
 {
     match words_of(call) {
         ("count", "") => Ok(out.answer(cell.count())?),
-        ("answers", place) => answers(schema, cell, place, out),
+        ("answers", place) => answers(alloc, schema, cell, place, out),
         (verb, fields) => obey_with(alloc, schema, cell, verb, fields, out),
     }
 }
@@ -127,16 +127,27 @@ fn answer_held(cell: &Cell, fact: &Fact, out: &mut Printout) -> Result<()>
     Ok(())
 }
 
-fn answers(schema: &Schema, cell: &Cell, word: &str, out: &mut Printout) -> Result<()>
+fn answers(
+    alloc: Global,
+    schema: &Schema,
+    cell: &Cell,
+    word: &str,
+    out: &mut Printout,
+) -> Result<()>
     requires { length cell.now.bags ≡ length schema.now.measures }
 {
     let place = word.parse()?;
     ensure!(place < schema.measures().len(), "no such measure");
-    answers_at(cell, place, out)?;
+    answers_at(alloc, cell, place, out)?;
     Ok(())
 }
 
-fn answers_at(cell: &Cell, place: usize, out: &mut Printout) -> Result<(), AllocError>
+fn answers_at(
+    alloc: Global,
+    cell: &Cell,
+    place: usize,
+    out: &mut Printout,
+) -> Result<(), AllocError>
     requires { place < length cell.now.bags }
 {
     write!(out.text, "{}", cell.count())?;
@@ -147,6 +158,6 @@ fn answers_at(cell: &Cell, place: usize, out: &mut Printout) -> Result<(), Alloc
         cell.answer(&Agg::Max(place)),
         cell.answer(&Agg::Avg(place)),
     ];
-    push_answers(&mut out.text, &answers)?;
+    push_answers(alloc, &mut out.text, &answers)?;
     out.answer("")
 }

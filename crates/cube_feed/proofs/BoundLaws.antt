@@ -1,23 +1,20 @@
 -- What is read on of bytes whose records have a bound, and what it tells of their end.
-use Rattle.std.proofs.Common.{◌≡◌, ◌==◌, ◌<◌, ◌+◌, ℕ, Bool, true, false, List, [], ◌∷◌, ◌++◌, refl, sym, ap, subst, arith}
-use Rattle.std.proofs.Common.{◌∙◌}
+use Rattle.std.proofs.Common.{◌≡◌, ◌==◌, ◌<◌, ◌+◌, ℕ, Bool, true, false, List, [], ◌∷◌, refl, sym, ap, subst, arith}
 use Rattle.std.specs.Bool.{MatchBool}
-use Rattle.std.specs.Prelude.{⊤, ◌&&◌, ◌||◌, not, nat_lt, if◌then◌else◌}
+use Rattle.std.specs.Prelude.{⊤, ◌&&◌, ◌||◌, nat_lt, if◌then◌else◌}
 use Rattle.std.proofs.lemmas.Bool.{and_parts, eqb-true, false_from_ne_true, le-ltb, lt-ltb, ltb-false, ltb-true}
 use Rattle.csv.specs.Machine.{is_end, next_record, step, fields_after, field_after}
 use Rattle.csv.specs.Reading.{is_bom, records, records_from, strip_bom}
-use Rattle.csv.specs.declared.parser.Config.{Config}
 use Rattle.csv.specs.declared.parser.State.{State}
 use Rattle.csv.specs.declared.parser.State.TheVariants as st
 use Rattle.cube_core.specs.FeedRecords.{TextEnd, InLongRecord, config_by, is_within_quotes, state_after, whole_records}
 use Rattle.cube_core.specs.RecordBound.{is_between, is_exceeded, mark_length, up_to_excess}
-use Rattle.cube_feed.specs.FeedBytes.{bounded, is_before_record, is_quoted, mark, mark_at, place_after, place_of, state_at}
+use Rattle.cube_feed.specs.FeedBytes.{bounded, is_before_record, is_quoted, mark, place_after, place_of}
 use Rattle.cube_feed.specs.FeedText.{TextLeft, without_mark}
 use Rattle.cube_feed.specs.Reading.{records_by}
-use Rattle.cube_feed.specs.declared.place.Place.{Place}
 use Rattle.cube_feed.specs.declared.place.Place.TheVariants as place
-use Rattle.cube_feed.proofs.MarkLaws.{Fits, Fits-between, Goes-step, Marks-bounded, bounded_at, bounded_end, end_in}
-use Rattle.cube_feed.proofs.MarkLaws.{mark_in, records_at-nil, records_at-within}
+use Rattle.cube_feed.proofs.MarkLaws.{Fits, Fits-between, Goes-step, Marks-bounded, bounded_at, end_in}
+use Rattle.cube_feed.proofs.MarkLaws.{records_at-nil, records_at-within}
 
 -- ---- places and states
 

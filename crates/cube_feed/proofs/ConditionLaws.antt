@@ -7,7 +7,6 @@ use Rattle.std.proofs.lemmas.Bool.{cases_Bool}
 use Rattle.cube_core.specs.Conditions.{condition_on, condition_on_dimension, condition_on_measure, is_named, longer}
 use Rattle.cube_core.specs.Conditions.{longest}
 use Rattle.cube_core.specs.Layout.{Layout}
-use Rattle.cube_core.specs.declared.condition.Condition.{Condition}
 use Rattle.cube_core.specs.declared.condition.Operator.{Operator}
 use Rattle.cube_feed.specs.Words.{longest_before}
 

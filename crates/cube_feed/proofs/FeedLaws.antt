@@ -1,5 +1,5 @@
 -- What is to come of a feed, before and after a record.
-use Rattle.std.proofs.Common.{◌≡◌, ◌<◌, ◌+◌, ℕ, Bool, List, true, false, [], ◌∷◌, Some, None, refl, subst}
+use Rattle.std.proofs.Common.{◌≡◌, ◌<◌, ◌+◌, ℕ, List, true, false, [], ◌∷◌, Some, None, refl, subst}
 use Rattle.std.proofs.Common.{◌%◌, ◌∙◌, add-zero, ap, arith, sym, true≢false}
 use Rattle.std.specs.Prelude.{⊤, Result, Ok, Err, Option, nat_lt}
 use Rattle.std.proofs.lemmas.Bool.{lt-ltb, le-ltb, ltb-false, eq-eqb}

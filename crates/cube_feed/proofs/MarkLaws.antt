@@ -13,14 +13,14 @@ use Rattle.csv.specs.declared.parser.Config.{Config}
 use Rattle.csv.specs.declared.parser.State.{State}
 use Rattle.csv.specs.declared.parser.State.TheVariants as st
 use Rattle.csv.specs.declared.parser.Terminator.TheVariants as term
-use Rattle.cube_core.specs.FeedRecords.{TextEnd, Whole, InQuotes, InLongRecord, but_the_last, config_by, is_within_quotes}
+use Rattle.cube_core.specs.FeedRecords.{TextEnd, Whole, InQuotes, InLongRecord, config_by, is_within_quotes}
 use Rattle.cube_core.specs.FeedRecords.{state_after, whole_records}
 use Rattle.cube_core.specs.RecordBound.{is_between, is_exceeded, up_to_excess}
 use Rattle.cube_feed.specs.FeedBytes.{mark}
 use Rattle.cube_feed.specs.FeedText.{TextLeft, end_found, end_of, is_mark, without_mark}
 use Rattle.cube_feed.specs.Reading.{records_at}
 use Rattle.cube_feed.specs.declared.feed_text.Found.{Found}
-use Rattle.cube_feed.specs.declared.feed_text.Found.TheVariants.{End, OpenQuote, LongRecord}
+use Rattle.cube_feed.specs.declared.feed_text.Found.TheVariants.{OpenQuote, LongRecord}
 use Rattle.cube_feed.proofs.RecordLaws.{records_at-None, records_at-Some}
 
 -- the records of the rest of a text, within one

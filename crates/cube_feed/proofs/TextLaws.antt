@@ -1,13 +1,13 @@
 -- The text of a feed, by the records that are read of its bytes and their mark.
-use Rattle.std.proofs.Common.{◌≡◌, ◌==◌, ◌<◌, ◌≤◌, ◌^◌, ℕ, Bool, true, false, List, [], ◌∷◌, ◌++◌, length, Option, Some, None}
-use Rattle.std.proofs.Common.{refl, sym, ap, subst, arith, IfSome, true≢false, ◌∙◌}
+use Rattle.std.proofs.Common.{◌≡◌, ◌==◌, ◌<◌, ℕ, Bool, true, false, List, [], ◌∷◌, ◌++◌, length, Option, Some, None}
+use Rattle.std.proofs.Common.{refl, sym, ap, subst, IfSome, true≢false}
 use Rattle.std.specs.Prelude.{⊤, ◌&&◌, ◌||◌, not, nat_lt, option_map, is_some, if◌then◌else◌}
 use Rattle.std.specs.Option.{option_map_or}
 use Rattle.std.proofs.lemmas.Bool.{and_parts, eqb-true, false_from_ne_true, ltb-true}
 use Rattle.std.proofs.lemmas.List.{append-nil}
 use Rattle.csv.specs.Reading.{is_bom, records, strip_bom}
 use Rattle.csv.specs.declared.parser.State.TheVariants as st
-use Rattle.cube_core.specs.FeedRecords.{TextEnd, Whole, InQuotes, InLongRecord, but_the_last, config_by, is_within_quotes}
+use Rattle.cube_core.specs.FeedRecords.{TextEnd, Whole, InQuotes, InLongRecord, config_by, is_within_quotes}
 use Rattle.cube_core.specs.FeedRecords.{state_after, whole_records}
 use Rattle.cube_core.specs.Layout.{AreColumnsOf, IsSchema, Layout, is_delimiter}
 use Rattle.cube_core.specs.Plain.{delimiter_of}
@@ -23,7 +23,7 @@ use Rattle.cube_feed.specs.Reading.{Advances, RecordsView, records_by}
 use Rattle.cube_feed.specs.declared.feed_text.Found.{Found}
 use Rattle.cube_feed.specs.declared.feed_text.Found.TheVariants.{Record, End, OpenQuote, LongRecord}
 use Rattle.cube_feed.proofs.MarkLaws.{Marks-within, end_in, records_at-within}
-use Rattle.cube_feed.proofs.BoundLaws.{end_within, text_within, without_mark-bounded}
+use Rattle.cube_feed.proofs.BoundLaws.{without_mark-bounded}
 
 -- a byte order mark is left out of a text with the mark behind it as of one without it
 strip_bom-mark : (bytes : List ℕ) → strip_bom (bytes ++ mark) ≡ strip_bom bytes ++ mark

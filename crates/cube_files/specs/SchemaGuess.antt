@@ -1,5 +1,5 @@
 -- What is promised of a schema that is made of a file (this project's choice).
-use Rattle.std.specs.Prelude.{ℕ, List, Result, Ok}
+use Rattle.std.specs.Prelude.{ℕ, List, Ok}
 use Rattle.cube_core.specs.Layout.{Layout}
 use Rattle.cube_core.specs.SchemaDocument.{AnswersBytes}
 

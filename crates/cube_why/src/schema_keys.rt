@@ -4,7 +4,17 @@ use std::alloc::{AllocError, Global};
 use toml::{Table, Value};
 
 /// The words before a measure in an aggregate.
-const AGGREGATES: [&str; 6] = ["count(", "sum(", "min(", "max(", "avg(", "count(distinct "];
+const AGGREGATES: [&str; 9] = [
+    "count(",
+    "sum(",
+    "min(",
+    "max(",
+    "avg(",
+    "count(distinct ",
+    "sum_of_squares(",
+    "var_pop(",
+    "var_samp(",
+];
 
 /// The names that no dimension and no measure has.
 const TAKEN: [&str; 3] = ["op", "id", "*"];

@@ -1,5 +1,5 @@
 -- What the sales of a shop are in the words of the library (this project's choice).
-use Rattle.std.specs.Prelude.{◌≡◌, ◌++◌, ◌∷◌, [], ℕ, ℤ, List, Option, Some, Ok}
+use Rattle.std.specs.Prelude.{◌++◌, ◌∷◌, [], ℕ, ℤ, List, Option, Some, Ok}
 use Rattle.cube_library.specs.Arrival.{Arrivals}
 use Rattle.cube_library.specs.Change.{Change}
 use Rattle.cube_library.specs.Fact.{Fact}

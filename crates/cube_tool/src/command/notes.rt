@@ -474,8 +474,8 @@ pub const LATER_NOTES: [Note; 14] = [
     Note {
         code: "M4",
         about: "cube to merge",
-        means: "The first line isn't that of the schema's partial form.",
-        mend: "Print each cube to merge by `print --partial` or `merge --partial`, all under one schema.",
+        means: "The first line isn't that of the schema's partial form; or, where the message names no cube, the schema has a distinct count or a percentile, of which nothing is merged.",
+        mend: "Print each cube to merge by `print --partial` or `merge --partial`, all under one schema without distinct counts and percentiles.",
         example: "",
     },
     Note {
@@ -495,7 +495,7 @@ pub const LATER_NOTES: [Note; 14] = [
     Note {
         code: "M7",
         about: "cube to merge",
-        means: "A count or a sum of the merged row is too large: above 18446744073709551615, or outside 128 bits.",
+        means: "A count, a sum or a sum of squares of the merged row is too large: above 18446744073709551615, outside 128 bits, or of more than 192.",
         mend: "Merge fewer cubes, or leave the aggregate out of the schema.",
         example: "",
     },

@@ -1,6 +1,4 @@
 use Rattle.std.proofs.Common.{◌≡◌, List, [], ◌∷◌, ◌++◌, ◌∙◌, ap, map, subst, sym}
-use Rattle.cube_rings.specs.Link.{Receiving}
-use Rattle.cube_rings.specs.declared.parcel.Parcel.{Parcel}
 use Rattle.cube_build.specs.Builder.{BuilderView}
 use Rattle.cube_build.specs.Parts.{AreParts}
 use Rattle.cube_build.specs.declared.making.Links.{Links}

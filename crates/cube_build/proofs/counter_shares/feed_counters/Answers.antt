@@ -1,6 +1,5 @@
 use Rattle.std.proofs.Common.{◌≡◌, ◌≤◌, ◌∙◌, ℕ, ap, arith, get_or, length, map, subst, sym}
 use Rattle.std.specs.Global.{Vec}
-use Rattle.std.specs.List.{All}
 use Rattle.std.proofs.lemmas.List.{length-map}
 use Rattle.cube_rings.specs.declared.gatherer.Gatherer.{Gatherer}
 use Rattle.cube_build.specs.Counting.{CounterView}

@@ -1,11 +1,9 @@
-use Rattle.std.proofs.Common.{◌≡◌, ◌<◌, ◌+◌, ◌∙◌, arith, false, refl, rules, sym, Some, None, Ok, Err}
-use Rattle.std.specs.Prelude.{nat_lt}
+use Rattle.std.proofs.Common.{◌<◌, ◌+◌, ◌∙◌, arith, false, refl, rules, sym, Some, None, Ok}
 use Rattle.cube_core.proofs.ItemLaws.{takes-change_of}
 use Rattle.cube_core.specs.FeedRecords.{plain_of}
 use Rattle.cube_feed.specs.Feed.{after_header}
-use Rattle.cube_feed.specs.declared.fault.FeedFault.TheVariants.{TooMany}
 use Rattle.cube_feed.proofs.FeedLaws.{StillComes-Gives, StillComes-refl, StillComes-skip, not_read-whole_feed}
-use Rattle.cube_feed.proofs.FeedLaws.{item-Gives, none-Gives, too_many-Gives}
+use Rattle.cube_feed.proofs.FeedLaws.{item-Gives, none-Gives}
 use Rattle.cube_feed.proofs.feed.take_item.Goals as goal
 
 pub loop-before-init : goal.loop-before-init

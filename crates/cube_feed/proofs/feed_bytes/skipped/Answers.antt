@@ -1,5 +1,4 @@
-use Rattle.std.proofs.Common.{◌≡◌, ◌==◌, ◌∙◌, false, count_by, arith, sym}
-use Rattle.std.specs.Prelude.{nat_eq}
+use Rattle.std.proofs.Common.{◌≡◌, ◌==◌, ◌∙◌, false, arith, sym}
 use Rattle.std.proofs.lemmas.Bool.{eqb-true, false_from_ne_true}
 use Rattle.cube_feed.proofs.SkipLaws.{IsSkipped-behind}
 use Rattle.cube_feed.proofs.feed_bytes.skipped.Goals as goal

@@ -1,1 +1,0 @@
-use Rattle.cube_tool.proofs.walked.answer_taken.Goals as goal

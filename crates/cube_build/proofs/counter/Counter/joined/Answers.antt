@@ -1,9 +1,6 @@
-use Rattle.std.proofs.Common.{◌≡◌, ◌∙◌, ap, arith, false, refl, rules, subst, sym}
+use Rattle.std.proofs.Common.{◌≡◌, ◌∙◌, arith, false, refl, sym}
 use Rattle.cube_core.specs.Conditions.{of_interest}
-use Rattle.cube_core.specs.Layout.{Layout}
-use Rattle.cube_core.specs.declared.condition.Condition.{Condition}
 use Rattle.cube_ledger.specs.Ledger.{all_facts}
-use Rattle.cube_build.specs.Counting.{CounterView, IsCounter}
 use Rattle.cube_build.specs.CounterShares.{IsJoined}
 use Rattle.cube_build.proofs.CounterShareLaws.{counter-joined}
 use Rattle.cube_build.proofs.CountingLaws.{counter-unspent, finest-all, long-refused}

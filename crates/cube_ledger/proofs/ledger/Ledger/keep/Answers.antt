@@ -1,7 +1,6 @@
-use Rattle.std.proofs.Common.{◌≡◌, ◌++◌, ◌∙◌, length, map, take, drop, ap, sym, subst, rules}
+use Rattle.std.proofs.Common.{◌≡◌, ◌++◌, ◌∙◌, length, map, take, drop, ap, rules}
 use Rattle.std.proofs.lemmas.List.{length-map}
-use Rattle.cube_ledger.specs.Interest.{account_of_interest, ledger_of_interest}
-use Rattle.cube_ledger.specs.Ledger.{AccountView, IsLedger}
+use Rattle.cube_ledger.specs.Interest.{account_of_interest}
 use Rattle.cube_ledger.proofs.InterestLaws.{IsLedger-of_interest, ledger_of_interest-none, written-back}
 use Rattle.cube_ledger.proofs.ledger.Ledger.keep.Goals as goal
 

@@ -1,4 +1,4 @@
-use Rattle.std.proofs.Common.{length, refl}
+use Rattle.std.proofs.Common.{refl}
 use Rattle.std.proofs.lemmas.Result.{err_from_is_err_and}
 use Rattle.cube_build.specs.Interest.{StandsWhere}
 use Rattle.cube_tool.proofs.AnsweringLaws.{FailsOnTerms-feeding, FailsOnTerms-kept}

@@ -7,7 +7,7 @@ use Rattle.cube_tool.proofs.RunLaws.{over-kept}
 use Rattle.cube_tool.proofs.command.feeds.ask_ledger.Given.{Over}
 use Rattle.cube_tool.proofs.command.feeds.ask_ledger.Goals.{In_ok-taken}
 use Rattle.cube_tool.proofs.command.feeds.ask_ledger.Goals as goal
-use Rattle.cube_tool.specs.Answering.{AnswersOn, FailsOn, Fits}
+use Rattle.cube_tool.specs.Answering.{AnswersOn, FailsOn}
 
 -- what was taken has the facts of interest
 kept : (g : Over) (c : In_ok-taken g)
