@@ -86,11 +86,12 @@ class Postgres(sql.Server):
 
 
 class PostgresOfValues(Postgres):
-    """The cube of the facts themselves, since distinct counts and percentiles aren't made of those of the finest cells."""
+    """The cube of the facts themselves, since distinct counts and percentiles aren't made of those of the finest cells. Variances are the
+    server's own, which are rounded."""
 
     def cube(self, work):
         dimensions = work.dimensions
-        calls = answers(work, lambda kind, it: sql.call_of(kind, it, ""))
+        calls = answers(work, lambda kind, it: f"{kind}({it})" if kind in sql.VARIANCES else sql.call_of(kind, it))
         shown = [*dimensions, *(f"grouping({it})" for it in dimensions), *calls]
         return f"SELECT {listed(shown)} FROM facts GROUP BY CUBE ({listed(dimensions)})"
 
@@ -232,13 +233,15 @@ class DataTableOfValues(DataTable):
 
     def job(self, work):
         [measure] = {work.measures[at] for _, at in work.schema.aggregates}
-        columns = [f"a{place} = {in_order(kind, measure)}" for place, (kind, _) in enumerate(work.schema.aggregates)]
+        columns = [f"a{place} = {of_values(kind, measure)}" for place, (kind, _) in enumerate(work.schema.aggregates)]
         return f"setorderv(x, '{measure}')", listed(columns), [it.partition(" ")[0] for it in columns]
 
 
-def in_order(kind, measure):
-    """A distinct count or a percentile of values in order, in R."""
+def of_values(kind, measure):
+    """A distinct count, a percentile or a variance of values in order, in R."""
     level = kind.partition(" ")[2]
+    if kind == "var_samp":
+        return f"var({measure})"
     if level == "distinct":
         return f"1L + sum({measure}[-1L] != {measure}[-.N])"
     return f"{measure}[max(1, ceiling(.N * ({sql.level_of(level)})))]"
@@ -246,7 +249,7 @@ def in_order(kind, measure):
 
 # the peers by their names, with whether their lines have the columns of GROUPING
 PEERS = {"PostgreSQL": (Postgres, True), "ClickHouse": (ClickHouse, False), "data.table": (DataTable, True)}
-# those for distinct counts and percentiles
+# those for distinct counts, percentiles and variances
 OF_VALUES = {"PostgreSQL": (PostgresOfValues, True), "data.table": (DataTableOfValues, True)}
 
 

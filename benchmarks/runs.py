@@ -1,6 +1,7 @@
 """Runs of `datacube print` over workloads: beside its peers, by steps, and by shards."""
 import argparse
 import contextlib
+import fractions
 import itertools
 import math
 import os
@@ -18,7 +19,9 @@ from programs import write
 from workloads import WORKLOADS, make
 
 COUNTS = (1, 2, 4, 8, 16)
-STATISTICS = [("count distinct", 0), ("percentile_disc 0.5", 0), ("percentile_disc 0.95", 0)]
+STATISTICS = [("count distinct", 0), ("percentile_disc 0.5", 0), ("percentile_disc 0.95", 0), ("var_samp", 0)]
+# what a peer's variance, which it rounds, may be apart from ours, as a part of it
+ROUNDED = fractions.Fraction(1, 10**9)
 STEPS = {
     "reading": ("RecordReader::advance", "plain::change_of_row"),
     "books": ("Ledger::apply_fed",),
@@ -76,12 +79,29 @@ def mean(total, count):
     return b"%d/%d" % (total // common, count // common)
 
 
-def differs(ours, theirs):
-    """Says the first line in which an answer isn't ours, or gives None."""
+def differs(ours, theirs, variances=()):
+    """Says the first line in which an answer isn't ours, or gives None; in some columns it may be rounded."""
     for at, (one, other) in enumerate(itertools.zip_longest(ours, theirs), 1):
-        if one != other:
+        if one != other and not (one and other and variances and at > 1 and is_rounded(one, other, variances)):
             return f"line {at} is {other!r}, and ours {one!r}"
     return None
+
+
+def is_rounded(one, other, variances):
+    """Whether a line is another one, but that it has rounded numbers in some columns."""
+    ours, theirs = (it.decode().rstrip("\n").split(",") for it in (one, other))
+    pairs = [(ours[at], theirs[at]) for at in variances]
+    for at in variances:
+        ours[at] = theirs[at] = ""
+    return ours == theirs and all(map(is_near, *zip(*pairs)))
+
+
+def is_near(ours, theirs):
+    """Whether a number is one of ours, rounded."""
+    if "\\N" in (ours, theirs):
+        return ours == theirs
+    exact = fractions.Fraction(ours)
+    return abs(fractions.Fraction(theirs) - exact) <= ROUNDED * exact
 
 
 def used_by_each(name, words, peers, aggregates=None):
@@ -115,8 +135,10 @@ def used_by_each(name, words, peers, aggregates=None):
 
 def fault_of(work, ours, out, has_groupings):
     """How an answer isn't ours, or None; `has_groupings` is None where it is of a program with the words of ours."""
+    start = 2 * len(work.dimensions)
+    variances = [start + at for at, (kind, _) in enumerate(work.schema.aggregates) if kind in sql.VARIANCES]
     with open(ours, "rb") as first, open(out, "rb") as second:
-        return differs(first, second if has_groupings is None else text_of(work, second, has_groupings))
+        return differs(first, second) if has_groupings is None else differs(first, text_of(work, second, has_groupings), variances)
 
 
 def compare(asked):
@@ -134,11 +156,12 @@ def compare(asked):
 
 
 def statistics(asked):
-    """Runs `datacube print` of the workload `tall` with a distinct count and percentiles, and its peers, as `print` does.
+    """Runs `datacube print` of the workload `tall` with a distinct count, percentiles and a variance, and its peers, as `print` does.
 
-    The aggregates are `count(distinct amount)`, `percentile_disc(0.5,amount)` and `percentile_disc(0.95,amount)`; a million facts are those
-    of `--scale 4`. PostgreSQL groups the facts themselves by GROUP BY CUBE, and data.table each grouping set, over facts that it has put
-    in the order of the measure once. Each answer has to be ours, byte for byte; else the status is 1."""
+    The aggregates are `count(distinct amount)`, `percentile_disc(0.5,amount)`, `percentile_disc(0.95,amount)` and `var_samp(amount)`; a
+    million facts are those of `--scale 4`. PostgreSQL groups the facts themselves by GROUP BY CUBE, and data.table each grouping set, over
+    facts that it has put in the order of the measure once. Each answer has to be ours, byte for byte, but a variance, which peers round
+    (PostgreSQL to some twenty digits, R to a double): it has to be ours within a part in 10^9. Else the status is 1."""
     return compared(asked, ["tall"], OF_VALUES, STATISTICS)
 
 
@@ -152,7 +175,8 @@ def compared(asked, names, known, aggregates=None):
         uses, found = used_by_each(name, asked, list(peers.values()), aggregates)
         row(f"`{name}`", *map(cell, uses))
         faults += [f"{name}: {named[at]}: {fault}" for at, fault in found.items() if fault]
-    print("\n".join(f"FAILED {it}" for it in faults) or "each answer is ours, byte for byte")
+    rounds = ", but for variances, which are rounded" if any(kind in sql.VARIANCES for kind, _ in aggregates or ()) else ""
+    print("\n".join(f"FAILED {it}" for it in faults) or f"each answer is ours, byte for byte{rounds}")
     return 1 if faults else 0
 
 

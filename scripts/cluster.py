@@ -137,7 +137,7 @@ class Tally(programs.Tally):
 
 
 SCHEMA = oracle.Schema(
-    ["city", "product", "payment"], ["pieces", "cents"], [("avg", 1), ("count", None), ("sum", 0), ("min", 1), ("max", 1), ("avg", 0)],
+    ["city", "product", "payment"], ["pieces", "cents"], [("avg", 1), ("count", None), ("sum", 0), ("min", 1), ("max", 1), ("avg", 0), ("var_samp", 0)],
     version=2,
 )
 

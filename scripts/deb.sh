@@ -60,8 +60,8 @@ Priority: optional
 Installed-Size: $(du -sk "$files" | cut -f 1)
 Description: data cube of feeds of facts, with proved totals
  Reads change feeds of facts (CSV) and prints the whole CUBE over the facts that
- are present in the end: COUNT, SUM, MIN, MAX, AVG, distinct counts and
- percentiles of every cell of every subset of the dimensions, as sorted CSV.
+ are present in the end: COUNT, SUM, MIN, MAX, AVG, variances, distinct counts
+ and percentiles of every cell of every subset of the dimensions, as sorted CSV.
  .
  The Python package jackraisin asks cubes and sessions with types, serves one over
  HTTP, and follows a table of PostgreSQL. A page for the browser shows printed

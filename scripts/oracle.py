@@ -126,16 +126,20 @@ class Schema:
         return not any(map(is_of_values, (kind for kind, _ in self.aggregates)))
 
     def partial(self):
-        """The partial form: for each mean, its sum and its count too, where they aren't there yet."""
+        """The partial form: for each mean and each variance what it is made of too, where that isn't there yet."""
         aggregates = list(self.aggregates)
-        for _, at in [it for it in self.aggregates if it[0] == "avg"]:
-            aggregates += [it for it in (("sum", at), ("count", at)) if it not in aggregates]
+        for made, at in self.aggregates:
+            aggregates += [(it, at) for it in PARTS.get(made, ()) if (it, at) not in aggregates]
         rest = self.grouping, self.version, self.max_records, self.feed, self.decimals
         return Schema(self.dimensions, self.measures, aggregates, *rest)
 
     def places(self, at):
         """How many decimals the measure at a place is printed with."""
         return self.decimals.get(self.measures[at], 0)
+
+    def digits(self, kind, at):
+        """How many decimals an aggregate that is no fraction is printed with."""
+        return 0 if kind.startswith("count") else self.places(at) * (2 if kind == "sum_of_squares" else 1)
 
     def nulls(self):
         """What null is spelled as in its feeds."""
@@ -174,8 +178,12 @@ def spelling(kind, name):
     return f"{call}({before}{name})"
 
 
+# (what a mean and variances are made of where cubes are merged)
+PARTS = {"avg": ["sum", "count"], **dict.fromkeys(["var_pop", "var_samp"], ["sum", "count", "sum_of_squares"])}
+
+
 def is_of_values(kind):
-    """Whether an aggregate needs all values: a distinct count or a percentile, of which a merge makes nothing."""
+    """Whether an aggregate can't be made of those of parts: a distinct count or a percentile, of which a merge makes nothing."""
     return " " in kind
 
 
@@ -486,15 +494,28 @@ def answer(schema, kind, at, facts):
         return "\\N"
     if kind == "avg":
         return fraction(sum(values), len(values), schema.places(at))
-    if is_of_values(kind):
-        return decimal(percentile(kind.partition(" ")[2], values), schema.places(at))
-    return decimal({"sum": sum, "min": min, "max": max}[kind](values), schema.places(at))
+    if kind in ("var_pop", "var_samp"):
+        return variance(values, kind == "var_samp", schema.places(at))
+    level = kind.partition(" ")[2]
+    value = percentile(level, values) if level else CALLS[kind](values)
+    return decimal(value, schema.digits(kind, at))
+
+
+CALLS = {"sum": sum, "min": min, "max": max, "sum_of_squares": lambda values: sum(it * it for it in values)}
 
 
 def percentile(level, values):
     """Of values in ascending order the first one up to which there are at least so large a share of all."""
     wanted = fractions.Fraction(level) * len(values)
     return next(it for number, it in enumerate(sorted(values), 1) if number >= wanted)
+
+
+def variance(values, is_sample, places):
+    """The sum of the squares of how far values are from their mean, over how many they are, or over one less, in lowest terms."""
+    count, total = len(values), sum(values)
+    over = count - 1 if is_sample else count
+    squares = sum((count * it - total) ** 2 for it in values)
+    return fraction(squares, count**2 * over, 2 * places) if over else "\\N"
 
 
 def fraction(total, count, places):
@@ -702,11 +723,11 @@ QUOTED = re.compile(rb'"((?:[^"]|"")*)"')
 BARE = re.compile(rb'[^",\r\n]*')
 NEEDS_QUOTES = re.compile(rb'[",\r\n]')
 COUNT = re.compile(rb"0|[1-9][0-9]*")
-WHOLE = re.compile(rb"0|-?[1-9][0-9]*")
+FRACTION = re.compile(rb"(0|-?[1-9][0-9]*)/([1-9][0-9]*)")
 DECIMAL = re.compile(rb"-?[0-9]+(\.[0-9]+)?")
 MOST_COUNT = 2**64 - 1
 MOST_SUM = 2**127 - 1
-BOUNDS = {"sum": (-MOST_SUM - 1, MOST_SUM), "min": (LEAST, GREATEST), "max": (LEAST, GREATEST)}
+BOUNDS = {"sum": (-MOST_SUM - 1, MOST_SUM), "min": (LEAST, GREATEST), "max": (LEAST, GREATEST), "sum_of_squares": (0, 2**192 - 1)}
 
 
 class CubeFault(Exception):
@@ -793,20 +814,18 @@ def printed_row(schema, fields):
 
 
 def printed_value(schema, kind, at, field):
-    """The number that an answer spells, in units of its measure, a pair for a mean, None for null, or "wrong"."""
-    whole = lambda text, form, least, most: int(text) if form.fullmatch(text) and least <= int(text) <= most else "wrong"
+    """The number that an answer spells, in units of its last decimal, a fraction for a mean or a variance, None for null, or "wrong"."""
     if kind == "count":
-        return whole(field, COUNT, 0, MOST_COUNT)
+        return int(field) if COUNT.fullmatch(field) and int(field) <= MOST_COUNT else "wrong"
     if field == NULL:
         return None
-    if kind == "avg":
-        above, _, below = field.partition(b"/")
-        pair = whole(above, WHOLE, -MOST_SUM - 1, MOST_SUM), whole(below, COUNT, 1, MOST_COUNT * 10 ** schema.places(at))
-        return pair if "wrong" not in pair and math.gcd(*pair) == 1 else "wrong"
+    if kind in PARTS:
+        found = FRACTION.fullmatch(field)
+        return fractions.Fraction(int(found[1]), int(found[2])) if found and math.gcd(int(found[1]), int(found[2])) == 1 else "wrong"
     if not DECIMAL.fullmatch(field):
         return "wrong"
     units, (least, most) = int(field.replace(b".", b"")), BOUNDS[kind]
-    return units if least <= units <= most and decimal(units, schema.places(at)).encode() == field else "wrong"
+    return units if least <= units <= most and decimal(units, schema.digits(kind, at)).encode() == field else "wrong"
 
 
 def are_sound(schema, key, values):
@@ -815,41 +834,56 @@ def are_sound(schema, key, values):
         return False
     for at in {at for _, at in values if at is not None}:
         of = {kind: value for (kind, place), value in values.items() if place == at}
-        nulls = {value is None for kind, value in of.items() if kind != "count"}
+        nulls = {value is None for kind, value in of.items() if kind not in ("count", "var_samp")}
         if len(nulls) > 1 or "count" in of and nulls and nulls != {of["count"] == 0}:
             return False
-        if True not in nulls:
-            if "min" in of and "max" in of and of["min"] > of["max"]:
-                return False
-            if "avg" in of and of["avg"][0] * of["count"] * 10 ** schema.places(at) != of["avg"][1] * of["sum"]:
-                return False
+        if True not in nulls and "min" in of and "max" in of and of["min"] > of["max"]:
+            return False
+        if any(of[kind] != made_of(schema, kind, at, of) for kind in PARTS if kind in of):
+            return False
     return True
 
 
-def merged_answers(schema, used):
-    """The answers of a merged row; used has the inputs whose lines have its key."""
-    answers = []
-    for kind, at in schema.aggregates:
-        held = lambda kind: [(it, it.row[1][kind, at]) for it in used if it.row[1][kind, at] is not None]
-        if kind == "count":
-            answers.append(str(added(held(kind), 0, MOST_COUNT)))
-        elif not held(kind):
-            answers.append("\\N")
-        elif kind == "sum":
-            answers.append(decimal(added(held(kind), -MOST_SUM - 1, MOST_SUM), schema.places(at)))
-        elif kind == "avg":
-            sums, counts = added(held("sum"), -MOST_SUM - 1, MOST_SUM), added(held("count"), 0, MOST_COUNT)
-            answers.append(fraction(sums, counts, schema.places(at)))
-        else:
-            answers.append(decimal((min if kind == "min" else max)(value for _, value in held(kind)), schema.places(at)))
-    return answers
+def made_of(schema, kind, at, of):
+    """The mean or the variance of a measure, as a fraction, that its count, its sum and its sum of squares make, None where there is
+    none; 0 where the square of the sum is above what there can be."""
+    count, places = of["count"], schema.places(at)
+    over = count - 1 if kind == "var_samp" else count
+    if over < 1:
+        return None
+    if kind == "avg":
+        return fractions.Fraction(of["sum"], count * 10**places)
+    spread = count * of["sum_of_squares"] - of["sum"] ** 2
+    return fractions.Fraction(max(spread, 0), count * over * 100**places)
+
+
+def merged_answers(partial, used):
+    """The answers of a merged row, by the aggregates of a partial form; used has the inputs whose lines have its key."""
+    merged = {}
+    for kind, at in partial.aggregates:
+        held = [(it, it.row[1][kind, at]) for it in used if it.row[1][kind, at] is not None]
+        if kind in ("min", "max"):
+            merged[kind, at] = CALLS[kind](value for _, value in held) if held else None
+        elif kind not in PARTS:
+            merged[kind, at] = added(held, *BOUNDS.get(kind, (0, MOST_COUNT)))
+    for kind, at in partial.aggregates:
+        if kind in PARTS:
+            merged[kind, at] = made_of(partial, kind, at, {it: merged[it, at] for it in PARTS[kind]})
+    return {(kind, at): printed_of(partial, kind, at, value) for (kind, at), value in merged.items()}
+
+
+def printed_of(schema, kind, at, value):
+    """A number in units of its last decimal, a fraction, or None, as an answer is printed."""
+    if value is None:
+        return "\\N"
+    return f"{value.numerator}/{value.denominator}" if kind in PARTS else decimal(value, schema.digits(kind, at))
 
 
 def added(held, least, most):
-    """The sum of values; one out of bounds is told of the first input with which it is."""
+    """The sum of values, None where there is none; one out of bounds is told of the first input with which it is."""
     sums = list(itertools.accumulate(value for _, value in held))
     if not sums or least <= sums[-1] <= most:
-        return sums[-1] if sums else 0
+        return sums[-1] if sums else None
     raise next(it.fault("M7") for (it, _), value in zip(held, sums) if not least <= value <= most)
 
 
@@ -872,8 +906,8 @@ def merge(schema, datas, is_partial=False):
                 return b"".join(out), None
             key = min((it.row[0] for it in inputs if not it.is_over), key=order_of)
             used = [it for it in inputs if not it.is_over and it.row[0] == key]
-            merged_answers(partial, used)
-            out.append(row_line(key, merged_answers(wanted, used)))
+            answers = merged_answers(partial, used)
+            out.append(row_line(key, [answers[it] for it in wanted.aggregates]))
     except CubeFault as fault:
         return b"".join(out), fault
 
@@ -950,7 +984,7 @@ def column_of(value, is_dimension):
 
 
 # (`count` before `count distinct`: over a measure that is named `distinct m` the first is meant)
-KINDS = ("count", "sum", "min", "max", "avg", "count distinct")
+KINDS = ("count", "sum", "min", "max", "avg", "count distinct", "sum_of_squares", "var_pop", "var_samp")
 PERCENTILE = re.compile(r"percentile_disc\((0|1|0\.[0-9]{1,4}|1\.0{1,4}),(.*)\)", re.DOTALL)
 
 

@@ -61,6 +61,13 @@ CREATE FUNCTION fraction(total numeric, number numeric) RETURNS text IMMUTABLE S
 $$;
 """
 
+VARIANCE = """
+CREATE FUNCTION variance_of(number numeric, total numeric, squares numeric, freedom numeric) RETURNS text
+IMMUTABLE STRICT LANGUAGE sql AS $$
+    SELECT fraction(number * squares - total * total, number * nullif(freedom, 0))
+$$;
+"""
+
 IS_DECIMAL = r"""
 CREATE FUNCTION is_decimal(field text, places int) RETURNS boolean IMMUTABLE LANGUAGE sql AS $$
     SELECT CASE
@@ -206,7 +213,8 @@ def type_of(schema, name):
 
 def functions_of(schema):
     """The functions that the SQL of a schema asks."""
-    return [IS_NUMBER, *([IS_DECIMAL] if schema.decimals else []), FRACTION]
+    has_variance = any(kind in VARIANCES for kind, _ in schema.aggregates)
+    return [IS_NUMBER, *([IS_DECIMAL] if schema.decimals else []), FRACTION, *([VARIANCE] if has_variance else [])]
 
 
 def cube(schema, conditions=()):
@@ -218,22 +226,31 @@ def cube(schema, conditions=()):
         columns.append(f"{f'grouping({name_of(it)})' if it in kept else '1'} AS {name_of(f'grouping({it})')}")
     for (kind, at), text in zip(schema.aggregates, schema.aggregate_texts()):
         measure = "*" if at is None else name_of(schema.measures[at])
-        units = f" * {10 ** schema.places(at)}::numeric" if at is not None and schema.places(at) else ""
-        columns.append(f"{call_of(kind, measure, units)} AS {name_of(text)}")
+        columns.append(f"{call_of(kind, measure, 0 if at is None else schema.places(at))} AS {name_of(text)}")
     order = [f'grouping({name}), {name} COLLATE "C" NULLS LAST' for name in map(name_of, kept)]
     ordered = "\nORDER BY\n    " + ",\n    ".join(order) if order else ""
     where = where_of(schema, conditions)
     return CUBE.format(columns=",\n    ".join(columns), where=where, grouping=grouping_of(schema), order=ordered)
 
 
-def call_of(kind, measure, units):
-    """What an aggregate of a measure with so many units is in SQL."""
+def call_of(kind, measure, places=0):
+    """What an aggregate of a measure with so many decimals is in SQL."""
     call, _, level = kind.partition(" ")
+    units, squared = (f" * {base ** places}::numeric" if places else "" for base in (10, 100))
+    squares = f"sum({measure}{'' if places else '::numeric'} * {measure})"
     if kind == "avg":
         return f"fraction(sum({measure}){units}, count({measure}){units})"
+    if kind == "sum_of_squares":
+        return squares
+    if kind in VARIANCES:
+        return f"variance_of(count({measure}), sum({measure}){units}, {squares}{squared}, {VARIANCES[kind].format(measure)}{squared})"
     if kind == "count distinct":
         return f"count(DISTINCT {measure})"
     return f"percentile_disc({level_of(level)}) WITHIN GROUP (ORDER BY {measure})" if level else f"{call}({measure})"
+
+
+# (what the squares of a variance are divided by)
+VARIANCES = {"var_pop": "count({})", "var_samp": "(count({}) - 1)"}
 
 
 def level_of(level):
@@ -302,7 +319,7 @@ class Server:
         if made.returncode:
             sys.exit(f"initdb failed: {made.stderr.decode(errors='replace').strip()}")
         self.begin()
-        self.ask((IS_NUMBER + IS_DECIMAL + FRACTION).encode())
+        self.ask((IS_NUMBER + IS_DECIMAL + FRACTION + VARIANCE).encode())
         return self
 
     def __exit__(self, *_):
@@ -454,7 +471,7 @@ def examples(trials):
     for words in (["city=Leeds,York"], ["city!=York", "cents>=400"], ["city=\\N"], ["product<tea", "pieces!=\\N,1"]):
         trials.trial(f"examples/shop, {' and '.join(words)}", f"{shop}/schema.toml", feeds, words=[it.encode() for it in words])
     page = programs.text_at(f"{ROOT}/docs/SQL.md")
-    parts = [IS_NUMBER, IS_DECIMAL, FRACTION, RECORDS, *statements(read_schema(f"{shop}/schema.toml")).values()]
+    parts = [IS_NUMBER, IS_DECIMAL, FRACTION, VARIANCE, RECORDS, *statements(read_schema(f"{shop}/schema.toml")).values()]
     missing = [it.strip() for it in parts if it.strip() not in page]
     trials.note("docs/SQL.md shows what is asked of the shop", f"it lacks {missing[0]!r}" if missing else None)
 

@@ -271,6 +271,65 @@ def test_distinct_counts_and_percentiles(page, tmp_path):
     assert [[it[0], *it[-2:]] for it in page.shown()["body"]] == [["Hull", "0", "[null]"], ["Leeds", "+1", "-19.25"], ["York", "+1", "[null]"]]
 
 
+# (values with two decimals by the city, whose squares and variances are longer than a double has digits)
+VALUES = {b"Hull": [None], b"Leeds": [oracle.GREATEST, -oracle.GREATEST, oracle.GREATEST], b"Paris": [oracle.GREATEST, -oracle.GREATEST, oracle.GREATEST - 1],
+          b"Rome": [150], b"York": [150, 250]}
+SQUARES = oracle.Schema(["city"], ["m"], [(it, 0) for it in ("count", "sum", "sum_of_squares", "var_pop", "var_samp")], decimals={"m": 2})
+
+
+def squares_of(values):
+    """The facts of cities with these values, and the text of their cube."""
+    facts = [([city], [it]) for city, each in values.items() for it in each]
+    return facts, oracle.text_of(SQUARES, oracle.rows_of(SQUARES, facts))
+
+
+def test_squares_and_variances(page, tmp_path):
+    """They are shown, sorted and bounded exactly, and made over several rows of what they are made of."""
+    facts, text = squares_of(VALUES)
+    (tmp_path / "squares.csv").write_bytes(text)
+    page.open(f"{tmp_path}/squares.csv", "")
+    lines = [it.split(",") for it in text.decode().splitlines()[1:]]
+    rows = {line[0]: [line[0], *map(shown_answer, line[2:])] for line in lines[:-1]}
+    assert page.shown()["body"] == list(rows.values())
+    assert [rows["York"][at] for at in (3, 4, 5)] == ["8.5000", "0.25", "0.5"] and rows["Rome"][4:] == ["0", "[null]"]
+    order = ["Leeds", "Paris", "York", "Rome", "Hull"]
+    for column, wanted in ((4, order), (5, order), (6, [*order[:3], "Hull", "Rome"])):
+        page.click(f"[data-sort='{column}']")
+        assert [it[0] for it in page.shown()["body"]] == wanted
+    page.click("[data-sort='6']")
+    for text, cities in (("ee", [b"Leeds"]), ("r", [b"Paris", b"Rome", b"York"]), ("o", [b"Rome", b"York"]), ("l", [b"Hull", b"Leeds"]), ("u", [b"Hull"])):
+        page.find(text)
+        some = [it for it in facts if it[0][0] in cities]
+        wanted = [shown_answer(oracle.answer(SQUARES, *it, some)) for it in SQUARES.aggregates]
+        assert page.shown()["foot"][0] == [f"{len(cities)} found", *wanted]
+    page.find("")
+    for column, answer in ((5, "sum_of_squares"), (6, "var_pop")):
+        exact = oracle.answer(SQUARES, answer, 0, [it for it in facts if it[0][0] == b"Leeds"])
+        whole = str(Fraction(exact).numerator // Fraction(exact).denominator)
+        bound = exact if "/" not in exact else whole
+        page.go(f"#slice=%3F&of={column}&least={bound}")
+        assert [it[0] for it in page.shown()["body"]] == ["Leeds"], "the other one is less by one in twenty digits"
+    page.go("#slice=%3F&share=total")
+    assert [page.shown()["body"][at][3] for at in (1, 4)] == ["50.00 %", "0.00 %"]
+    assert page.shown()["body"][4][4] == "0.25"
+
+
+def test_changes_of_squares_and_variances(page, tmp_path):
+    """A sum of squares that isn't there is 0 for its change, and a variance has none then; the others are exact."""
+    later = {**VALUES, b"Leeds": [oracle.GREATEST, oracle.LEAST, oracle.GREATEST], b"York": [150]}
+    for name, values in (("before", {**VALUES, b"Rome": []}), ("later", later)):
+        (tmp_path / f"{name}.csv").write_bytes(squares_of(values)[1])
+    page.open(f"{tmp_path}/later.csv", "")
+    page.open_earlier(f"{tmp_path}/before.csv")
+    page.go("#slice=%3F&compare=1&means=fraction&answers=11,14")
+    answer = lambda kind, values: oracle.answer(SQUARES, kind, 0, [([b"Leeds"], [it]) for it in values[b"Leeds"]])
+    squares = int(answer("sum_of_squares", later).replace(".", "")) - int(answer("sum_of_squares", VALUES).replace(".", ""))
+    spread = Fraction(answer("var_pop", later)) - Fraction(answer("var_pop", VALUES))
+    assert [it[-2:] for it in page.shown()["body"]] == [
+        ["[null]", "[null]"], [f"0.00 % +{shown_answer(oracle.decimal(squares, 4))}", f"+{spread.numerator}/{spread.denominator}"],
+        ["0.00 % 0.0000", "0/1"], ["+2.2500", "[null]"], ["-73.53 % -6.2500", "-1/4"]]
+
+
 def test_rolled_up(page, tmp_path):
     """A cube that doesn't keep all grouping sets."""
     schema, feed = tmp_path / "up.toml", tmp_path / "up.csv"

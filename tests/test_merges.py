@@ -14,7 +14,7 @@ SPELLINGS = [
     lambda it: b"+" + it, lambda it: b"0" + it, lambda it: b"-" + it, lambda it: b'"' + it + b'"', lambda it: it + b" ",
     lambda it: it + b"\r", lambda it: it + b"/2", lambda it: it + b",", lambda it: b"", lambda it: b"\\N", lambda it: b"-0",
     lambda it: b"0", lambda it: b"1", lambda it: b"2", lambda it: b"\xff", lambda it: b"%d" % 2**64, lambda it: b"%d" % 2**127,
-    lambda it: b"%d" % 2**63, lambda it: b"\\A", lambda it: it + b"0", lambda it: it[:-1], lambda it: it + b".0", lambda it: it + b".",
+    lambda it: b"%d" % 2**63, lambda it: b"%d" % 2**192, lambda it: b"\\A", lambda it: it + b"0", lambda it: it[:-1], lambda it: it + b".0", lambda it: it + b".",
     lambda it: b"." + it, lambda it: b"-0.00", lambda it: b"0.0", lambda it: it.replace(b".", b","), lambda it: it.replace(b".", b""),
 ]
 # (of a whole number, or of the numbers of a fraction)
@@ -115,19 +115,25 @@ def test_counts_and_sums_near_their_bounds(room, rng):
     groups = [it for it in parted(facts, rng.choice([2, 2, 1]), rng) if it] or [[]]
     most, largest = 2**64 - 1, max(map(len, groups))
     times = rng.choice([most // max(largest, 1), most // max(largest, 1), most // max(len(facts), 1), most, 2**63, 1])
+    squares = max((sum(it * it for it in column if it is not None) for column in zip(*(it for _, it in facts))), default=0)
+    more = {"count": times, "sum": times, "sum_of_squares": rng.choice([times, (2**192 - 1) // max(squares, 1), 2**192 // max(squares, 1) + 1])}
     texts = []
     for group in groups:
-        rows = [(key, [times_of(it, kind, times) for it, (kind, _) in zip(answers, partial.aggregates)])
-                for key, answers in oracle.rows_of(partial, group)]
+        rows = [(key, times_of(partial, answers, more)) for key, answers in oracle.rows_of(partial, group)]
         texts.append(oracle.text_of(partial, rows))
     merged(room, schema, texts, rng, oracle.merge(schema, texts), ["--check"] * rng.randint(0, 1))
 
 
-def times_of(answer, kind, times):
-    """A count or a sum so many times, with the decimals that it has."""
-    if kind not in ("count", "sum") or answer == "\\N":
-        return answer
-    return oracle.decimal(int(answer.replace(".", "")) * times, len(answer.partition(".")[2]))
+def times_of(schema, answers, more):
+    """The answers of a row, those of some kinds so many times, with the means and the variances that these make."""
+    told = {}
+    for (kind, at), answer in zip(schema.aggregates, answers):
+        if kind not in oracle.PARTS:
+            told[kind, at] = None if answer == "\\N" else int(answer.replace(".", "")) * more.get(kind, 1)
+    for kind, at in schema.aggregates:
+        if kind in oracle.PARTS:
+            told[kind, at] = oracle.made_of(schema, kind, at, {it: told[it, at] for it in oracle.PARTS[kind]})
+    return [oracle.printed_of(schema, *it, told[it]) for it in schema.aggregates]
 
 
 def lines_of(text):

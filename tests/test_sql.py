@@ -1,5 +1,7 @@
 """The same question in SQL: what a private PostgreSQL says of generated feeds beside what the program writes, byte for byte."""
 import tempfile
+from decimal import Context, Decimal
+from fractions import Fraction
 
 import generated as make
 import oracle
@@ -29,3 +31,25 @@ def test_sql(room, rng, server):
     status, wanted = server.answers(schema, feeds, oracle.conditions_of(schema, words))
     room.expect(["refusals", *files], (status, wanted["refusals"], b""))
     room.expect(["print", *(part for it in words for part in (b"--where", it)), *files], (status, wanted["print"], b""))
+
+
+@tries(20)
+def test_its_own_variances(room, rng, server):
+    """What is wanted of a variance is, rounded, what PostgreSQL's own says of it."""
+    most, places = rng.choice([3, 10**4, oracle.GREATEST]), rng.choice([0, 0, 2, 18])
+    values = make.series(rng, 30, lambda rng: rng.randint(-most - 1, most)) or [0]
+    listed = ", ".join(oracle.decimal(it, places) for it in values)
+    asked = f"SELECT var_pop(it), var_samp(it) FROM unnest(ARRAY[{listed}]::numeric[]) AS it"
+    said = server.ask(rf"COPY ({asked}) TO STDOUT WITH (FORMAT csv, NULL '\N');".encode()).decode().rstrip("\n").split(",")
+    for is_sample, theirs in enumerate(said):
+        ours = oracle.variance(values, bool(is_sample), places)
+        assert (ours == "\\N") == (theirs == "\\N")
+        if ours != "\\N":
+            assert rounded(Fraction(ours), theirs) == Decimal(theirs), (values, places, ours)
+
+
+def rounded(value, like):
+    """A fraction as a number with so many digits behind the point as a text has, rounded half away from zero."""
+    digits = len(like.partition(".")[2])
+    units = (value * 10**digits * 2 + 1) // 2
+    return Decimal(units).scaleb(-digits, Context(prec=200))

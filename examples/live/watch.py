@@ -82,11 +82,11 @@ def give_one(cube, record):
 
 
 def shown(name, row, dimensions):
-    """A field as it is shown: ALL and null told apart, a mean to two digits, and no control characters."""
+    """A field as it is shown: ALL and null told apart, a mean or a variance to two digits, and no control characters."""
     value = row[name]
     if value is None:
         return "(all)" if name in dimensions and row[f"grouping({name})"] == "1" else "(null)"
-    if name.startswith("avg(") and name not in dimensions:
+    if name.startswith(("avg(", "var_pop(", "var_samp(")) and name not in dimensions:
         return f"{float(fractions.Fraction(value)):.2f}"
     return "".join(it if it.isprintable() else ascii(it)[1:-1] for it in value)
 

@@ -182,7 +182,7 @@ def row_like(schema: oracle.Schema, row: Tuple[Any, List[str]]) -> Tuple[Any, ..
 
 def number_like(schema: oracle.Schema, kind: str, at: Any) -> Any:
     """The type of an aggregate's answers."""
-    return Fraction if kind == "avg" else Decimal if not kind.startswith("count") and schema.places(at) else int
+    return Fraction if kind in oracle.PARTS else Decimal if not kind.startswith("count") and schema.places(at) else int
 
 
 def rows_like(schema: oracle.Schema, rows: Sequence[Any]) -> List[Tuple[Any, ...]]:

@@ -254,6 +254,22 @@ class Pandas(unittest.TestCase):
         self.assertEqual(jackraisin.Cube(text).to_pandas()["sum(m)"].iloc[0], 2**127 - 1)
         self.assertEqual(jackraisin.Cube("a,grouping(a),sum(m)\n").to_pandas().shape, (0, 1))
 
+    def test_squares_and_variances(self):
+        """They are what rows have, whether or not they fit 64 bits, also beside numbers that do."""
+        few = f"{'0' * 35}1"
+        for squares, variances in (
+            ([5, None, 2**192 - 1], ["1/2", "\\N", f"{2**250}/{2**100 + 1}"]), ([5, 2**63, None], ["0/1", f"{2**64 - 1}/{2**63}", "\\N"]),
+            ([Decimal("0.25"), None, Decimal("12.50")], ["1/4", "\\N", "9/1"]), ([Decimal(f"0.{few}"), Decimal(f"{2**72}.{few}")], ["1/10", f"1/{10**36}"]),
+        ):
+            texts = [NULL if it is None else format(it, "f" if isinstance(it, Decimal) else "d") for it in squares]
+            lines = "".join(f"{at},0,{it},{made},7,1.50\n" for at, (it, made) in enumerate(zip(texts, variances)))
+            cube = jackraisin.Cube(f"a,grouping(a),sum_of_squares(m),var_samp(m),count(m),sum(n)\n{lines}")
+            wanted = [(square, None if it == NULL else Fraction(it), 7, Decimal("1.50")) for square, it in zip(squares, variances)]
+            self.assertEqual([it.answers for it in cube], wanted)
+            null = lambda it: None if self.pandas.isna(it) else it
+            frame = cube.to_pandas()
+            self.assertEqual([tuple(map(null, it)) for it in frame.itertuples(index=False, name=None)], wanted)
+            self.assertEqual([type(it) for it in map(null, frame["var_samp(m)"]) if it is not None], [Fraction] * sum(it != NULL for it in variances))
 
     def test_no_row_is_made_on_the_way(self):
         cube = jackraisin.cube(SCHEMA, FEEDS)

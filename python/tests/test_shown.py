@@ -52,6 +52,14 @@ class Shown(unittest.TestCase):
                 ["x", "0.125", "0.06250"], ["(null)", "(null)", "(null)"], ["(all)", "-0.125", "-0.06250"],
             ])
 
+    def test_a_variance_stands_as_it_is(self):
+        """And a mean has two digits more than its measure, where only a sum of squares tells how many that are."""
+        with tempfile.TemporaryDirectory() as folder:
+            path = f"{folder}/cube.csv"
+            with open(path, "w") as file:
+                file.write("a,grouping(a),sum_of_squares(m),avg(m),var_pop(m)\nx,0,8.5000,2/1,1/4\n\\N,1,8.5000,2/1,1/4\n")
+            self.assertEqual(show(path)[1].splitlines()[1].split(), ["x", "8.5000", "2.0000", "1/4"])
+
     def test_what_it_cant_show(self):
         for words, why in (
             ([CUBE, "--by", "town"], "no dimension is named 'town': they are city, product, payment"),

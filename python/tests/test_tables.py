@@ -13,6 +13,7 @@ from unittest import mock
 import beside
 import jackraisin
 from jackraisin import ALL
+from jackraisin._records import FRACTIONS
 
 SHOP = os.path.join(beside.ROOT, "examples", "shop")
 
@@ -63,7 +64,7 @@ class Stand(unittest.TestCase):
         count, values = len(cube.dimensions), [each for _, (_, each) in table]
         keys = [[ALL if mark else value for value, mark in zip(*both)] for both in zip(values[:count], values[count:])]
         answers = [
-            [Fraction(it) if it is not None and name.startswith("avg(") else it for it in each] for name, each in zip(cube.aggregates, values[2 * count :])
+            [Fraction(it) if it is not None and name.startswith(FRACTIONS) else it for it in each] for name, each in zip(cube.aggregates, values[2 * count :])
         ]
         return [(tuple(key), tuple(each)) for key, each in zip(zip(*keys), zip(*answers))]
 
@@ -100,6 +101,14 @@ class Stand(unittest.TestCase):
         cube = jackraisin.Cube(f"{head}x,0,1,{2**127 - 1}\n\\N,1,1,{2**127 - 1}\n")
         table, frame = self.same(cube)
         self.assertEqual((table.kinds()["sum(m)"], frame.kinds()["sum(m)"]), (("decimal256", 76, 0), "string"))
+
+    def test_squares_and_variances(self):
+        """A sum of squares of 58 digits, half of them behind a point, and a variance of numbers that are longer than 64 bits."""
+        squares = f"{'9' * 22}.{'8' * 36}"
+        cube = jackraisin.Cube(f"a,grouping(a),sum_of_squares(m),var_pop(m)\nx,0,{squares},{2**190 + 1}/{2**64}\n\\N,1,\\N,\\N\n")
+        table, frame = self.same(cube)
+        self.assertEqual((table.kinds()["sum_of_squares(m)"], frame.kinds()["sum_of_squares(m)"]), (("decimal256", 76, 36), "string"))
+        self.assertEqual((table.kinds()["var_pop(m)"], frame.kinds()["var_pop(m)"]), ("string", "string"))
 
     def test_names(self):
         """A dimension may have the name of an aggregate; polars has no two columns of one name."""

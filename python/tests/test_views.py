@@ -2,6 +2,7 @@
 import random
 import tempfile
 import unittest
+from decimal import Context, Decimal
 from fractions import Fraction
 
 import beside
@@ -46,6 +47,16 @@ class Shop(unittest.TestCase):
         for words in ((1, "sum(pence)"), (-1, "count(*)")):
             self.assertRaises(jackraisin.Unsayable, cities.top, *words)
 
+    def test_top_of_long_numbers(self):
+        """Fractions whose parts are longer than any float has digits are in the order of their values."""
+        fractions = [f"{2**200 + 1}/{2**120}", f"{2**200 - 1}/{2**120}", "\\N", f"{2**80}/1", "0/1", f"{2**79}/1"]
+        lines = "".join(f"{at},0,{it}\n" for at, it in enumerate(fractions))
+        found = jackraisin.Cube(f"a,grouping(a),var_pop(m)\n{lines}").top(9, "var_pop(m)")
+        self.assertEqual([it["a"] for it in found], ["0", "3", "1", "5", "4", "2"])
+        lines = "".join(f"{at},0,{it}\n" for at, it in enumerate([2**191, 2**191 + 1, 2**191 - 1]))
+        found = jackraisin.Cube(f"a,grouping(a),sum_of_squares(m)\n{lines}").top(9, "sum_of_squares(m)")
+        self.assertEqual([it["a"] for it in found], ["1", "0", "2"])
+
     def test_null_is_behind_all_numbers(self):
         cube = jackraisin.Cube("a,grouping(a),min(m)\nw,0,\\N\nx,0,-5\ny,0,\\N\nz,0,0\n\\N,1,-5\n")
         self.assertEqual([it["a"] for it in cube.top(9, "min(m)")], ["z", "x", "w", "y"])
@@ -60,6 +71,9 @@ class Shop(unittest.TestCase):
         self.assertEqual(shop().percent("sum(cents)", {"city": "York"})[("Leeds", ALL, ALL)], Fraction(2450, 800))
         cube = jackraisin.Cube("a,grouping(a),sum(m)\nx,0,-5\ny,0,5\nz,0,\\N\n\\N,1,0\n")
         self.assertEqual(cube.percent("sum(m)"), {("x",): None, ("y",): None, ("z",): None, (ALL,): None})
+        cube = jackraisin.Cube(f"a,grouping(a),sum_of_squares(m),var_pop(m)\nx,0,{2**190},5/2\n\\N,1,{2**191},7/4\n")
+        self.assertEqual(cube.percent("sum_of_squares(m)"), {("x",): Fraction(1, 2), (ALL,): 1})
+        self.assertRaises(jackraisin.Unsayable, cube.percent, "var_pop(m)")
         self.assertRaises(jackraisin.Unsayable, shop().percent, "avg(cents)")
         self.assertEqual(jackraisin.Cube("a,grouping(a),sum(m)\n").percent("sum(m)"), {})
 
@@ -84,6 +98,11 @@ class Shop(unittest.TestCase):
         self.assertEqual([it.change("count(*)") for it in found], [1, 1, -1])
         self.assertEqual([it.change("min(m)") for it in found], [None, 0, None])
         self.assertEqual(before.diff(before), [])
+        head = "a,grouping(a),sum_of_squares(m),var_samp(m)\n"
+        before = jackraisin.Cube(f"{head}x,0,{2**191}.25,{2**190 + 1}/{2**64}\ny,0,4.00,\\N\n")
+        found = before.diff(jackraisin.Cube(f"{head}w,0,1.50,\\N\nx,0,0.75,{2**190}/1\ny,0,4.00,1/3\n"))
+        self.assertEqual([it.change("sum_of_squares(m)") for it in found], [Decimal("1.50"), Context(prec=99).subtract(Decimal("0.50"), 2**191), 0])
+        self.assertEqual([it.change("var_samp(m)") for it in found], [None, 2**190 - Fraction(2**190 + 1, 2**64), None])
         self.assertRaises(jackraisin.Unsayable, before.diff, shop())
 
 

@@ -96,13 +96,14 @@ def show_of(cube: Cube, aggregate: str) -> Show:
 
 
 def decimals_of(cube: Cube, measure: str) -> int:
-    """How many decimals the numbers of a measure have, as another aggregate of it shows them."""
+    """How many decimals the numbers of a measure have, as another aggregate of it shows them: a sum of squares has twice as many."""
     percentiles = [it for it in cube.aggregates if it.startswith("percentile_disc(") and it.partition(",")[2] == f"{measure})"]
-    for aggregate in [*(f"{kind}({measure})" for kind in ("sum", "min", "max")), *percentiles]:
+    for aggregate in [*(f"{kind}({measure})" for kind in ("sum", "min", "max", "sum_of_squares")), *percentiles]:
         if aggregate in cube.aggregates:
             found = next((it for it in (row[aggregate] for row in cube) if it is not None), None)
             exponent = found.as_tuple().exponent if isinstance(found, Decimal) else 0
-            return -exponent if isinstance(exponent, int) else 0
+            digits = -exponent if isinstance(exponent, int) else 0
+            return digits // 2 if aggregate.startswith("sum_of_squares(") else digits
     return 0
 
 

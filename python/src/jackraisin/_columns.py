@@ -15,7 +15,7 @@ from typing import TYPE_CHECKING, Any, Callable, Dict, Iterator, List, Optional,
 
 from ._cells import ALL
 from ._numbers import EXACT, Number, number_of, whole_of
-from ._records import GREATEST, LEAST, NULL, Columns, head_of, lines_behind, long_fields, records_of, unescaped, unreadable
+from ._records import FRACTIONS, GREATEST, LEAST, NULL, Columns, head_of, lines_behind, long_fields, records_of, unescaped, unreadable
 
 if TYPE_CHECKING:
     import pandas
@@ -47,7 +47,7 @@ def texts_of(text: str, columns: Columns) -> List[Sequence[str]]:
 
 
 def numbers_of(aggregate: str, texts: Sequence[str]) -> List[Optional[Number]]:
-    """The numbers that fields say, of an aggregate other than a mean."""
+    """The numbers that fields say, of an aggregate other than a mean and a variance."""
     read = whole_of if is_count(aggregate) else number_of
     try:
         return each_once(texts, lambda some: list(map(read, some)))
@@ -55,10 +55,10 @@ def numbers_of(aggregate: str, texts: Sequence[str]) -> List[Optional[Number]]:
         raise unreadable(why) from None
 
 
-def means_of(texts: Sequence[str]) -> List[Optional[Fraction]]:
-    """The means that fields say."""
+def fractions_of(texts: Sequence[str]) -> List[Optional[Fraction]]:
+    """The means or variances that fields say."""
     try:
-        return each_once(texts, fractions_of)
+        return each_once(texts, each_fraction)
     except (ValueError, TypeError, ZeroDivisionError) as why:
         raise unreadable(why) from None
 
@@ -77,18 +77,18 @@ def each_once(texts: Sequence[str], read: Callable[[List[str]], List[T]]) -> Lis
     return list(map(values.__getitem__, texts))
 
 
-def mean_of(text: str) -> Fraction:
+def fraction_of(text: str) -> Fraction:
     return Fraction(*map(int, text.split("/")))
 
 
-def fractions_of(texts: Sequence[str]) -> List[Fraction]:
-    """The same of means that are all there, at once where each is in lowest terms, as the program writes it: then nothing is
+def each_fraction(texts: Sequence[str]) -> List[Fraction]:
+    """The same of fractions that are all there, at once where each is in lowest terms, as the program writes it: then nothing is
     left to be found out of numerators and denominators, and the fractions are made as `fractions` itself makes such."""
     import numpy
 
     parts = parts_of(texts) if HAS_SLOTS else None
     if parts is None:
-        return list(map(mean_of, texts))
+        return list(map(fraction_of, texts))
     above, below = parts
     if (below < 1).any() or (numpy.gcd(above, below) > 1).any():
         return list(map(Fraction, above.tolist(), below.tolist()))
@@ -102,7 +102,7 @@ def fractions_of(texts: Sequence[str]) -> List[Fraction]:
 
 
 def parts_of(texts: Sequence[str]) -> Optional[List[Any]]:
-    """The numerators and the denominators of means, as arrays; None where a text isn't two numbers."""
+    """The numerators and the denominators of fractions, as arrays; None where a text isn't two numbers."""
     read = wholes_by_pandas("\n".join(texts), len(texts))
     if read is not None:
         return read
@@ -142,6 +142,10 @@ def no_collection() -> Iterator[None]:
             gc.enable()
 
 
+def is_fraction(aggregate: str) -> bool:
+    return aggregate.startswith(FRACTIONS)
+
+
 def is_mean(aggregate: str) -> bool:
     return aggregate.startswith("avg(")
 
@@ -151,8 +155,8 @@ def is_count(aggregate: str) -> bool:
 
 
 def reader_of(aggregate: str) -> Callable[[str], Union[Number, Fraction]]:
-    """What reads an aggregate's answers: means, whole numbers, or those that may have decimals."""
-    if is_mean(aggregate):
+    """What reads an aggregate's answers: fractions, whole numbers, or those that may have decimals."""
+    if is_fraction(aggregate):
         return Fraction
     return whole_of if is_count(aggregate) else number_of
 
@@ -164,7 +168,7 @@ def fit(answers: Sequence[Optional[Number]]) -> bool:
 
 def places_of(text: str, columns: Columns) -> List[int]:
     """How many digits each aggregate is printed with behind the point: as many as its first number that isn't null has there."""
-    found: List[Optional[int]] = [0 if is_mean(it) or is_count(it) else None for it in columns.aggregates]
+    found: List[Optional[int]] = [0 if is_fraction(it) or is_count(it) else None for it in columns.aggregates]
     if "." not in text:
         return [0] * len(found)
     with long_fields():
@@ -197,7 +201,7 @@ def fields_of(text: str, columns: Columns) -> List[Any]:
 
     count = 2 * len(columns.dimensions)
     kinds: List[Any] = ["category"] * count
-    kinds += [str if is_mean(it) else places or None for it, places in zip(columns.aggregates, places_of(text, columns))]
+    kinds += [str if is_fraction(it) else places or None for it, places in zip(columns.aggregates, places_of(text, columns))]
     # (what UTF-8 can't say is refused by pandas)
     head, all_of = (it.encode("utf-8", "surrogatepass") for it in (text[: head_of(text)[1]], text))
     body = all_of[len(head) :]
@@ -352,13 +356,13 @@ def level_of(texts: Any, marks: Any, is_escaped: bool) -> Any:
 
 
 def answers_of(aggregate: str, column: Any) -> Any:
-    """The answers of an aggregate: whole numbers of 64 bits where they fit, else objects, as means and numbers with decimals are."""
+    """The answers of an aggregate: whole numbers of 64 bits where they fit, else objects, as fractions and numbers with decimals are."""
     import pandas
 
     if not isinstance(column, pandas.Series):
         return column
-    if is_mean(aggregate):
-        return objects(means_of(column.tolist()))
+    if is_fraction(aggregate):
+        return objects(fractions_of(column.tolist()))
     answers = numbers_of(aggregate, column.tolist())
     return pandas.array(answers, dtype="Int64") if fit(answers) else objects(answers)
 

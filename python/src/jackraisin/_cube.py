@@ -167,14 +167,14 @@ class Cube(Sequence[Row]):
 
     def to_pandas(self) -> "pandas.DataFrame":
         """A frame with the answers, over the cells as its index: each level is ordered, ALL is its last category, and null
-        is missing. Whole numbers are `Int64` where they fit, else objects; a number with decimals is a `Decimal`, and a mean a
-        `Fraction`."""
+        is missing. Whole numbers are `Int64` where they fit, else objects; a number with decimals is a `Decimal`, a mean
+        and a variance a `Fraction`."""
         return _columns.frame_of(self.text, self._columns)
 
     def to_arrow(self) -> Any:
         """A table of pyarrow, with the columns of the printed cube under their names: ALL and null are both null in a dimension, and
         its GROUPING column (`int8`) tells them apart. Whole numbers are `int64` where all of a column fit, else `decimal128`, as
-        numbers with decimals are, with `decimal256` beyond 38 digits; a mean is the text of its fraction."""
+        numbers with decimals are, with `decimal256` beyond 38 digits; a mean and a variance are the text of their fraction."""
         return _tables.arrow_table(self.text, self._columns)
 
     def to_polars(self) -> Any:

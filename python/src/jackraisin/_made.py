@@ -35,8 +35,8 @@ def cube_of(
     max_memory: Optional[int] = None,
 ) -> Cube:
     """The whole cube of a frame, or of rows that are mappings: by its dimensions, `count(*)`, and of each measure the aggregates
-    that are named, as in `of={"cents": ["sum", "avg", "count(distinct)", "percentile_disc(0.5)"]}`. A dimension is a text, a whole number or a date, which become texts; a
-    measure is a whole number of 64 bits, also as a float below 2^53. One that `decimals` names takes a `Decimal` too, with so many
+    that are named, as in `of={"cents": ["sum", "avg", "var_samp", "count(distinct)", "percentile_disc(0.5)"]}`. A dimension is a text, a
+    whole number or a date, which become texts; a measure is a whole number of 64 bits, also as a float below 2^53. One that `decimals` names takes a `Decimal` too, with so many
     decimals at most, and a float is then the number that Python shows of it. What is missing (None, NaN, NA) is null."""
     if isinstance(by, str):
         raise TypeError(f"the dimensions are a sequence of names, and {by!r} is a text")

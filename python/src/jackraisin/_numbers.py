@@ -10,7 +10,7 @@ from ._errors import Unsayable
 from ._records import GREATEST, LEAST
 
 Number = Union[int, Decimal]
-# (more digits than a sum has, which has 39 at most; what would be rounded is refused)
+# (more digits than a sum of squares has, which has 58 at most; what would be rounded is refused)
 EXACT: Final = Context(prec=60, traps=[Inexact, InvalidOperation])
 
 
@@ -20,8 +20,8 @@ def whole_of(text: str) -> Number:
 
 
 def number_of(text: str) -> Number:
-    """The number that a printed sum, least or greatest value or percentile says: one with decimals where the measure has such, which are all
-    printed, else a whole one."""
+    """The number that a printed sum, also of squares, least or greatest value or percentile says: one with decimals where the measure has
+    such, which are all printed, else a whole one."""
     return Decimal(text) if "." in text else int(text)
 
 

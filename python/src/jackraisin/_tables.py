@@ -7,7 +7,7 @@ from decimal import Decimal
 from typing import Any, Iterator, List, NamedTuple, Optional, Sequence, Union
 
 from . import _columns
-from ._numbers import Number
+from ._numbers import Number, shown
 from ._records import NULL, Columns, unescaped
 
 # (how many digits the decimals of both packages have, and those of pyarrow that are twice as wide)
@@ -33,7 +33,7 @@ class Column(NamedTuple):
 
 def columns_of(text: str, columns: Columns) -> Iterator[Column]:
     """The columns of a printed cube, under its names. ALL and null are both null in a dimension; its GROUPING column tells them apart. A
-    mean is the text of its fraction."""
+    mean and a variance are the text of their fraction."""
     fields, count = _columns.texts_of(text, columns), len(columns.dimensions)
     read = unescaped if columns.is_escaped else lambda text: text
     for name, texts, marks in zip(columns.dimensions, fields, fields[count:]):
@@ -41,7 +41,7 @@ def columns_of(text: str, columns: Columns) -> Iterator[Column]:
     for name, marks in zip(columns.dimensions, fields[count:]):
         yield Column(f"grouping({name})", Kind.MARK, [int(it) for it in marks])
     for name, texts in zip(columns.aggregates, fields[2 * count :]):
-        if _columns.is_mean(name):
+        if _columns.is_fraction(name):
             yield Column(name, Kind.TEXT, [None if it == NULL else it for it in texts])
         else:
             yield column_of_numbers(name, _columns.numbers_of(name, texts))
@@ -88,7 +88,7 @@ def polars_frame(text: str, columns: Columns) -> Any:
         elif it.digits <= DIGITS:
             kind = polars.Decimal(DIGITS, it.scale)
         else:
-            kind, values = polars.Utf8, [None if value is None else str(value) for value in values]
+            kind, values = polars.Utf8, [None if value is None else shown(value) for value in values]
         made[name] = polars.Series(name, values, dtype=kind)
     return polars.DataFrame(list(made.values()))
 

@@ -8,6 +8,7 @@ from typing import TYPE_CHECKING, Dict, Iterable, List, NamedTuple, Optional, Se
 from ._cells import ALL, Cell, Coordinate, Key, Pattern, field_of, fields_of, in_order
 from ._errors import Unsayable
 from ._numbers import difference
+from ._records import ADDED
 
 if TYPE_CHECKING:
     from ._cube import Answer, Cube, Row
@@ -49,7 +50,7 @@ def greatest(cube: "Cube", count: int, by: str, totals: bool) -> List[int]:
 def shares(cube: "Cube", aggregate: str, of: Optional[Cell]) -> Dict[Key, Optional[Fraction]]:
     """The share that each row has of one row."""
     at = place_of(cube.aggregates, aggregate, "aggregate")
-    if not aggregate.startswith(("count(", "sum(")):
+    if not aggregate.startswith(ADDED):
         raise Unsayable(f"only counts and sums have shares, and {aggregate} is neither")
     others: List[Coordinate] = [ALL]
     key = whole_of(list(cube)) if of is None else tuple(in_order(cube.dimensions, of, others, "dimension"))
@@ -87,14 +88,14 @@ class Difference(NamedTuple):
 
     def change(self, aggregate: str) -> "Answer":
         """What came to an answer: that after less that before. In a cube that doesn't have the cell a count or a sum is 0;
-        None where either is null, or a least, a greatest, a mean or a percentile that isn't there."""
+        None where either is null, or a least, a greatest, a mean, a variance or a percentile that isn't there."""
         before, after = (answer_in(it, aggregate) for it in (self.before, self.after))
         return None if before is None or after is None else difference(after, before)
 
 
 def answer_in(row: Optional["Row"], aggregate: str) -> "Answer":
     if row is None:
-        return 0 if aggregate.startswith(("count(", "sum(")) else None
+        return 0 if aggregate.startswith(ADDED) else None
     return row.answers[place_of(row.columns.aggregates, aggregate, "aggregate")]
 
 

@@ -26,6 +26,9 @@ MOST_VALUES: Final = 10_000
 PER_MEASURE: Final = ("count", "sum", "min", "max")
 DISTINCT: Final = "count(distinct "
 PERCENTILE: Final = "percentile_disc("
+# (what a sum of squares asks, and the variances that are made of it)
+SQUARES: Final = "sum_of_squares("
+VARIANCES: Final = ("var_pop(", "var_samp(")
 
 Answers = Tuple[Optional[Fraction], ...]
 # (the answers of the values of a dimension; those of the grand total are under null)
@@ -125,10 +128,13 @@ class Comparison(InSnapshot):
         return tuple(self._answer(it, numbers) for it in self._schema.aggregates)
 
     def _of_values(self) -> Dict[str, int]:
-        """The distinct counts and the percentiles among the schema's aggregates, each with the place of its measure."""
+        """The aggregates of the schema that are asked one by one, each with the place of its measure: distinct counts, percentiles, sums
+        of squares, and variances, for which such a sum is asked."""
         names, found = self._schema.measures, {}
         for it in self._schema.aggregates:
-            if it.startswith(PERCENTILE):
+            if it.startswith((SQUARES, *VARIANCES)):
+                found[it] = names.index(it.partition("(")[2][:-1])
+            elif it.startswith(PERCENTILE):
                 found[it] = names.index(it.partition(",")[2][:-1])
             # (it is the count of a measure that is named so, where there is one)
             elif it.startswith(DISTINCT) and it[len("count(") : -1] not in names:
@@ -140,11 +146,17 @@ class Comparison(InSnapshot):
             return numbers[0]
         of_values = self._of_values()
         if aggregate in of_values:
+            at = of_values[aggregate]
             number = numbers[1 + len(PER_MEASURE) * len(self._schema.measures) + list(of_values).index(aggregate)]
-            return number if number is None or aggregate.startswith(DISTINCT) else number * self._rows.factors[of_values[aggregate]]
+            if number is None or aggregate.startswith(DISTINCT):
+                return number
+            if aggregate.startswith(PERCENTILE):
+                return number * self._rows.factors[at]
+            squares = number * self._rows.factors[at] ** 2
+            return self._variance(aggregate, at, numbers, squares) if aggregate.startswith(VARIANCES) else squares
         kind, name = aggregate.split("(", 1)
         at = self._schema.measures.index(name[:-1])
-        found = dict(zip(PER_MEASURE, numbers[1 + len(PER_MEASURE) * at :]))
+        found = self._found(at, numbers)
         if kind == "count":
             return found[kind]
         number, count = found["sum" if kind == "avg" else kind], found["count"]
@@ -152,13 +164,26 @@ class Comparison(InSnapshot):
             return None
         return number * self._rows.factors[at] / (count if kind == "avg" else 1)
 
+    def _found(self, at: int, numbers: Sequence[Optional[Fraction]]) -> Dict[str, Optional[Fraction]]:
+        """What is asked of each measure, of the one at a place."""
+        return dict(zip(PER_MEASURE, numbers[1 + len(PER_MEASURE) * at :]))
+
+    def _variance(self, aggregate: str, at: int, numbers: Sequence[Optional[Fraction]], squares: Fraction) -> Optional[Fraction]:
+        """The variance of a measure, by its count, its sum and its sum of squares; the database's own are rounded."""
+        found = self._found(at, numbers)
+        count, total = found["count"] or Fraction(0), (found["sum"] or 0) * self._rows.factors[at]
+        over = count - 1 if aggregate.startswith("var_samp(") else count
+        return (count * squares - total**2) / (count * over) if over else None
+
 
 def call_of(aggregate: str) -> sql.SQL:
-    """What a distinct count or a percentile is in SQL, over a measure that is to be put in. PostgreSQL multiplies a level as a double,
+    """What an aggregate that is asked by itself is in SQL, over a measure that is to be put in. PostgreSQL multiplies a level as a double,
     which may come out above a whole number; it is asked for a little less where a double isn't the level itself, too little for
     another place among 10^10 values."""
     if aggregate.startswith(DISTINCT):
         return sql.SQL("count(DISTINCT {})")
+    if aggregate.startswith((SQUARES, *VARIANCES)):
+        return sql.SQL("sum({0}::numeric * {0})")
     level = aggregate[len(PERCENTILE) :].partition(",")[0]
     less = "" if Fraction(float(level)) == Fraction(level) else " - 2e-15"
     return sql.SQL(f"percentile_disc({level}{less}) WITHIN GROUP (ORDER BY {{}})")
