@@ -5,12 +5,12 @@ use Rattle.std.proofs.Common.{length-append}
 use Rattle.std.specs.List.{list_all}
 use Rattle.std.proofs.lemmas.Bool.{cases_Bool, and_parts}
 use Rattle.std.proofs.lemmas.List.Folds.{list_all-append}
-use Rattle.cube_core.specs.Layout.{Layout, IsSchema, is_aggregate_of, spelling_of}
+use Rattle.cube_core.specs.Layout.{Layout, IsSchema, is_aggregate_of, is_level, spelling_of}
 use Rattle.cube_core.specs.PartialForm.{has_aggregate, with_aggregate, with_mean_parts, with_variance_parts, with_parts, partial_aggregates, partial_form}
 use Rattle.cube_core.specs.declared.aggregate.Agg.{Agg}
 use Rattle.cube_core.specs.declared.feed_columns.FeedColumns.{FeedColumns}
 use Rattle.cube_core.specs.declared.aggregate.Agg.TheVariants.{CountAll, Count, Sum, Min, Max, Avg, CountDistinct}
-use Rattle.cube_core.specs.declared.aggregate.Agg.TheVariants.{PercentileDisc, SumOfSquares, VarPop, VarSamp}
+use Rattle.cube_core.specs.declared.aggregate.Agg.TheVariants.{PercentileDisc, SumOfSquares, VarPop, VarSamp, Values}
 
 -- a list with one more aggregate, or the same list: what all pass, and how long it is at least
 with_aggregate-list_all : (p : Agg → Bool) (aggregates : List Agg) (agg : Agg) → list_all p aggregates ≡ true
@@ -51,8 +51,12 @@ with_parts-list_all measures aggregates (Count m) all one = all
 with_parts-list_all measures aggregates (Sum m) all one = all
 with_parts-list_all measures aggregates (Min m) all one = all
 with_parts-list_all measures aggregates (Max m) all one = all
-with_parts-list_all measures aggregates (CountDistinct m) all one = all
-with_parts-list_all measures aggregates (PercentileDisc m units places) all one = all
+with_parts-list_all measures aggregates (Values m) all one = all
+with_parts-list_all measures aggregates (CountDistinct m) all one =
+    with_aggregate-list_all (is_aggregate_of measures) aggregates (Values m) all one
+with_parts-list_all measures aggregates (PercentileDisc m units places) all one =
+    with_aggregate-list_all (is_aggregate_of measures) aggregates (Values m) all
+    (and_parts (nat_lt m measures) (is_level units places) one).0
 
 mean_parts-length : (aggregates : List Agg) (m : ℕ) → length aggregates ≤ length (with_mean_parts aggregates m)
 mean_parts-length aggregates m = omega (
@@ -78,8 +82,9 @@ with_parts-length aggregates (Count m) = omega arith
 with_parts-length aggregates (Sum m) = omega arith
 with_parts-length aggregates (Min m) = omega arith
 with_parts-length aggregates (Max m) = omega arith
-with_parts-length aggregates (CountDistinct m) = omega arith
-with_parts-length aggregates (PercentileDisc m units places) = omega arith
+with_parts-length aggregates (Values m) = omega arith
+with_parts-length aggregates (CountDistinct m) = with_aggregate-length aggregates (Values m)
+with_parts-length aggregates (PercentileDisc m units places) = with_aggregate-length aggregates (Values m)
 
 fold-list_all : (measures : ℕ) (all means : List Agg) → list_all (is_aggregate_of measures) all ≡ true
     → list_all (is_aggregate_of measures) means ≡ true
@@ -94,7 +99,7 @@ fold-length all [] = omega arith
 fold-length all (agg ∷ means) = omega (arith, with_parts-length all agg, fold-length (with_parts all agg) means)
 
 -- the partial form of a schema is one, where it hasn't too many aggregates
-pub partial_form-IsSchema : (s : Layout) → IsSchema s → length (partial_aggregates s.aggregates) ≤ 28
+pub partial_form-IsSchema : (s : Layout) → IsSchema s → length (partial_aggregates s.aggregates) ≤ 32
     → IsSchema (partial_form s)
 partial_form-IsSchema s is few = record {
   some_dimension = is.some_dimension;
@@ -127,7 +132,7 @@ pub copied-IsSchema : (s : Layout) (dimensions measures texts : List (List ℕ))
     → dimensions ≡ s.dimensions → measures ≡ s.measures → aggregates ≡ partial_aggregates s.aggregates
     → texts ≡ map (spelling_of measures) aggregates → sets ≡ s.grouping_sets → columns ≡ s.columns
     → decimals ≡ s.decimals
-    → length aggregates ≤ 28
+    → length aggregates ≤ 32
     → IsSchema (record {
       dimensions = dimensions;
       measures = measures;

@@ -39,7 +39,7 @@ use Rattle.cube_core.specs.SchemaDocument.{parts_faults, is_fault_of_parts, layo
 use Rattle.cube_core.specs.SchemaDocument.{first_fault, layout_of, AnswersParts, AnswersDocument, AnswersBytes}
 use Rattle.cube_core.specs.declared.aggregate.Agg.{Agg}
 use Rattle.cube_core.specs.declared.aggregate.Agg.TheVariants.{Count, Sum, Min, Max, Avg, CountDistinct, PercentileDisc}
-use Rattle.cube_core.specs.declared.aggregate.Agg.TheVariants.{SumOfSquares, VarPop, VarSamp}
+use Rattle.cube_core.specs.declared.aggregate.Agg.TheVariants.{SumOfSquares, VarPop, VarSamp, Values}
 
 -- what is found passes the test, and has what each element has
 find-passes : {X : Type 0} (test : X → Bool) (xs : List X) (x : X) → find test xs ≡ Some x → test x ≡ true
@@ -109,18 +109,20 @@ percentiles_over-of measures =
     ∙ and-true (nat_lt m measures)) i)
     ∙ range_with_len-below 0 measures measures (omega arith)))
 
--- every distinct count, sum of squares, variance and percentile over so many measures is of them
+-- every distinct count, sum of squares, variance, percentile and all values over so many measures are of them
 statistics_over-of : (measures : ℕ) → list_all (is_aggregate_of measures) (statistics_over measures) ≡ true
 unfolding statistics_over
 statistics_over-of measures =
     let over : (ℕ → Agg) → List Agg = λ make. map make (range_with_len 0 measures) in
     let percentiles = percentiles_over measures in
-    let samples : List Agg = over VarSamp ++ percentiles in
+    let values : List Agg = over Values ++ percentiles in
+    let samples : List Agg = over VarSamp ++ values in
     let variances : List Agg = over VarPop ++ samples in
     is_aggregate_of-map measures CountDistinct (over SumOfSquares ++ variances) (λ m. refl)
     (is_aggregate_of-map measures SumOfSquares variances (λ m. refl)
     (is_aggregate_of-map measures VarPop samples (λ m. refl)
-    (is_aggregate_of-map measures VarSamp percentiles (λ m. refl) (percentiles_over-of measures))))
+    (is_aggregate_of-map measures VarSamp values (λ m. refl)
+    (is_aggregate_of-map measures Values percentiles (λ m. refl) (percentiles_over-of measures)))))
 
 -- every aggregate over so many measures is of them
 aggregates_over-of : (measures : ℕ) → list_all (is_aggregate_of measures) (aggregates_over measures) ≡ true

@@ -14,7 +14,7 @@ use Rattle.cube_core.specs.Layout.{spelling_of}
 use Rattle.cube_core.specs.SchemaDocument.{aggregate_spelled, percentiles_over, statistic_spelled, statistics_over}
 use Rattle.cube_core.specs.declared.aggregate.Agg.{Agg}
 use Rattle.cube_core.specs.declared.aggregate.Agg.TheVariants.{CountAll, Count, Sum, Min, Max, Avg, CountDistinct}
-use Rattle.cube_core.specs.declared.aggregate.Agg.TheVariants.{SumOfSquares, VarPop, VarSamp}
+use Rattle.cube_core.specs.declared.aggregate.Agg.TheVariants.{SumOfSquares, VarPop, VarSamp, Values}
 
 -- two tests that hold together are one
 Bool-same : (a b : Bool) → (a ≡ true → b ≡ true) → (b ≡ true → a ≡ true) → a ≡ b
@@ -106,20 +106,23 @@ find-functions measures text opening make others found spelled rest =
     (find-function measures text opening make spelled)
     ∙ ap (option_or (option_map make (measure_in measures text opening))) rest
 
--- the distinct count, sum of squares, variance or percentile that a text spells, function by function
+-- the distinct count, sum of squares, variance, values or percentile that a text spells, function by function
 pub statistic_spelled_measure_in : (measures : List (List ℕ)) (text : List ℕ) → statistic_spelled measures text
     ≡ option_or (option_map CountDistinct (measure_in measures text (codes "count(distinct ")))
     (option_or (option_map SumOfSquares (measure_in measures text (codes "sum_of_squares(")))
     (option_or (option_map VarPop (measure_in measures text (codes "var_pop(")))
     (option_or (option_map VarSamp (measure_in measures text (codes "var_samp(")))
-    (find (λ agg. bytes_eq text (spelling_of measures agg)) (percentiles_over (length measures))))))
+    (option_or (option_map Values (measure_in measures text (codes "values(")))
+    (find (λ agg. bytes_eq text (spelling_of measures agg)) (percentiles_over (length measures)))))))
 unfolding statistics_over statistic_spelled
 statistic_spelled_measure_in measures text =
     let over : (ℕ → Agg) → List Agg = λ make. map make (range_with_len 0 (length measures)) in
     let percentiles = percentiles_over (length measures) in
-    let samples : List Agg = over VarSamp ++ percentiles in
+    let values : List Agg = over Values ++ percentiles in
+    let samples : List Agg = over VarSamp ++ values in
     let variances : List Agg = over VarPop ++ samples in
-    let fourth = find-functions measures text (codes "var_samp(") VarSamp percentiles _ (λ m. refl) refl in
+    let fifth = find-functions measures text (codes "values(") Values percentiles _ (λ m. refl) refl in
+    let fourth = find-functions measures text (codes "var_samp(") VarSamp values _ (λ m. refl) fifth in
     let third = find-functions measures text (codes "var_pop(") VarPop samples _ (λ m. refl) fourth in
     let second = find-functions measures text (codes "sum_of_squares(") SumOfSquares variances _ (λ m. refl) third in
     find-functions measures text (codes "count(distinct ") CountDistinct (over SumOfSquares ++ variances) _

@@ -1,10 +1,10 @@
 -- The answers of the aggregates over a group of facts (SQL:1999, aggregate functions:
 -- COUNT of no value is 0, the others of no value are null).
 use Rattle.std.specs.Prelude.{◌≡◌, ◌↔◌, ◌<◌, ◌≤◌, ◌≤ℤ◌, ◌+◌, ◌-◌, ◌*◌, ◌/◌, ◌^◌, ℕ, ℤ, max, List, [], ◌∷◌, length}
-use Rattle.std.specs.Prelude.{Contains, Bool, true, false}
-use Rattle.std.specs.List.{AllByRecursion, AllZip, count_by}
+use Rattle.std.specs.Prelude.{Contains, Bool, true, false, replicate}
+use Rattle.std.specs.List.{AllByRecursion, AllZip, count_by, flat_map}
 use Rattle.std.specs.List.Sorted.{IsStrictlySortedBy}
-use Rattle.std.specs.Ordering.{int_cmp, is_lt, is_le}
+use Rattle.std.specs.Ordering.{int_cmp, int_eq, is_lt, is_le}
 use Rattle.cube_core.specs.Fraction.{IsInLowestTerms}
 use Rattle.cube_core.specs.Group.{values_of, total_of}
 use Rattle.cube_core.specs.Variance.{IsVariance, freedom_of, squares_of}
@@ -83,6 +83,25 @@ IsVarianceAnswer is_sample values (answer.Count n) = ⊥
 IsVarianceAnswer is_sample values (answer.Whole z) = ⊥
 IsVarianceAnswer is_sample values (answer.Ratio p q) = ⊥
 IsVarianceAnswer is_sample values (answer.Squares n) = ⊥
+IsVarianceAnswer is_sample values (answer.Values held) = ⊥
+
+-- how often a number stands among values
+abbrev pub times_among : List ℤ → ℤ → ℕ
+times_among values x = count_by (int_eq x) values
+
+-- the values that are held so often, each as many times
+abbrev pub values_held : List (ℤ × ℕ) → List ℤ
+values_held held = flat_map (λ pair. replicate pair.1 pair.0) held
+
+-- each different value in ascending order, with how often it stands among the values: once at least
+pub record AreHeld (values : List ℤ) (held : List (ℤ × ℕ)) : Type 0 where
+  pub ascending : IsStrictlySortedBy (λ pair other. int_cmp pair.0 other.0) held
+  pub some : AllByRecursion (λ pair. 0 < pair.1) held
+  pub same : (x : ℤ) → times_among (values_held held) x ≡ times_among values x
+
+-- the values themselves, none where there is none (this project's choice)
+abbrev pub AreValues : List ℤ → Answer → Type 0
+AreValues values a = (held : List (ℤ × ℕ)) × (a ≡ answer.Values held) × AreHeld values held
 
 -- the answer of an aggregate over a group of facts
 abbrev pub IsAnswer : List Fact → Agg → Answer → Type 0
@@ -97,6 +116,7 @@ IsAnswer group (agg.PercentileDisc m units places) a = IsPercentile units places
 IsAnswer group (agg.SumOfSquares m) a = IsSumOfSquares (values_of m group) a
 IsAnswer group (agg.VarPop m) a = IsVarianceAnswer false (values_of m group) a
 IsAnswer group (agg.VarSamp m) a = IsVarianceAnswer true (values_of m group) a
+IsAnswer group (agg.Values m) a = AreValues (values_of m group) a
 
 -- the answers of a list of aggregates over a group of facts, in the order of the list
 abbrev pub AreAnswers : List Fact → List Agg → List Answer → Type 0

@@ -12,7 +12,7 @@ use Rattle.cube_core.specs.declared.key.Key.{Key}
 use Rattle.cube_core.specs.declared.shard.Shard.{Shard}
 use Rattle.cube_core.specs.declared.aggregate.Agg.{Agg}
 use Rattle.cube_core.specs.declared.aggregate.Agg.TheVariants.{CountAll, Count, Sum, Min, Max, Avg}
-use Rattle.cube_core.specs.declared.aggregate.Agg.TheVariants.{CountDistinct, PercentileDisc, SumOfSquares, VarPop, VarSamp}
+use Rattle.cube_core.specs.declared.aggregate.Agg.TheVariants.{CountDistinct, PercentileDisc, SumOfSquares, VarPop, VarSamp, Values}
 
 -- a schema: the names of the dimensions and of the measures, the aggregates, each with its spelling,
 -- how many data records a feed may have, the masks of the grouping sets that are kept, the version of its feeds,
@@ -74,6 +74,7 @@ is_aggregate_of measures (PercentileDisc m units places) = nat_lt m measures && 
 is_aggregate_of measures (SumOfSquares m) = nat_lt m measures
 is_aggregate_of measures (VarPop m) = nat_lt m measures
 is_aggregate_of measures (VarSamp m) = nat_lt m measures
+is_aggregate_of measures (Values m) = nat_lt m measures
 
 -- an aggregate of a measure, as a schema spells it
 abbrev pub spelled_with : List ℕ → List (List ℕ) → ℕ → List ℕ
@@ -107,6 +108,7 @@ spelling_of measures (PercentileDisc m units places) =
 spelling_of measures (SumOfSquares m) = spelled_with (codes "sum_of_squares") measures m
 spelling_of measures (VarPop m) = spelled_with (codes "var_pop") measures m
 spelling_of measures (VarSamp m) = spelled_with (codes "var_samp") measures m
+spelling_of measures (Values m) = spelled_with (codes "values") measures m
 
 -- whether a byte may stand between the fields of a feed: an ASCII character, neither a quote nor a line's end
 abbrev pub is_delimiter : ℕ → Bool
@@ -135,7 +137,7 @@ pub record IsSchema (s : Layout) : Type 0 where
   pub some_measure : s.columns ≡ None → 1 ≤ length s.measures
   pub measures_at_most : length s.measures ≤ 4
   pub some_aggregate : 1 ≤ length s.aggregates
-  pub aggregates_at_most : length s.aggregates ≤ 28
+  pub aggregates_at_most : length s.aggregates ≤ 32
   pub names_are_lawful : list_all is_lawful_name (names_of s) ≡ true
   pub names_are_distinct : are_distinct (names_of s) ≡ true
   pub aggregates_are_of_measures : list_all (is_aggregate_of (length s.measures)) s.aggregates ≡ true
@@ -156,24 +158,16 @@ pub record IsSchema (s : Layout) : Type 0 where
 abbrev pub keeps : Layout → Key → Bool
 keeps s key = is_among (mask_of key) s.grouping_sets
 
--- whether an aggregate is of each of a measure's values, so that no summary of them gives it (Gray et al. 1997: it is
--- holistic)
-abbrev pub is_holistic : Agg → Bool
-is_holistic (CountDistinct m) = true
-is_holistic (PercentileDisc m units places) = true
-is_holistic _ = false
-
--- whether an aggregate of a schema is
-abbrev pub has_holistic : Layout → Bool
-has_holistic s = list_any is_holistic s.aggregates
-
--- whether an aggregate needs each of a measure's values in a cell: it is holistic, or made of squares, which no summary
--- here keeps (this project's choice)
+-- whether an aggregate needs each of a measure's values in a cell: no summary of them gives it (Gray et al. 1997: it is
+-- holistic), or it is made of squares, which no summary here keeps (this project's choice)
 abbrev pub needs_each : Agg → Bool
+needs_each (CountDistinct m) = true
+needs_each (PercentileDisc m units places) = true
 needs_each (SumOfSquares m) = true
 needs_each (VarPop m) = true
 needs_each (VarSamp m) = true
-needs_each agg = is_holistic agg
+needs_each (Values m) = true
+needs_each _ = false
 
 -- whether a cell of a schema needs each number that it counts, and not only a summary of them
 abbrev pub needs_numbers : Layout → Bool

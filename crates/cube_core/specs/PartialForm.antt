@@ -1,12 +1,13 @@
--- The partial form of a schema: it also has what each mean and each variance is made of,
--- so that cubes under it can be merged (Gray et al. 1997: they are algebraic, made of SUM, COUNT and the sum of the squares).
+-- The partial form of a schema: it also has what each mean, each variance, each distinct count and each percentile is made
+-- of, so that cubes under it can be merged (Gray et al. 1997: means and variances are algebraic, made of SUM, COUNT and the
+-- sum of the squares; the others are holistic, made of all values).
 use Rattle.std.specs.Prelude.{◌≡◌, ◌==◌, ◌&&◌, ◌<◌, ⊤, ℕ, Bool, true, false, List, [], ◌∷◌, ◌++◌, length, map, if◌then◌else◌}
 use Rattle.std.specs.Prelude.{Result, Ok, Err}
 use Rattle.std.specs.List.{list_any, fold}
 use Rattle.cube_core.specs.Layout.{Layout, spelling_of}
 use Rattle.cube_core.specs.declared.aggregate.Agg.{Agg}
 use Rattle.cube_core.specs.declared.aggregate.Agg.TheVariants.{CountAll, Count, Sum, Min, Max, Avg}
-use Rattle.cube_core.specs.declared.aggregate.Agg.TheVariants.{CountDistinct, PercentileDisc, SumOfSquares, VarPop, VarSamp}
+use Rattle.cube_core.specs.declared.aggregate.Agg.TheVariants.{CountDistinct, PercentileDisc, SumOfSquares, VarPop, VarSamp, Values}
 use Rattle.cube_core.specs.declared.schema_fault.SchemaFault.{SchemaFault}
 use Rattle.cube_core.specs.declared.schema_fault.SchemaFault.TheVariants.{Memory}
 
@@ -24,6 +25,7 @@ is_aggregate (PercentileDisc m units places) (PercentileDisc n others digits) =
 is_aggregate (SumOfSquares m) (SumOfSquares n) = m == n
 is_aggregate (VarPop m) (VarPop n) = m == n
 is_aggregate (VarSamp m) (VarSamp n) = m == n
+is_aggregate (Values m) (Values n) = m == n
 is_aggregate _ _ = false
 
 -- whether an aggregate stands in a list of aggregates
@@ -42,14 +44,16 @@ with_mean_parts aggregates m = with_aggregate (with_aggregate aggregates (Sum m)
 abbrev pub with_variance_parts : List Agg → ℕ → List Agg
 with_variance_parts aggregates m = with_aggregate (with_mean_parts aggregates m) (SumOfSquares m)
 
--- a list of aggregates with what this one is made of, where it is a mean or a variance
+-- a list of aggregates with what this one is made of, where it is a mean, a variance, a distinct count or a percentile
 abbrev pub with_parts : List Agg → Agg → List Agg
 with_parts aggregates (Avg m) = with_mean_parts aggregates m
 with_parts aggregates (VarPop m) = with_variance_parts aggregates m
 with_parts aggregates (VarSamp m) = with_variance_parts aggregates m
+with_parts aggregates (CountDistinct m) = with_aggregate aggregates (Values m)
+with_parts aggregates (PercentileDisc m units places) = with_aggregate aggregates (Values m)
 with_parts aggregates _ = aggregates
 
--- aggregates, and then what each mean and each variance among them is made of, in their order
+-- aggregates, and then what each of them is made of that is made of others, in their order
 abbrev pub partial_aggregates : List Agg → List Agg
 partial_aggregates aggregates = fold with_parts aggregates aggregates
 
@@ -60,9 +64,9 @@ partial_form s = record s {
   aggregate_texts = map (spelling_of s.measures) (partial_aggregates s.aggregates);
 }
 
--- the most aggregates of a schema: 16 of its document, and 3 for each measure
+-- the most aggregates of a schema: 16 of its document, and 4 for each measure
 abbrev pub most_aggregates : ℕ
-most_aggregates = 28
+most_aggregates = 32
 
 -- what may be answered to a wish for the partial form:
 -- the form, that it has too many aggregates, or that memory ran out

@@ -16,7 +16,7 @@ use Rattle.cube_core.specs.FeedDocument.{texts_of, has_only, columns_of_value}
 use Rattle.cube_core.specs.GroupingSet.{all_sets, is_among}
 use Rattle.cube_core.specs.declared.aggregate.Agg.{Agg}
 use Rattle.cube_core.specs.declared.aggregate.Agg.TheVariants.{CountAll, Count, Sum, Min, Max, Avg}
-use Rattle.cube_core.specs.declared.aggregate.Agg.TheVariants.{CountDistinct, PercentileDisc, SumOfSquares, VarPop, VarSamp}
+use Rattle.cube_core.specs.declared.aggregate.Agg.TheVariants.{CountDistinct, PercentileDisc, SumOfSquares, VarPop, VarSamp, Values}
 use Rattle.cube_core.specs.declared.feed_columns.FeedColumns.{FeedColumns}
 use Rattle.cube_core.specs.declared.schema_fault.SchemaFault.{SchemaFault}
 use Rattle.cube_core.specs.declared.schema_fault.SchemaFault.TheVariants.{Memory, Toml, UnknownKey, Dimensions}
@@ -71,14 +71,15 @@ percentiles_at measures places =
 unfoldable pub percentiles_over : ℕ → List Agg
 percentiles_over measures = flat_map (percentiles_at measures) (range_with_len 0 5)
 
--- every distinct count, sum of squares, variance and percentile of so many measures
+-- every distinct count, sum of squares, variance, percentile and all values of so many measures
 unfoldable pub statistics_over : ℕ → List Agg
 statistics_over measures =
     map CountDistinct (range_with_len 0 measures)
     ++ (map SumOfSquares (range_with_len 0 measures)
     ++ (map VarPop (range_with_len 0 measures)
     ++ (map VarSamp (range_with_len 0 measures)
-    ++ percentiles_over measures)))
+    ++ (map Values (range_with_len 0 measures)
+    ++ percentiles_over measures))))
 
 -- every aggregate of so many measures; where a measure is named so that a text spells two of them, the first is meant
 abbrev pub aggregates_over : ℕ → List Agg
@@ -90,7 +91,7 @@ aggregates_over measures =
     ++ (map Avg (range_with_len 0 measures)
     ++ statistics_over measures)))))
 
--- of these measures the distinct count, the sum of squares, the variance or the percentile that is spelled so
+-- of these measures the distinct count, the sum of squares, the variance, the values or the percentile that is spelled so
 unfoldable pub statistic_spelled : List (List ℕ) → List ℕ → Option Agg
 statistic_spelled measures text =
     find (λ agg. bytes_eq text (spelling_of measures agg)) (statistics_over (length measures))

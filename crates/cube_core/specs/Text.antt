@@ -11,7 +11,7 @@ use Rattle.cube_core.specs.Takes.{null_text}
 use Rattle.cube_core.specs.Wide.{long_decimal}
 use Rattle.cube_core.specs.declared.aggregate.Agg.{Agg}
 use Rattle.cube_core.specs.declared.aggregate.Agg.TheVariants.{CountAll, Count, Sum, Min, Max, Avg}
-use Rattle.cube_core.specs.declared.aggregate.Agg.TheVariants.{CountDistinct, PercentileDisc, SumOfSquares, VarPop, VarSamp}
+use Rattle.cube_core.specs.declared.aggregate.Agg.TheVariants.{CountDistinct, PercentileDisc, SumOfSquares, VarPop, VarSamp, Values}
 use Rattle.cube_core.specs.declared.aggregate.Answer.{Answer}
 use Rattle.cube_core.specs.declared.aggregate.Answer.TheVariants as answer
 use Rattle.cube_core.specs.declared.change.Refusal.{Refusal}
@@ -61,6 +61,7 @@ digits_of s (PercentileDisc m units places) = digits_of_measure s m
 digits_of s (SumOfSquares m) = digits_of_measure s m
 digits_of s (VarPop m) = digits_of_measure s m
 digits_of s (VarSamp m) = digits_of_measure s m
+digits_of s (Values m) = digits_of_measure s m
 
 -- digits with zeros before them, so that there are at least so many
 abbrev pub padded : ℕ → List ℕ → List ℕ
@@ -101,8 +102,17 @@ abbrev pub long_fraction_text : ℕ → ℕ → ℕ → List ℕ
 long_fraction_text k p q = let common = common_with_ten k p in
     long_decimal (p / common) ++ codes "/" ++ long_decimal (q * (10 ^ k / common))
 
--- what a row shows of an answer in units of 10^-k: the null text, a number, or a fraction; squares and variances are in
--- units of 10^-2k
+-- a value in units of 10^-k and how often it is held, a star between
+abbrev pub held_text : ℕ → ℤ × ℕ → List ℕ
+held_text k held = signed_units_text k held.0 ++ codes "*" ++ decimal held.1
+
+-- values with how often each is held, a space between two
+abbrev pub values_text : ℕ → List (ℤ × ℕ) → List ℕ
+values_text k [] = []
+values_text k (held ∷ others) = held_text k held ++ flat_map (λ other. codes " " ++ held_text k other) others
+
+-- what a row shows of an answer in units of 10^-k: the null text, a number, a fraction, or values; squares and variances are
+-- in units of 10^-2k
 abbrev pub answer_text : ℕ → Answer → List ℕ
 answer_text k answer.Null = null_text
 answer_text k (answer.Count n) = decimal n
@@ -110,6 +120,7 @@ answer_text k (answer.Whole z) = signed_units_text k z
 answer_text k (answer.Ratio p q) = fraction_text k p q
 answer_text k (answer.Squares n) = long_units_text (2 * k) n
 answer_text k (answer.Variance p q) = long_fraction_text (2 * k) p q
+answer_text k (answer.Values held) = values_text k held
 
 -- how many digits stand behind the point of the numbers that each of a schema's aggregates is of
 abbrev pub digits_of_answers : Layout → List ℕ

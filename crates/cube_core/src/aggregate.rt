@@ -1,5 +1,6 @@
 //! The aggregates that a cube shows, and their answers.
 
+use crate::sequence::Sequence;
 use crate::squares::Squares;
 use crate::wide::Wide;
 
@@ -34,10 +35,12 @@ pub enum Agg {
     VarPop(usize),
     /// `var_samp(m)`: the same of a sample, whose squares are divided by one less than there are values.
     VarSamp(usize),
+    /// `values(m)`: each different value of the measure, with how often it is held.
+    Values(usize),
 }
 
 /// What an aggregate says of a group of facts.
-#[derive(Clone, Copy, Debug, PartialEq, Eq)]
+#[derive(Debug, Drop, PartialEq, Eq)]
 pub enum Answer {
     /// No value to speak of: a sum, a least, a greatest value, a mean, a percentile or a variance of no value, or a variance
     /// of a sample of one.
@@ -52,4 +55,6 @@ pub enum Answer {
     Squares(Squares),
     /// A variance: the fraction `p/q` in lowest terms, with `q` at least 1.
     Variance { p: Wide, q: u128 },
+    /// Values: each different one, in ascending order, and how often it is held.
+    Values(Sequence<(i64, u64)>),
 }

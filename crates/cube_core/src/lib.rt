@@ -50,6 +50,7 @@ pub use shard::Shard;
 pub use small_sequence::SmallSequence;
 pub use squares::Squares;
 pub use text::Text;
-pub use variance::{variance_from, variance_of};
+pub use variance::variance_from;
 pub use wide::{Wide, square_of};
+pub use wide_fraction::is_reduced;
 pub use wide_text::push_decimal;

@@ -11,16 +11,16 @@ use crate::schema_fault::SchemaFault;
 use crate::text::{Text, copy_texts};
 use std::alloc::{AllocError, Global};
 
-// The most aggregates of a schema: 16 of its document, and 3 for each measure.
-const MOST_AGGREGATES: usize = 28;
+// The most aggregates of a schema: 16 of its document, and 4 for each measure.
+const MOST_AGGREGATES: usize = 32;
 
 impl Schema {
     /// The partial form: the same schema with more aggregates, after its own for each `avg(m)` in their order `sum(m)`
-    /// and `count(m)`, and for each variance of m these and `sum_of_squares(m)`, where they aren't there yet. A mean and a
-    /// variance can be made again from the sums, the counts and the sums of squares of several cubes. The partial form of a
-    /// partial form is itself.
+    /// and `count(m)`, for each variance of m these and `sum_of_squares(m)`, and for each distinct count and each percentile
+    /// of m `values(m)`, where they aren't there yet. All of these can be made again from the sums, the counts, the sums of
+    /// squares and the values of several cubes. The partial form of a partial form is itself.
     ///
-    /// The error is that memory ran out, or `Aggregates` where there would be more than 28, which never happens to the
+    /// The error is that memory ran out, or `Aggregates` where there would be more than 32, which never happens to the
     /// schema of a document nor to its partial form.
     pub fn partial(&self, alloc: Global) -> Result<Schema, SchemaFault>
         ensures { AnswersPartial self.now result }
@@ -46,7 +46,7 @@ impl Schema {
     }
 }
 
-// The aggregates, and then what each mean and each variance among them is made of.
+// The aggregates, and then what each mean, each variance, each distinct count and each percentile among them is made of.
 fn partial_aggregates(alloc: Global, aggregates: &[Agg]) -> Result<Vec<Agg>, AllocError>
     ensures { IfOk result (λ all. all.items ≡ partial_aggregates aggregates.now) }
 {
@@ -63,6 +63,9 @@ fn add_parts(aggregates: &mut Vec<Agg>, aggregate: &Agg) -> Result<(), AllocErro
     match aggregate {
         Agg::Avg(measure) => add_mean_parts(aggregates, *measure),
         Agg::VarPop(measure) | Agg::VarSamp(measure) => add_variance_parts(aggregates, *measure),
+        Agg::CountDistinct(measure) | Agg::PercentileDisc { measure, .. } => {
+            add_missing(aggregates, Agg::Values(*measure))
+        }
         _ => Ok(()),
     }
 }
@@ -136,6 +139,7 @@ fn spelling_of(alloc: Global, measures: &[Text], aggregate: &Agg) -> Result<Text
         Agg::SumOfSquares(measure) => spelled_with(alloc, "sum_of_squares", measures, *measure),
         Agg::VarPop(measure) => spelled_with(alloc, "var_pop", measures, *measure),
         Agg::VarSamp(measure) => spelled_with(alloc, "var_samp", measures, *measure),
+        Agg::Values(measure) => spelled_with(alloc, "values", measures, *measure),
     }
 }
 

@@ -24,7 +24,7 @@ use std::alloc::{AllocError, Global};
 use std::marker::Model;
 
 /// The schema of a cube: 1 to 8 dimensions, 1 to 4 measures (or none, where the columns of feeds are known by name),
-/// 1 to 28 aggregates of these measures, and the number of data records that a feed may have, 1 to 4294967295.
+/// 1 to 32 aggregates of these measures, and the number of data records that a feed may have, 1 to 4294967295.
 ///
 /// All names differ, and none is empty, `op`, `id` or `*`.
 #[derive(Drop)]
@@ -170,7 +170,7 @@ impl Schema {
         self.measures.as_slice()
     }
 
-    /// The aggregates in order, each of a measure of this schema; 1 to 28.
+    /// The aggregates in order, each of a measure of this schema; 1 to 32.
     pub fn aggregates(&self) -> &[Agg]
         ensures value { result.now ≡ self.now.aggregates }
         ensures schema { IsSchema self.now }
@@ -254,12 +254,13 @@ impl Schema {
             | Agg::PercentileDisc { measure, .. }
             | Agg::SumOfSquares(measure)
             | Agg::VarPop(measure)
-            | Agg::VarSamp(measure) => self.decimals_of(*measure).unwrap_or(0),
+            | Agg::VarSamp(measure)
+            | Agg::Values(measure) => self.decimals_of(*measure).unwrap_or(0),
         }
     }
 
-    /// Whether some aggregate is a distinct count, a percentile, a sum of squares or a variance: what a cell must keep each
-    /// number for that it counts.
+    /// Whether some aggregate is a distinct count, a percentile, a sum of squares, a variance or all values: what a cell must
+    /// keep each number for that it counts.
     pub fn needs_numbers(&self) -> bool
         ensures needs { result ≡ needs_numbers self.now }
         ensures suffice { result ≡ false → all_suffice false self.now ≡ true }
@@ -393,7 +394,8 @@ fn needs_each(aggregate: &Agg) -> bool
         | Agg::PercentileDisc { .. }
         | Agg::SumOfSquares(_)
         | Agg::VarPop(_)
-        | Agg::VarSamp(_) => true,
+        | Agg::VarSamp(_)
+        | Agg::Values(_) => true,
         Agg::CountAll | Agg::Count(_) | Agg::Sum(_) | Agg::Min(_) | Agg::Max(_) | Agg::Avg(_) =>
             false,
     }

@@ -370,7 +370,7 @@ fn aggregate_spelled(measures: &[Text], text: &str) -> Option<Agg>
     statistic_spelled(measures, text)
 }
 
-/// The distinct count, the sum of squares, the variance or the percentile that a text spells.
+/// The distinct count, the sum of squares, the variance, the values or the percentile that a text spells.
 #[tactic(auto, using(crate::proofs::SchemaSpellingLaws::statistic_spelled_measure_in))]
 fn statistic_spelled(measures: &[Text], text: &str) -> Option<Agg>
     ensures { result ≡ statistic_spelled measures.now text.now }
@@ -386,6 +386,9 @@ fn statistic_spelled(measures: &[Text], text: &str) -> Option<Agg>
     }
     if let Some(measure) = measure_spelled(measures, "var_samp(", text) {
         return Some(Agg::VarSamp(measure));
+    }
+    if let Some(measure) = measure_spelled(measures, "values(", text) {
+        return Some(Agg::Values(measure));
     }
     percentile_spelled(measures, text)
 }

@@ -1,5 +1,5 @@
 //! Sums of squares.
-ghost use Rattle.std.specs.Prelude.{◌≡◌, ◌≤◌, ◌<◌, ◌+◌, ◌^◌, MatchOption};
+ghost use Rattle.std.specs.Prelude.{◌≡◌, ◌≤◌, ◌<◌, ◌+◌, ◌^◌, IfSome, MatchOption};
 
 use crate::wide::Wide;
 use std::marker::Model;
@@ -31,9 +31,17 @@ impl Model for Squares {
 }
 
 impl Squares {
+    /// The sum of no square.
+    pub fn none() -> Squares
+        ensures { result ≡ 0 }
+    {
+        Squares { high: 0, low: 0 }
+    }
+
     /// The sum that is this number, where it is below 2^192.
     pub fn of(number: Wide) -> Option<Squares>
-        ensures { MatchOption result (2 ^ 192 ≤ number) (λ squares. squares ≡ number) }
+        ensures value { MatchOption result (2 ^ 192 ≤ number) (λ squares. squares ≡ number) }
+        ensures below { IfSome result (λ squares. squares < 2 ^ 192) }
     {
         let (high, low) = number.halves();
         match u64::try_from(high) {
@@ -52,7 +60,8 @@ impl Squares {
 
     /// The sum of two, where it is one.
     pub fn checked_add(self, other: Squares) -> Option<Squares>
-        ensures { MatchOption result (2 ^ 192 ≤ self + other) (λ sum. sum ≡ self + other) }
+        ensures value { MatchOption result (2 ^ 192 ≤ self + other) (λ sum. sum ≡ self + other) }
+        ensures below { IfSome result (λ sum. sum < 2 ^ 192) }
     {
         Squares::of(self.number().plus(other.number()))
     }

@@ -57,13 +57,6 @@ impl Wide {
         (self.high, self.low)
     }
 
-    /// Whether it is 0.
-    pub fn is_zero(self) -> bool
-        ensures { IsTrue result ↔ (self ≡ 0) }
-    {
-        self.high == 0 && self.low == 0
-    }
-
     /// The product of two numbers, which always fits.
     pub fn product(left: u128, right: u128) -> Wide
         ensures { result ≡ left * right }

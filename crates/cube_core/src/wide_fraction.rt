@@ -1,5 +1,5 @@
 //! A fraction of natural numbers in lowest terms.
-ghost use Rattle.std.specs.Prelude.{◌≤◌};
+ghost use Rattle.std.specs.Prelude.{◌≡◌, ◌≤◌, ◌<◌, ◌^◌, true};
 ghost use Rattle.std.specs.Int.{IsGcd};
 ghost use Rattle.cube_core.specs.Wide.{IsReduced};
 
@@ -12,6 +12,14 @@ pub fn reduced(numerator: Wide, denominator: u128) -> (Wide, u128)
 {
     let divisor = divisor_of(numerator, denominator);
     (numerator.quotient(divisor), denominator / divisor)
+}
+
+/// Whether a fraction is in lowest terms, and its denominator at least 1.
+pub fn is_reduced(numerator: Wide, denominator: u128) -> bool
+    ensures terms { result ≡ true → (0 < denominator) × IsGcd numerator denominator 1 }
+    ensures below { numerator < 2 ^ 256 }
+{
+    denominator != 0 && divisor_of(numerator, denominator) == 1
 }
 
 // The greatest common divisor of the two. One rest of 256 bits, then it fits 128.

@@ -1,4 +1,3 @@
-use Rattle.std.proofs.Common.{◌≡◌, ℕ, ◌+◌, ◌*◌, ◌%◌, ◌^◌, ◌<◌, ◌≤◌}
 use Rattle.cube_core.proofs.WideLaws.{IsDivided}
 use Rattle.cube_core.proofs.wide.divide_on.Given as goal
 

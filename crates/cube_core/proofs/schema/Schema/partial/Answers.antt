@@ -28,5 +28,5 @@ invariant_of-result c =
     let sets : c.in_ok-from_slice.field-0.items ≡ s.grouping_sets = search rules in
     let columns : c.in_ok-copy_columns.field-0 ≡ s.columns = search rules in
     let decimals : c.in_ok-from_slice-2.field-0.items ≡ s.decimals = search rules in
-    let few : length c.in_ok-aggregates.aggregates.items ≤ 28 = search rules in
+    let few : length c.in_ok-aggregates.aggregates.items ≤ 32 = search rules in
     copied-IsSchema s _ _ _ _ _ _ _ c.self.invariant dimensions measures aggregates texts sets columns decimals few

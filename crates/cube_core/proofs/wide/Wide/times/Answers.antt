@@ -1,4 +1,4 @@
-use Rattle.std.proofs.Common.{◌≡◌, ◌+◌, ◌*◌, ◌^◌, ◌<◌, rules, sym, ◌∙◌, ap, subst, arith}
+use Rattle.std.proofs.Common.{◌≡◌, ◌*◌, ◌^◌, ◌<◌, rules, sym, ◌∙◌, ap, subst, arith}
 use Rattle.cube_core.proofs.WideLaws.{multiple_of_digits, multiple_fits}
 use Rattle.cube_core.proofs.wide.Wide.times.Goals as goal
 
