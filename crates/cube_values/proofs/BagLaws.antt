@@ -616,7 +616,7 @@ pub size_of-bag : (old new more : Bag) → AddsBag old new more → size_of new 
 size_of-bag old new more adds = weight_of-bag (λ _. 1) old new more adds
 
 -- the pairs from a place on: the one there, and those after it
-drop-get_or : (pairs : Bag) (i : ℕ) (d : ℤ × ℕ) → i < length pairs
+pub drop-get_or : (pairs : Bag) (i : ℕ) (d : ℤ × ℕ) → i < length pairs
     → drop i pairs ≡ get_or pairs i d ∷ drop (i + 1) pairs
 drop-get_or pairs i d within = at_drop_more (λ (bag : Bag). bag) pairs i d within
 

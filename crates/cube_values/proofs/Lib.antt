@@ -8,3 +8,4 @@ mod LogLaws
 mod OwedLaws
 mod TableLaws
 pub mod StatisticsLaws
+pub mod HeldLaws

@@ -1,7 +1,7 @@
 -- Laws of lists of numbers that are each held once: what their bag holds, and how it changes with the list.
 use Rattle.std.proofs.Common.{◌≡◌, ℕ, ◌+◌, ◌<◌, ◌≤◌, List, [], ◌∷◌, ◌++◌, refl, arith, ap, length, get_or, take, drop}
 use Rattle.std.proofs.Common.{true, false, subst}
-use Rattle.std.specs.Prelude.{ℤ, ◌≤ℤ◌, Option, Some, None, All, Contains, IfSome, IfNone, is_some}
+use Rattle.std.specs.Prelude.{ℤ, ◌≤ℤ◌, Option, Some, None, All, Contains, IfSome, IfNone, is_some, sum_by}
 use Rattle.std.specs.Bool.{OnTrue, OnFalse}
 use Rattle.std.specs.Int.{int_min, int_max}
 use Rattle.std.specs.List.{swap_remove, HoldsAt}
@@ -11,7 +11,7 @@ use Rattle.std.proofs.lemmas.List.{map_more, take_all, length-map, get_or-map}
 use Rattle.std.proofs.lemmas.List.Elements.{All-map}
 use Rattle.std.proofs.lemmas.List.Sums.{sum_by-cons, sum_by-append, sum_by_push, sum_by-swap_remove, sum_by-le}
 use Rattle.std.proofs.lemmas.List.Sums.{get_or-le-sum_by}
-use Rattle.cube_values.specs.Bag.{Bag, one_at, held_of, size_of, SameHeld, AddsBag, AddsTimes, AddsOne, HasEnds}
+use Rattle.cube_values.specs.Bag.{Bag, weight_of, one_at, held_of, size_of, SameHeld, AddsBag, AddsTimes, AddsOne, HasEnds}
 use Rattle.cube_values.specs.Narrow.{times_in, once_each}
 use Rattle.cube_values.proofs.BagLaws.{weight_of-cons, one_at-refl, one_at-distinct, int_eq-same}
 use Rattle.cube_values.proofs.BagLaws.{IsSplit, IsSplit-room}
@@ -19,15 +19,19 @@ use Rattle.cube_values.proofs.BagLaws.{IsSplit-more, IsSplit-SameHeld, IsMerging
 use Rattle.cube_values.proofs.BagLaws.{IsMerging-AddsBag_past}
 use Rattle.cube_values.proofs.EndLaws.{HasEnds-pair, HasEnds-AddsBag, HasEnds-keys_of}
 
--- each number is held as often as it stands in the list
-pub held_of-once_each : (numbers : List ℤ) (x : ℤ) → held_of (once_each numbers) x ≡ times_in numbers x
-held_of-once_each [] x = refl
-held_of-once_each (v ∷ numbers) x = omega (
+-- each number counts as often as it stands in the list
+pub weight_of-once_each : (f : ℤ → ℕ) (numbers : List ℤ) → weight_of f (once_each numbers) ≡ sum_by f numbers
+weight_of-once_each f [] = refl
+weight_of-once_each f (v ∷ numbers) = omega (
   arith,
-  held_of-once_each numbers x,
-  weight_of-cons (one_at x) (v, 1) (once_each numbers),
-  sum_by-cons (one_at x) v numbers,
+  weight_of-once_each f numbers,
+  weight_of-cons f (v, 1) (once_each numbers),
+  sum_by-cons f v numbers,
 )
+
+-- and is held as often
+pub held_of-once_each : (numbers : List ℤ) (x : ℤ) → held_of (once_each numbers) x ≡ times_in numbers x
+held_of-once_each numbers x = weight_of-once_each (one_at x) numbers
 
 -- so many numbers are held
 pub size_of-once_each : (numbers : List ℤ) → size_of (once_each numbers) ≡ length numbers
@@ -147,7 +151,7 @@ takes_last (w ∷ u ∷ numbers) none v few some nothing = absurd (omega (arith,
 
 -- ---- the ends
 -- the numbers of the pairs are those of the list
-keys_of-once_each : (numbers : List ℤ) → keys_of (once_each numbers) ≡ numbers
+pub keys_of-once_each : (numbers : List ℤ) → keys_of (once_each numbers) ≡ numbers
 keys_of-once_each [] = refl
 keys_of-once_each (v ∷ numbers) = ap (λ (l : List ℤ). v ∷ l) (keys_of-once_each numbers)
 

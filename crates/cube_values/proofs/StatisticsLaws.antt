@@ -258,10 +258,10 @@ HasLeast-le bag l g least greatest = least.below g greatest.held
 abbrev pub Ascends : Bag → Type 0
 Ascends pairs = AllPairs (λ e f. e.0 <ℤ f.0) pairs
 
-All-ascending : (e : ℤ × ℕ) (pairs : Bag) → Ascends (e ∷ pairs) → All (λ f. e.0 <ℤ f.0) pairs
+pub All-ascending : (e : ℤ × ℕ) (pairs : Bag) → Ascends (e ∷ pairs) → All (λ f. e.0 <ℤ f.0) pairs
 All-ascending e pairs up k d within = up 0 (suc k) d (omega arith) (omega (arith, within))
 
-Ascends-tail : (e : ℤ × ℕ) (pairs : Bag) → Ascends (e ∷ pairs) → Ascends pairs
+pub Ascends-tail : (e : ℤ × ℕ) (pairs : Bag) → Ascends (e ∷ pairs) → Ascends pairs
 Ascends-tail e pairs up i j d before within = up (suc i) (suc j) d (omega (arith, before)) (omega (arith, within))
 
 -- a number below all of them is not held
@@ -444,7 +444,7 @@ AreInOrder-SameHeld bag other pairs same in_order = record {
 
 -- ---- a walk over the numbers in order
 -- keys that rise
-less_from_int_cmp : (x y : ℤ) → int_cmp x y ≡ Less → x <ℤ y
+pub less_from_int_cmp : (x y : ℤ) → int_cmp x y ≡ Less → x <ℤ y
 less_from_int_cmp x y less = grind (arith, ints, less)
 
 pub Ascends-IsStrictlySortedBy : (pairs : Bag) → IsStrictlySortedBy int_cmp (keys_of pairs) → Ascends pairs

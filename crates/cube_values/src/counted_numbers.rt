@@ -49,6 +49,10 @@ impl Numbers for Counted {
         self.different()
     }
 
+    fn in_order(&self) -> Result<Vec<(i64, u64)>, AllocError> {
+        self.in_order()
+    }
+
     fn at_place(&self, place: u64) -> i64 {
         self.at_place(place)
     }

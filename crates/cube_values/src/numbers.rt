@@ -1,10 +1,10 @@
 //! Numbers that are added up.
 ghost use Rattle.std.specs.Prelude.{◌==◌, ℤ, ◌≡◌, ◌<◌, ◌≤◌, ◌+◌, ◌^◌, ◌↔◌, Bool, IsTrue, IsNone, IfOk, IfSome, OnOk, OnErr};
 ghost use Rattle.cube_values.specs.Bag.{Bag, AddsBag, AddsOne, held_of, size_of, HasLeast, HasGreatest};
-ghost use Rattle.cube_values.specs.Statistics.{HasDifferent, IsAtPlace, squares_held};
+ghost use Rattle.cube_values.specs.Statistics.{AreInOrder, HasDifferent, IsAtPlace, squares_held};
 
 use crate::summary::Summary;
-use cube_core::{Squares, Wide};
+use cube_core::Squares;
 use std::alloc::{AllocError, Global};
 
 /// Numbers that are added up: how many there are, the least and the greatest.
@@ -57,6 +57,10 @@ pub trait Numbers: Drop {
     /// How many different numbers there are, where each is kept. The only error is that memory ran out.
     fn different(&self) -> Result<u64, AllocError>
         ensures { IsTrue keeps → IfOk result (HasDifferent (bag self.now)) };
+
+    /// The numbers in order, each with how often it was added, where each is kept. The only error is that memory ran out.
+    fn in_order(&self) -> Result<Vec<(i64, u64)>, AllocError>
+        ensures { IsTrue keeps → IfOk result (λ pairs. AreInOrder (bag self.now) pairs.items) };
 
     /// The number at a place, counted from 1, of the numbers in order, where each is kept. It takes no memory.
     fn at_place(&self, place: u64) -> i64
@@ -112,15 +116,16 @@ impl Numbers for Summary {
         Err(AllocError)
     }
 
+    fn in_order(&self) -> Result<Vec<(i64, u64)>, AllocError> {
+        Err(AllocError)
+    }
+
     fn at_place(&self, place: u64) -> i64 {
         let _ = place;
         0
     }
 
     fn squares(&self) -> Squares {
-        match Squares::of(Wide::of(0)) {
-            Some(squares) => squares,
-            None => unreachable!(),
-        }
+        Squares::none()
     }
 }

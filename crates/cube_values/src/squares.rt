@@ -12,7 +12,11 @@ pub fn pair_squares(pair: (i64, u64)) -> Wide
     ensures value { result ≡ square pair.0 * pair.1 }
     ensures bound { result ≤ 2 ^ 126 * pair.1 }
 {
-    Wide::product(square_of(pair.0), u128::from(pair.1))
+    let square = square_of(pair.0);
+    if pair.1 == 1 {
+        return Wide::of(square);
+    }
+    Wide::product(square, u128::from(pair.1))
 }
 
 /// The sum of the squares of the numbers of pairs.
