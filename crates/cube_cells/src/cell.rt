@@ -165,7 +165,8 @@ impl<N: Numbers> Cell<N> {
             | Agg::PercentileDisc { .. }
             | Agg::SumOfSquares(_)
             | Agg::VarPop(_)
-            | Agg::VarSamp(_) => Answer::Null,
+            | Agg::VarSamp(_)
+            | Agg::Values(_) => Answer::Null,
         }
     }
 
@@ -187,6 +188,7 @@ impl<N: Numbers> Cell<N> {
             Agg::SumOfSquares(measure) => Ok(self.measures[*measure].sum_of_squares()),
             Agg::VarPop(measure) => Ok(self.measures[*measure].variance(false)),
             Agg::VarSamp(measure) => Ok(self.measures[*measure].variance(true)),
+            Agg::Values(measure) => self.measures[*measure].in_order(),
             _ => Ok(self.answer(agg)),
         }
     }

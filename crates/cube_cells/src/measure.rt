@@ -2,15 +2,15 @@
 ghost use Rattle.std.specs.Prelude.{◌≡◌, ◌<◌, ◌≤◌, ◌+◌, ◌+ℤ◌, ◌-ℤ◌, ◌^◌, true, List, IsTrue, IfNone, IfOk, IfSome, OnOk, OnErr, ℤ, FitsSigned};
 ghost use Rattle.std.specs.Int.{w128};
 ghost use Rattle.std.specs.Option.{ForSome};
-ghost use Rattle.cube_core.specs.Answer.{IsSum, IsLeast, IsGreatest, IsMean, IsDistinctCount, IsPercentile, IsSumOfSquares, IsVarianceAnswer, percentile_place};
+ghost use Rattle.cube_core.specs.Answer.{IsSum, IsLeast, IsGreatest, IsMean, IsDistinctCount, IsPercentile, IsSumOfSquares, IsVarianceAnswer, AreValues};
 ghost use Rattle.cube_core.specs.Fraction.{IsInLowestTerms};
 ghost use Rattle.cube_core.specs.Layout.{is_level};
 ghost use Rattle.cube_core.specs.declared.aggregate.Answer.TheVariants.{Null, Whole};
 ghost use Rattle.cube_values.specs.Bag.{AddsBag, size_of, held_of};
 ghost use Rattle.cube_cells.specs.Tally.{AddsValue, IsBagOf, holds_value};
 
-use cube_core::{Answer, reduced, variance_from};
-use cube_values::{Counted, Numbers};
+use cube_core::{Answer, Sequence, reduced, variance_from};
+use cube_values::{Counted, Numbers, percentile_place};
 use std::alloc::{AllocError, Global};
 use std::marker::Model;
 
@@ -166,6 +166,15 @@ impl<N: Numbers> Measure<N> {
             None => Answer::Null,
         }
     }
+
+    /// The values in order, each different one with how often it is held. The only error is that memory ran out.
+    pub fn in_order(&self) -> Result<Answer, AllocError>
+        requires { IsTrue N.keeps }
+        ensures { IfOk result (λ answer. (values : List ℤ) → IsBagOf values self.now → AreValues values answer) }
+    {
+        let held = self.values.in_order()?;
+        Ok(Answer::Values(Sequence::from_vec(held)))
+    }
 }
 
 impl Measure {
@@ -189,19 +198,6 @@ impl Measure {
             None => self.values.len() < facts,
         }
     }
-}
-
-// The place of a percentile of this level among so many values.
-fn percentile_place(units: u16, places: u8, count: u64) -> u64
-    requires some { 1 ≤ count }
-    requires level { is_level units places ≡ true }
-    ensures place { result ≡ percentile_place units places count }
-    ensures first { 1 ≤ result }
-    ensures last { result ≤ count }
-{
-    let scale = 10u128.pow(u32::from(places));
-    let place = (u128::from(units) * u128::from(count) + scale - 1) / scale;
-    place.max(1) as u64
 }
 
 // A sum by a count in lowest terms. Most cells of many have one value, and by 1 nothing is divided.

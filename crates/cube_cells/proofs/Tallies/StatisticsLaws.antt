@@ -1,5 +1,5 @@
 -- Laws of the statistics of tallies: how many values are different, which stands at the place of a percentile, the sum of
--- their squares, and their variance.
+-- their squares, their variance, and the values in order.
 use Rattle.std.proofs.Common.{◌≡◌, ℕ, ◌+◌, ◌-◌, ◌*◌, ◌<◌, ◌≤◌, List, [], ◌∷◌, Bool, true, false, refl, arith, ap, sym, ◌∙◌}
 use Rattle.std.proofs.Common.{subst, length, inl, inr}
 use Rattle.std.specs.Prelude.{ℤ, if◌then◌else◌, int_lt, count_by, Contains}
@@ -12,7 +12,7 @@ use Rattle.std.proofs.lemmas.Int.{ints}
 use Rattle.std.proofs.lemmas.List.Elements.{All-contains}
 use Rattle.std.proofs.lemmas.List.Sums.{sum_by-cons}
 use Rattle.cube_core.specs.Answer.{IsDistinctCount, IsPercentile, StandsAt, below, at_most, percentile_place}
-use Rattle.cube_core.specs.Answer.{IsSumOfSquares, IsVarianceAnswer}
+use Rattle.cube_core.specs.Answer.{IsSumOfSquares, IsVarianceAnswer, AreValues}
 use Rattle.cube_core.specs.Variance.{freedom_of, square}
 use Rattle.cube_core.specs.Wide.{IsReduced}
 use Rattle.cube_core.specs.declared.aggregate.Answer.TheVariants as answer
@@ -20,12 +20,14 @@ use Rattle.cube_core.proofs.ListLaws.{Contains-AllByRecursion, AllByRecursion-Co
 use Rattle.cube_core.proofs.VarianceLaws.{IsVariance-sums}
 use Rattle.cube_values.specs.Bag.{Bag, held_of, size_of, one_at}
 use Rattle.cube_values.specs.Narrow.{times_in}
-use Rattle.cube_values.specs.Statistics.{HasDifferent, IsAtPlace, one_below, one_up_to, size_below, size_up_to, squares_held}
+use Rattle.cube_values.specs.Statistics.{AreInOrder, HasDifferent, IsAtPlace, one_below, one_up_to, size_below, size_up_to}
+use Rattle.cube_values.specs.Statistics.{squares_held}
 use Rattle.cube_cells.specs.Sum.{IsSumOf}
 use Rattle.cube_cells.specs.Tally.{IsBagOf}
 use Rattle.cube_cells.proofs.Tallies.TallyLaws.{weight_of-IsBagOf, size_of-IsBagOf, IsBagOf-nil, Contains-count_by}
 use Rattle.cube_cells.proofs.Tallies.TallyLaws.{All-count_by, total_of-IsSumOf}
 use Rattle.cube_values.proofs.BagLaws.{one_at-refl}
+use Rattle.cube_values.proofs.HeldLaws.{AreHeld-AreInOrder}
 use Rattle.cube_values.proofs.StatisticsLaws.{one_if}
 
 -- ---- numbers in ascending order
@@ -225,3 +227,8 @@ IsVarianceAnswer-Variance is_sample values bag sum p q is kept reduced =
     IsVariance-sums values is_sample p q
     (rw (total_of-IsSumOf values bag sum is kept, ← size_of-IsBagOf values bag is, ← weight_of-IsBagOf square values bag is)
     reduced)
+
+-- ---- the values in order
+pub AreValues-AreInOrder : (values : List ℤ) (bag pairs : Bag) → IsBagOf values bag → AreInOrder bag pairs
+    → AreValues values (answer.Values pairs)
+AreValues-AreInOrder values bag pairs is are = (pairs, refl, AreHeld-AreInOrder values bag pairs is.held are)
