@@ -6,3 +6,4 @@ mod PieceLaws
 pub mod ScaleLaws
 pub mod TextLaws
 pub mod UnitTextLaws
+mod ValuesLaws

@@ -192,11 +192,12 @@ plain-ends text field end rest plain is end_is =
     let shown : part field ≡ field ++ 44 ∷ [] = rw plain refl in
     is ∙ ap (λ t. field ++ t) end_is ∙ sym (append_assoc field (44 ∷ []) rest) ∙ ap (λ t. t ++ rest) (sym shown)
 
-pub fraction-begins : (text p slash digits q end : List ℕ) → text ≡ p ++ slash → slash ≡ 47 ∷ digits → digits ≡ q ++ end
-    → text ≡ (p ++ 47 ∷ [] ++ q) ++ end
-fraction-begins text p slash digits q end one two three =
-    one ∙ ap (λ t. p ++ t) (two ∙ ap (λ t. 47 ∷ t) three) ∙ sym (append_assoc p (47 ∷ q) end)
-    ∙ ap (λ t. t ++ end) (sym (append_assoc p (47 ∷ []) q))
+-- two numbers, a byte between them, and what follows
+pub parted-begins : (byte : ℕ) (text p between digits q end : List ℕ) → text ≡ p ++ between → between ≡ byte ∷ digits
+    → digits ≡ q ++ end → text ≡ (p ++ byte ∷ [] ++ q) ++ end
+parted-begins byte text p between digits q end one two three =
+    one ∙ ap (λ t. p ++ t) (two ∙ ap (λ t. byte ∷ t) three) ∙ sym (append_assoc p (byte ∷ q) end)
+    ∙ ap (λ t. t ++ end) (sym (append_assoc p (byte ∷ []) q))
 
 -- one more flag
 pub flags-more : (coords : List Coord) (coord : Coord) (i : ℕ) (text rest after : List ℕ) (flag : ℕ) → i < length coords

@@ -1,17 +1,14 @@
 -- How a line grows in memory, field by field.
 use Rattle.std.proofs.Common.{◌≡◌, ◌++◌, ◌+◌, ◌^◌, ◌<◌, ◌≤◌, ◌%◌, ◌∷◌, [], ℕ, ℤ, pos, negsuc, suc, true, false, List}
 use Rattle.std.proofs.Common.{length, map, take, get_or, refl, sym, ap, ◌∙◌, append_assoc, length-append, arith}
-use Rattle.std.proofs.Common.{decimal, codes, FitsSigned, drop, inl, inr, int_div, neg_ℤ, replicate, unsigned_abs, zero}
+use Rattle.std.proofs.Common.{decimal, codes, drop, inl, inr, int_div, nat_lt, replicate, unsigned_abs, zero}
 use Rattle.std.proofs.Common.{◌*◌, ◌-◌, ◌/◌, ◌==◌}
 use Rattle.std.specs.List.{list_any}
-use Rattle.std.specs.Int.{w128}
-use Rattle.std.specs.Fmt.{signed_decimal}
+use Rattle.std.specs.Fmt.{digit_glyph, digits, digits_onto, signed_decimal}
 use Rattle.std.proofs.lemmas.Bool.{cases_Bool, cases_lt, ne_eqb, or_parts}
 use Rattle.std.proofs.lemmas.Grind.{flat_map-append}
-use Rattle.std.proofs.lemmas.Int.{ints}
 use Rattle.std.proofs.lemmas.List.{append-nil, append_cancel_right, length-map, take-append-drop, take_more, map-append}
 use Rattle.std.proofs.lemmas.List.Folds.{list_any-append}
-use Rattle.std.proofs.Math.Nat.{div-le_self, mul-le-mul, pow-le-pow_right}
 use Rattle.csv.specs.Writing.{default_writer, escaped, field_text, fields_text, is_blank, needs_byte, needs_quotes}
 use Rattle.csv.specs.Writing.{row_body, row_text}
 use Rattle.csv.proofs.WriteFacts.{escaped-append, escaped-other}
@@ -20,7 +17,7 @@ use Rattle.cube_core.specs.Text.{answer_texts, common_with_ten, coord_text, digi
 use Rattle.cube_core.specs.Text.{grouping_text, line, long_units_text, padded, pointed, row_fields, row_line}
 use Rattle.cube_core.specs.Text.{signed_units_text, units_text}
 use Rattle.cube_core.specs.Wide.{long_decimal}
-use Rattle.cube_core.proofs.LongDecimalLaws.{long_decimal_digit, long_decimal_is_decimal, long_decimal_step}
+use Rattle.cube_core.proofs.LongDecimalLaws.{long_decimal_digit, long_decimal_step}
 use Rattle.cube_core.specs.declared.key.Row.{Row}
 use Rattle.cube_lines.specs.Parts.{AddsParts, EndsLine, part, parts}
 
@@ -191,22 +188,40 @@ plain-steps (suc steps) n below = elim (cases_lt n 10) [
 pub plain-long_decimal : (n : ℕ) → needs_quotes default_writer (long_decimal n) ≡ false
 plain-long_decimal n = plain-steps (suc n) n (omega arith)
 
-pub plain-decimal : (n : ℕ) → n < 10 ^ 64 → needs_quotes default_writer (decimal n) ≡ false
-plain-decimal n small = rw (← long_decimal_is_decimal n small) (plain-long_decimal n)
+-- nor do those that the standard library writes
+plain-glyph : (d : ℕ) → needs_byte default_writer (digit_glyph false d) ≡ false
+plain-glyph d = elim (cases_Bool (nat_lt d 10)) [
+  | inl one ↦ rw one (plain-digit (48 + d) (omega arith))
+  | inr more ↦ rw more (plain-digit (87 + d) (omega arith))
+]
 
-pub plain-signed_decimal : (z : ℤ) → FitsSigned w128 z → needs_quotes default_writer (signed_decimal z) ≡ false
-plain-signed_decimal (pos n) fits = plain-decimal n (omega (arith, ints))
-plain-signed_decimal (negsuc n) fits = rw (plain-digit 45 (omega arith)) (plain-decimal (suc n) (omega (arith, ints)))
+plain-onto : (k n : ℕ) (behind : List ℕ) → needs_quotes default_writer behind ≡ false
+    → needs_quotes default_writer (digits_onto k 10 false n behind) ≡ false
+plain-onto zero n behind plain = plain
+plain-onto (suc k) n behind plain =
+    let more : needs_quotes default_writer (digit_glyph false (n % 10) ∷ behind) ≡ false =
+    rw (plain-glyph (n % 10)) plain in
+    elim (cases_Bool (n / 10 == 0)) [
+      | inl last ↦ rw last more
+      | inr others ↦ rw others (plain-onto k (n / 10) (digit_glyph false (n % 10) ∷ behind) more)
+    ]
+
+pub plain-decimal : (n : ℕ) → needs_quotes default_writer (decimal n) ≡ false
+unfolding digits
+plain-decimal n = plain-onto 64 n [] refl
+
+pub plain-signed_decimal : (z : ℤ) → needs_quotes default_writer (signed_decimal z) ≡ false
+plain-signed_decimal (pos n) = plain-decimal n
+plain-signed_decimal (negsuc n) = rw (plain-digit 45 (omega arith)) (plain-decimal (suc n))
 
 -- nor does a fraction
-pub plain-fraction : (z : ℤ) (q : ℕ) → FitsSigned w128 z → q < 10 ^ 64
-    → needs_quotes default_writer (signed_decimal z ++ codes "/" ++ decimal q) ≡ false
-plain-fraction z q fits small =
+pub plain-fraction : (z : ℤ) (q : ℕ) → needs_quotes default_writer (signed_decimal z ++ codes "/" ++ decimal q) ≡ false
+plain-fraction z q =
     rw (
       list_any-append (needs_byte default_writer) (signed_decimal z ++ codes "/") (decimal q),
       list_any-append (needs_byte default_writer) (signed_decimal z) (codes "/"),
-      plain-signed_decimal z fits,
-      plain-decimal q small,
+      plain-signed_decimal z,
+      plain-decimal q,
     ) refl
 
 -- nor does a number with digits behind a point
@@ -237,10 +252,10 @@ plain-pointed k digits plain =
       plain,
     ) refl)
 
-plain-units : (k n : ℕ) → n < 10 ^ 64 → needs_quotes default_writer (units_text k n) ≡ false
-plain-units k n small = elim (cases_Bool (k == 0)) [
-  | inl none ↦ rw none (plain-decimal n small)
-  | inr some ↦ rw some (plain-pointed k (decimal n) (plain-decimal n small))
+plain-units : (k n : ℕ) → needs_quotes default_writer (units_text k n) ≡ false
+plain-units k n = elim (cases_Bool (k == 0)) [
+  | inl none ↦ rw none (plain-decimal n)
+  | inr some ↦ rw some (plain-pointed k (decimal n) (plain-decimal n))
 ]
 
 pub plain-long_units : (k n : ℕ) → needs_quotes default_writer (long_units_text k n) ≡ false
@@ -249,47 +264,15 @@ plain-long_units k n = elim (cases_Bool (k == 0)) [
   | inr some ↦ rw some (plain-pointed k (long_decimal n) (plain-long_decimal n))
 ]
 
-pub plain-signed_units : (k : ℕ) (z : ℤ) → FitsSigned w128 z
-    → needs_quotes default_writer (signed_units_text k z) ≡ false
-plain-signed_units k (pos n) fits = plain-units k n (omega (arith, ints))
-plain-signed_units k (negsuc n) fits = rw (plain-digit 45 (omega arith)) (plain-units k (suc n) (omega (arith, ints)))
+pub plain-signed_units : (k : ℕ) (z : ℤ) → needs_quotes default_writer (signed_units_text k z) ≡ false
+plain-signed_units k (pos n) = plain-units k n
+plain-signed_units k (negsuc n) = rw (plain-digit 45 (omega arith)) (plain-units k (suc n))
 
 -- nor does a fraction of units
-plain-signed : (z : ℤ) → unsigned_abs z < 10 ^ 64 → needs_quotes default_writer (signed_decimal z) ≡ false
-plain-signed (pos n) small = plain-decimal n small
-plain-signed (negsuc n) small = rw (plain-digit 45 (omega arith)) (plain-decimal (suc n) small)
-
-unsigned_abs-neg : (n : ℕ) → unsigned_abs (neg_ℤ (pos n)) ≡ n
-unsigned_abs-neg zero = refl
-unsigned_abs-neg (suc n) = refl
-
-unsigned_abs-div : (z : ℤ) (n : ℕ) → unsigned_abs (int_div z (pos n)) ≤ unsigned_abs z
-unsigned_abs-div (pos m) n = div-le_self m n
-unsigned_abs-div (negsuc m) n = rw (unsigned_abs-neg (suc m / n)) (div-le_self (suc m) n)
-
-unsigned_abs-small : (z : ℤ) → FitsSigned w128 z → unsigned_abs z < 2 ^ 128
-unsigned_abs-small (pos n) fits = omega (arith, ints)
-unsigned_abs-small (negsuc n) fits = omega (arith, ints)
-
-pub plain-fraction_text : (k : ℕ) (p : ℤ) (q : ℕ) → FitsSigned w128 p → q < 2 ^ 64 → k ≤ 18
-    → needs_quotes default_writer (fraction_text k p q) ≡ false
-plain-fraction_text k p q fits small few =
+pub plain-fraction_text : (k : ℕ) (p : ℤ) (q : ℕ) → needs_quotes default_writer (fraction_text k p q) ≡ false
+plain-fraction_text k p q =
     let common = common_with_ten k (unsigned_abs p) in
-    let numerator = int_div p (pos common) in
-    let rest : 10 ^ k / common ≤ 10 ^ k = div-le_self (10 ^ k) common in
-    let power : 10 ^ k ≤ 10 ^ 18 = pow-le-pow_right (omega arith) few in
-    let product : q * (10 ^ k / common) ≤ 2 ^ 64 * 10 ^ 18
-    = mul-le-mul {n₁ = q} {m₁ = 10 ^ k / common} {n₂ = 2 ^ 64} {m₂ = 10 ^ 18} (omega (arith, small))
-    (omega (arith, rest, power)) in
-    let short : unsigned_abs numerator < 10 ^ 64
-    = omega (arith, unsigned_abs-div p common, unsigned_abs-small p fits) in
-    rw (
-      list_any-append (needs_byte default_writer) (signed_decimal numerator ++ codes "/")
-          (decimal (q * (10 ^ k / common))),
-      list_any-append (needs_byte default_writer) (signed_decimal numerator) (codes "/"),
-      plain-signed numerator short,
-      plain-decimal (q * (10 ^ k / common)) (omega (arith, product)),
-    ) refl
+    plain-fraction (int_div p (pos common)) (q * (10 ^ k / common))
 
 pub plain-long_fraction : (p q : ℕ)
     → needs_quotes default_writer (long_decimal p ++ codes "/" ++ long_decimal q) ≡ false

@@ -2,7 +2,8 @@
 //!
 //! [`push_header`] and [`push_line`] put a line at the end of a text, [`push_field`] and [`push_answer`] a field of one, which
 //! [`end_line`] ends, and [`parse_row`] reads the row of a line that is spelled so, and not otherwise. Numbers
-//! of units of 10^-k stand there with k digits behind a point, and sums of their squares with 2k.
+//! of units of 10^-k stand there with k digits behind a point, and sums of their squares with 2k. Of values each stands
+//! there with how often it is held.
 //!
 //! [`write_whole`] writes a text and counts what went out of it. [`Pieces`] is a text in pieces, each of which a thread
 //! may have made ([`Pieces::of`]), and [`write_pieces`] writes it.
@@ -16,6 +17,8 @@ mod pieces;
 mod scale;
 mod text;
 mod units;
+mod values_parse;
+mod values_text;
 mod write;
 
 pub use parse::{empty_row, parse_row};

@@ -12,6 +12,7 @@ ghost use Rattle.cube_lines.specs.Parts.{EndsLine, key_parts, part, parts};
 use crate::long_parse::{squares_answer, variance_answer};
 use crate::scale::unscaled;
 use crate::text::{needs_byte, needs_quotes};
+use crate::values_parse::values_answer;
 use cube_core::{Agg, Answer, Coord, Key, Row, Schema, Sequence, Text};
 use std::alloc::{AllocError, Global};
 
@@ -50,7 +51,7 @@ pub fn parse_row(
     let Some(numbers) = parse_groupings(flags, coords.as_mut_slice()) else {
         return Ok(None);
     };
-    if !parse_answers(numbers, schema, &mut answers)? {
+    if !parse_answers(alloc, numbers, schema, &mut answers)? {
         return Ok(None);
     }
     let row = Row {
@@ -227,6 +228,7 @@ fn put_flag(coord: &mut Coord, is_all: bool) -> bool
 
 // Puts the answers to a schema's aggregates in place of what the list holds; false where the text isn't theirs and no more.
 fn parse_answers(
+    alloc: Global,
     text: &[u8],
     schema: &Schema,
     answers: &mut Vec<Answer>,
@@ -238,8 +240,8 @@ fn parse_answers(
     let aggregates = schema.aggregates();
     let mut rest = text;
     for aggregate in aggregates {
-        let Some((answer, after)) = parse_answer(aggregate, schema.digits_of(aggregate), rest)
-        else {
+        let digits = schema.digits_of(aggregate);
+        let Some((answer, after)) = parse_answer(alloc, aggregate, digits, rest)? else {
             return Ok(false);
         };
         answers.push(answer)?;
@@ -249,21 +251,28 @@ fn parse_answers(
 }
 
 // The answer to an aggregate, with so many digits behind its point, and what follows its field.
-fn parse_answer<'t>(aggregate: &Agg, digits: u8, text: &'t [u8]) -> Option<(Answer, &'t [u8])>
+fn parse_answer<'t>(
+    alloc: Global,
+    aggregate: &Agg,
+    digits: u8,
+    text: &'t [u8],
+) -> Result<Option<(Answer, &'t [u8])>, AllocError>
     requires { digits ≤ 18 }
-    ensures { IfSome result (λ read. text.now ≡ part (answer_text digits read.0) ++ read.1.now) }
+    ensures { IfOk result (λ found. IfSome found (λ read.
+        text.now ≡ part (answer_text digits read.0) ++ read.1.now)) }
 {
     if let [b'\\', b'N', b',', rest @ ..] = text {
-        return Some((Answer::Null, rest));
+        return Ok(Some((Answer::Null, rest)));
     }
     match aggregate {
-        Agg::CountAll | Agg::Count(_) | Agg::CountDistinct(_) => count_answer(digits, text),
+        Agg::CountAll | Agg::Count(_) | Agg::CountDistinct(_) => Ok(count_answer(digits, text)),
         Agg::Sum(_) | Agg::Min(_) | Agg::Max(_) | Agg::PercentileDisc { .. } => {
-            whole_answer(digits, text)
+            Ok(whole_answer(digits, text))
         }
-        Agg::Avg(_) => ratio_answer(digits, text),
-        Agg::SumOfSquares(_) => squares_answer(digits, text),
-        Agg::VarPop(_) | Agg::VarSamp(_) => variance_answer(digits, text),
+        Agg::Avg(_) => Ok(ratio_answer(digits, text)),
+        Agg::SumOfSquares(_) => Ok(squares_answer(digits, text)),
+        Agg::VarPop(_) | Agg::VarSamp(_) => Ok(variance_answer(digits, text)),
+        Agg::Values(_) => values_answer(alloc, digits, text),
     }
 }
 
@@ -317,8 +326,8 @@ fn parse_number(text: &[u8]) -> Option<(i128, &[u8])>
     }
 }
 
-// The number of units that a text begins with as it is printed, with so many digits behind a point, and what follows it.
-fn parse_units(digits: u8, text: &[u8]) -> Option<(i128, &[u8])>
+/// The number of units that a text begins with as it is printed, with so many digits behind a point, and what follows it.
+pub(crate) fn parse_units(digits: u8, text: &[u8]) -> Option<(i128, &[u8])>
     ensures text { IfSome result (λ read. text.now ≡ signed_units_text digits read.0 ++ read.1.now) }
     ensures fits { IfSome result (λ read. FitsSigned w128 read.0) }
 {
@@ -399,8 +408,8 @@ fn parse_long(text: &[u8]) -> Option<(u128, &[u8])>
     }
 }
 
-// The same, where it is one of 64 bits.
-fn parse_count(text: &[u8]) -> Option<(u64, &[u8])>
+/// The same, where it is one of 64 bits.
+pub(crate) fn parse_count(text: &[u8]) -> Option<(u64, &[u8])>
     ensures { IfSome result (λ read. text.now ≡ decimal read.0 ++ read.1.now) }
 {
     let (first, rest) = text.split_first()?;

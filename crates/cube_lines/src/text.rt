@@ -4,12 +4,13 @@
 //! again and again in the same memory, and of a printed cube most fields are known to need no quotes.
 ghost use Rattle.std.specs.Prelude.{◌≡◌, ◌≤◌, ◌*◌, ◌∷◌, [], ◌++◌, decimal, length, map, true, false, ℕ, List, OnOk};
 ghost use Rattle.csv.specs.Writing.{default_writer, escaped, needs_byte, needs_quotes};
-ghost use Rattle.cube_core.specs.Text.{answer_text, answer_texts, coord_text, digits_of_answers, fraction_text, grouping_text, header_fields, grouping_name, line, long_fraction_text, long_units_text, signed_units_text};
+ghost use Rattle.cube_core.specs.Text.{answer_text, answer_texts, coord_text, digits_of_answers, fraction_text, grouping_text, header_fields, grouping_name, line, long_fraction_text, long_units_text, signed_units_text, values_text};
 ghost use Rattle.cube_core.specs.declared.key.Key.{Key};
 ghost use Rattle.cube_lines.specs.Parts.{AddsParts, EndsLine, key_parts};
 
 use crate::long_units::{push_long_fraction, push_long_units};
 use crate::units::{push_fraction, push_units};
+use crate::values_text::push_values;
 use cube_core::{Answer, Schema, Squares, Text, Wide};
 use itoa::Buffer;
 use std::alloc::{AllocError, Global};
@@ -85,13 +86,14 @@ pub fn push_answer(
     ensures { OnOk result
         (AddsParts (answer_text digits answer.now ∷ []) text.old.items text.new.items) }
 {
-    match *answer {
+    match answer {
         Answer::Null => text.extend_from_slice(b"\\N,"),
-        Answer::Count(count) => push_count(text, number, count),
-        Answer::Whole(value) => push_number(text, number, digits, value),
-        Answer::Ratio { p, q } => push_mean(text, number, digits, p, q),
-        Answer::Squares(squares) => push_squares(text, number, digits, squares),
-        Answer::Variance { p, q } => push_variance(text, number, digits, p, q),
+        Answer::Count(count) => push_count(text, number, *count),
+        Answer::Whole(value) => push_number(text, number, digits, *value),
+        Answer::Ratio { p, q } => push_mean(text, number, digits, *p, *q),
+        Answer::Squares(squares) => push_squares(text, number, digits, *squares),
+        Answer::Variance { p, q } => push_variance(text, number, digits, *p, *q),
+        Answer::Values(held) => push_held_values(text, number, digits, held.as_slice()),
     }
 }
 
@@ -158,6 +160,19 @@ fn push_variance(
         (AddsParts (long_fraction_text (2 * digits) p q ∷ []) text.old.items text.new.items) }
 {
     push_long_fraction(text, number, 2 * digits, p, q)?;
+    text.push(b',')?;
+    Ok(())
+}
+
+fn push_held_values(
+    text: &mut Vec<u8>,
+    number: &mut Buffer,
+    digits: u8,
+    held: &[(i64, u64)],
+) -> Result<(), AllocError>
+    ensures { OnOk result (AddsParts (values_text digits held.now ∷ []) text.old.items text.new.items) }
+{
+    push_values(text, number, digits, held)?;
     text.push(b',')?;
     Ok(())
 }

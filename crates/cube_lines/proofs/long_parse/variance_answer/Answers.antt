@@ -2,7 +2,7 @@ use Rattle.std.proofs.Common.{◌≡◌, ◌*◌, ◌++◌, ◌∷◌, ◌∙◌
 use Rattle.csv.specs.Writing.{default_writer, needs_quotes}
 use Rattle.cube_core.specs.Text.{long_fraction_text}
 use Rattle.cube_core.specs.Wide.{long_decimal}
-use Rattle.cube_lines.proofs.ParseLaws.{fraction-begins, plain-ends}
+use Rattle.cube_lines.proofs.ParseLaws.{parted-begins, plain-ends}
 use Rattle.cube_lines.proofs.TextLaws.{plain-long_fraction}
 use Rattle.cube_lines.proofs.long_parse.variance_answer.Goals as goal
 
@@ -16,7 +16,7 @@ returns c =
     let one : text ≡ long_decimal p ++ c.in-Some.slash.now = search rules in
     let two : c.in-Some.slash.now ≡ 47 ∷ c.in_ok-after.field-0.now = search rules in
     let three : c.in_ok-after.field-0.now ≡ long_decimal q ++ end = search rules in
-    let begins = fraction-begins text (long_decimal p) c.in-Some.slash.now c.in_ok-after.field-0.now
+    let begins = parted-begins 47 text (long_decimal p) c.in-Some.slash.now c.in_ok-after.field-0.now
     (long_decimal q) end one two three in
     let is : long_decimal p ++ codes "/" ++ long_decimal q ≡ units = search rules in
     let plain : needs_quotes default_writer units ≡ false =

@@ -1,10 +1,10 @@
-use Rattle.std.proofs.Common.{◌≡◌, ◌<◌, ◌+◌, ◌++◌, ◌∷◌, [], ◌∙◌, ap, sym, refl, arith, rules, length, length-append, map}
-use Rattle.std.proofs.Common.{take, get_or}
+use Rattle.std.proofs.Common.{◌≡◌, ◌<◌, ◌+◌, ◌++◌, ◌∷◌, [], ◌∙◌, ap, sym, refl, arith, rules, length, length-append}
+use Rattle.std.proofs.Common.{map, take, get_or}
 use Rattle.std.proofs.lemmas.Bool.{eqb-true}
 use Rattle.std.proofs.lemmas.List.{append-nil, length-map, length-take-le, nil_from_length, take_all}
-use Rattle.cube_core.specs.Text.{answer_texts, digits_of, digits_of_answers}
+use Rattle.cube_core.specs.Text.{answer_text, answer_texts, digits_of, digits_of_answers}
 use Rattle.cube_core.specs.declared.aggregate.Agg.TheVariants.{CountAll}
-use Rattle.cube_lines.specs.Parts.{parts}
+use Rattle.cube_lines.specs.Parts.{part, parts}
 use Rattle.cube_lines.proofs.ParseLaws.{map-take-more, parts-answer}
 use Rattle.cube_lines.proofs.parse.parse_answers.Goals as goal
 
@@ -18,8 +18,12 @@ loop-aggregate-preserved c =
     let aggregates = c.aggregates-aggregates.result.now in
     let digits = map (digits_of c.args.schema.now) (take i aggregates) in
     let answers = c.loop-aggregate.answers.items in
-    let k = c.digits_of.result in
+    let k = c.digits_of-digits.result in
+    let answer = c.in-Some.answer in
+    let rest = c.loop-aggregate.rest.now in
+    let after = c.in-Some.after.now in
     let inside : i < length aggregates = c.loop-aggregate-test.true in
+    let one : rest ≡ part (answer_text k answer) ++ after = search rules in
     let k_is : k ≡ digits_of c.args.schema.now (get_or aggregates i CountAll) = search rules in
     let more : map (digits_of c.args.schema.now) (take (i + 1) aggregates) ≡ digits ++ k ∷ [] =
     map-take-more (digits_of c.args.schema.now) aggregates i CountAll inside ∙ ap (λ n. digits ++ n ∷ []) (sym k_is) in
@@ -27,9 +31,8 @@ loop-aggregate-preserved c =
     let same : length answers ≡ length digits =
     before.long ∙ sym (length-map (take i aggregates) (digits_of c.args.schema.now) ∙ first) in
     rw c.in_ok-push.ensures.items (record {
-      long = omega (arith, before.long, length-append answers (c.in-Some.answer ∷ []));
-      read = rw more (parts-answer digits answers k c.in-Some.answer c.args.text.now c.loop-aggregate.rest.now
-          c.in-Some.after.now same before.read c.in-Some.ensures);
+      long = omega (arith, before.long, length-append answers (answer ∷ []));
+      read = rw more (parts-answer digits answers k answer c.args.text.now rest after same before.read one);
     })
 
 pub returns : goal.returns

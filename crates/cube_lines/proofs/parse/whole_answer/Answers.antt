@@ -14,4 +14,4 @@ returns c =
     let is : c.args.text.now ≡ signed_units_text k z ++ c.in_ok-number.end.now = search rules in
     rw (to_z-of_z w128 z fits)
     (plain-ends c.args.text.now (signed_units_text k z) c.in_ok-number.end.now c.in_ok-after.field-0.now
-    (plain-signed_units k z fits) is (search rules))
+    (plain-signed_units k z) is (search rules))

@@ -1,4 +1,4 @@
-use Rattle.std.proofs.Common.{◌≡◌, ◌<◌, ◌^◌, ◌++◌, ◌∷◌, [], arith, rules, FitsSigned}
+use Rattle.std.proofs.Common.{◌≡◌, ◌++◌, ◌∷◌, [], rules, FitsSigned}
 use Rattle.std.specs.Int.{w128}
 use Rattle.std.proofs.lemmas.Int.{to_z-of_z}
 use Rattle.cube_core.specs.Text.{fraction_text}
@@ -8,9 +8,8 @@ use Rattle.cube_lines.proofs.text.push_mean.Goals as goal
 pub returns : goal.returns
 returns c =
     let fits : FitsSigned w128 c.args.p = search rules in
-    let small : c.args.q < 2 ^ 64 = omega (arith, c.ranges.q) in
     let shown : c.push_fraction.new.text.items ≡ c.args.text.now.items ++ fraction_text c.args.digits c.args.p c.args.q =
     search (rules, to_z-of_z) in
     let end : c.push.new.self.items ≡ c.push_fraction.new.text.items ++ 44 ∷ [] = search rules in
     AddsParts-plain (fraction_text c.args.digits c.args.p c.args.q) c.args.text.now.items c.push.new.self.items
-    (plain-fraction_text c.args.digits c.args.p c.args.q fits small c.requires) (rw shown at end)
+    (plain-fraction_text c.args.digits c.args.p c.args.q) (rw shown at end)

@@ -12,4 +12,4 @@ returns c =
     search (rules, to_z-of_z) in
     let end : c.push.new.self.items ≡ c.push_units.new.text.items ++ 44 ∷ [] = search rules in
     AddsParts-plain (signed_units_text c.args.digits c.args.value) c.args.text.now.items c.push.new.self.items
-    (plain-signed_units c.args.digits c.args.value fits) (rw shown at end)
+    (plain-signed_units c.args.digits c.args.value) (rw shown at end)
