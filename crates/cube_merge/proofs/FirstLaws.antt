@@ -11,19 +11,21 @@ use Rattle.std.specs.List.Sorted.{IsStrictlySortedBy}
 use Rattle.std.specs.Io.KnownBytes.{Consumes}
 use Rattle.std.proofs.lemmas.Int.{ints}
 use Rattle.std.proofs.lemmas.List.{append-nil}
+use Rattle.std.proofs.lemmas.List.Concat.{length-flat_map}
 use Rattle.std.proofs.lemmas.List.Elements.{Contains-append_left, Contains-append_right, filter-append}
 use Rattle.std.proofs.lemmas.List.Sorted.{Contains-permutation, IsPermutation-map, IsPermutation-sym, sum_by-IsPermutation}
 use Rattle.std.proofs.lemmas.Option.{IfSome_then}
 use Rattle.cube_core.specs.Cube.{key_of}
 use Rattle.cube_core.specs.Group.{total_of}
 use Rattle.cube_core.specs.Layout.{Layout}
-use Rattle.cube_core.specs.Merged.{AreMerged, column, count_answered, numbers_of, rows_at, sum_of_squares}
+use Rattle.cube_core.specs.Merged.{AreMerged, column, count_answered, numbers_of, rows_at, sum_of_squares, values_among}
+use Rattle.cube_core.specs.Merged.{values_answered}
 use Rattle.cube_core.specs.Order.{key_cmp}
 use Rattle.cube_core.specs.Text.{header_fields, line, row_line}
 use Rattle.cube_core.specs.declared.aggregate.Agg.{Agg}
 use Rattle.cube_core.specs.declared.aggregate.Agg.TheVariants.{CountAll, Count, Sum, Min, Max, Avg}
 use Rattle.cube_core.specs.declared.aggregate.Agg.TheVariants.{CountDistinct, PercentileDisc, SumOfSquares}
-use Rattle.cube_core.specs.declared.aggregate.Agg.TheVariants.{VarPop, VarSamp}
+use Rattle.cube_core.specs.declared.aggregate.Agg.TheVariants.{VarPop, VarSamp, Values}
 use Rattle.cube_core.specs.declared.aggregate.Answer.{Answer}
 use Rattle.cube_core.specs.declared.aggregate.Answer.TheVariants as answer
 use Rattle.cube_core.specs.declared.key.Key.{Key}
@@ -37,7 +39,7 @@ use Rattle.cube_merge.specs.Faults.{BeginsWith, CameTo, CameToPlace, CanBeReadTo
 use Rattle.cube_merge.specs.Faults.{IsReadNext, IsReadTo, IsTooLarge, IsWholeText, SplitsAt}
 use Rattle.cube_merge.specs.Lawful.{IsRightRow, squares_answered}
 use Rattle.cube_merge.specs.Merging.{InputView, AreInKeyOrder, AreOfSchema, AreUses, Gave, IsBelow, IsEnded, IsMadeInRange}
-use Rattle.cube_merge.specs.Merging.{IsMerging, IsUse, IsWhole, Moves, all_rows, nothing_left, used_row, used_rows}
+use Rattle.cube_merge.specs.Merging.{IsMerging, IsUse, IsWhole, all_rows, nothing_left, used_row, used_rows}
 use Rattle.cube_merge.specs.Range.{AreInRange, AreTooLarge, IsInRange}
 use Rattle.cube_merge.proofs.CubesLaws.{Consumes-same, Gave-none, text-of_ended}
 use Rattle.cube_merge.proofs.LeastLaws.{key-lt_not, not_less-self}
@@ -194,7 +196,7 @@ rows_at-lesser lesser (i ∷ is) (c ∷ cs) wide below =
     filter-append has (c ++ option_to_list i.row) (all_rows (with_rows cs is)) ∙ ap₂ (λ a b. a ++ b) first rest
     ∙ sym (filter-append has c (all_rows cs))
 
--- ---- counts, sums and sums of squares of rows in another order
+-- ---- what rows in another order make
 -- what an answer adds to a sum
 worth : Answer → ℤ
 worth (answer.Whole z) = z
@@ -203,6 +205,7 @@ worth (answer.Count n) = pos 0
 worth (answer.Ratio p q) = pos 0
 worth (answer.Squares n) = pos 0
 worth (answer.Variance p q) = pos 0
+worth (answer.Values held) = pos 0
 
 total-cons : (a : Answer) (answers : List Answer)
     → total_of (numbers_of (a ∷ answers)) ≡ worth a +ℤ total_of (numbers_of answers)
@@ -213,6 +216,7 @@ total-cons (answer.Count n) answers = omega (arith, ints)
 total-cons (answer.Ratio p q) answers = omega (arith, ints)
 total-cons (answer.Squares n) answers = omega (arith, ints)
 total-cons (answer.Variance p q) answers = omega (arith, ints)
+total-cons (answer.Values held) answers = omega (arith, ints)
 
 total-Reordered : {xs ys : List Answer} → Reordered xs ys → total_of (numbers_of xs) ≡ total_of (numbers_of ys)
 total-Reordered none = refl
@@ -238,6 +242,13 @@ AreInRange-IsPermutation given rows others same fit place agg there = by_agg agg
       ∙ sym (sum_by-IsPermutation squares_answered (column place rows) (column place others) answers)
       ∙ sym (sum_of_squares-by (column place others))
 
+  values : length (values_among (column place rows)) ≡ length (values_among (column place others))
+  values =
+      length-flat_map values_answered (column place rows)
+      ∙ sym (sum_by-IsPermutation (λ (a : Answer). length (values_answered a)) (column place rows)
+      (column place others) answers)
+      ∙ sym (length-flat_map values_answered (column place others))
+
   by_agg : (a : Agg) → IsInRange a (column place rows) → IsInRange a (column place others)
   by_agg CountAll h = subst (λ n. n < 2 ^ 64) counts h
   by_agg (Count m) h = subst (λ n. n < 2 ^ 64) counts h
@@ -251,6 +262,7 @@ AreInRange-IsPermutation given rows others same fit place agg there = by_agg agg
   by_agg (SumOfSquares m) h = subst (λ n. n < 2 ^ 192) squares h
   by_agg (VarPop m) h = tt
   by_agg (VarSamp m) h = tt
+  by_agg (Values m) h = subst (λ n. n < 2 ^ 64) values h
 
 -- of no row nothing is too large
 none-in_range : (agg : Agg) → IsInRange agg []
@@ -265,6 +277,7 @@ none-in_range (PercentileDisc m units places) = tt
 none-in_range (SumOfSquares m) = lit< tt
 none-in_range (VarPop m) = tt
 none-in_range (VarSamp m) = tt
+none-in_range (Values m) = lit< tt
 
 pub AreTooLarge-some : (given : List Agg) (rows : List Row) → AreTooLarge given rows → 0 < length rows
 AreTooLarge-some given [] large = absurd (large.too_large (none-in_range large.agg))

@@ -1,27 +1,31 @@
 -- What one more answer makes of what answers made.
 use Rattle.std.proofs.Common.{◌≡◌, ◌++◌, ◌+◌, ◌<◌, ◌∷◌, [], ℕ, ℤ, pos, zero, suc, ◌+ℤ◌, ◌≤ℤ◌, List, Option, Some, None}
-use Rattle.std.proofs.Common.{Contains, length, length-append, get_or, take, refl, sym, ap, ◌∙◌, subst, arith}
+use Rattle.std.proofs.Common.{◌^◌, ◌↔◌, FitsSigned, map, ap₂, sum_by, Contains, length, length-append, get_or, take, refl, sym, ap, ◌∙◌, subst, arith}
+use Rattle.std.specs.Int.{w128}
 use Rattle.std.specs.List.{AllByRecursion, AllZip, cons_option}
 use Rattle.std.proofs.lemmas.Int.{ints}
 use Rattle.std.proofs.lemmas.List.{take_more}
 use Rattle.std.proofs.lemmas.List.Sums.{sum_by-append}
 use Rattle.std.proofs.lemmas.List.Elements.{Contains-append_left, Contains-append_right}
-use Rattle.cube_core.specs.Answer.{IsSum, IsBest}
+use Rattle.cube_core.specs.Answer.{IsSum, IsBest, IsGreatest, IsLeast}
 use Rattle.cube_core.specs.Fraction.{IsInLowestTerms}
 use Rattle.cube_core.specs.Group.{total_of}
 use Rattle.cube_core.specs.Merged.{MakesAnswer, IsMeanOf, IsMerged, column, count_answered, sum_of_counts, number_in}
-use Rattle.cube_core.specs.Merged.{numbers_of}
+use Rattle.cube_core.specs.Merged.{IsSumOfAll, numbers_of, squares_among, squares_in}
 use Rattle.cube_core.specs.declared.aggregate.Agg.{Agg}
 use Rattle.cube_core.specs.declared.aggregate.Agg.TheVariants.{CountAll, Count, Sum, Min, Max, Avg}
 use Rattle.cube_core.specs.declared.aggregate.Agg.TheVariants.{CountDistinct, PercentileDisc, SumOfSquares}
-use Rattle.cube_core.specs.declared.aggregate.Agg.TheVariants.{VarPop, VarSamp}
+use Rattle.cube_core.specs.declared.aggregate.Agg.TheVariants.{VarPop, VarSamp, Values}
 use Rattle.cube_core.specs.declared.aggregate.Answer.{Answer}
 use Rattle.cube_core.specs.declared.aggregate.Answer.TheVariants as answer
 use Rattle.cube_core.specs.declared.key.Row.{Row}
-use Rattle.cube_core.proofs.ListLaws.{Contains-head, AllZip-push}
+use Rattle.cube_core.proofs.ListLaws.{AllZip-push, Contains-AllByRecursion, Contains-head, sum_by-map, sum_by-same}
 use Rattle.cube_merge.specs.Lawful.{sum_answered}
-use Rattle.cube_merge.specs.Made.{AreMadeOfRows, JoinsAnswer}
+use Rattle.cube_merge.specs.Made.{AreMadeOfRows, IsUnmade, JoinsAnswer, without_values}
+use Rattle.cube_merge.specs.Range.{IsInRange}
 use Rattle.cube_merge.specs.Source.{IsSourceOf}
+use Rattle.cube_merge.specs.declared.fault.Unmade.{Unmade}
+use Rattle.cube_merge.specs.declared.fault.Unmade.TheVariants.{Memory, TooLarge}
 use Rattle.cube_merge.specs.declared.source.Source.TheVariants as source
 
 pub sum_of_counts-push : (parts : List Answer) (a : Answer) → sum_of_counts
@@ -73,6 +77,7 @@ sum_answered-number (answer.Count n) number is = let clash : None ≡ Some numbe
 sum_answered-number (answer.Ratio p q) number is = let clash : None ≡ Some number = is in absurd (cc)
 sum_answered-number (answer.Squares n) number is = let clash : None ≡ Some number = is in absurd (cc)
 sum_answered-number (answer.Variance p q) number is = let clash : None ≡ Some number = is in absurd (cc)
+sum_answered-number (answer.Values held) number is = let clash : None ≡ Some number = is in absurd (cc)
 
 pub sum_answered-none : (a : Answer) → number_in a ≡ None → pos 0 ≡ sum_answered a
 sum_answered-none (answer.Whole z) is = let clash : Some z ≡ None = is in absurd (cc)
@@ -81,6 +86,7 @@ sum_answered-none (answer.Count n) is = refl
 sum_answered-none (answer.Ratio p q) is = refl
 sum_answered-none (answer.Squares n) is = refl
 sum_answered-none (answer.Variance p q) is = refl
+sum_answered-none (answer.Values held) is = refl
 
 module _ (R : ℤ → ℤ → Type 0) where
   AllByRecursion-push : (m : ℤ) (xs : List ℤ) (x : ℤ) → AllByRecursion (R m) xs → R m x
@@ -198,6 +204,7 @@ IsMerged-Made given rows (Sum m) made place are is = (place, is, are place (Sum 
 IsMerged-Made given rows (Min m) made place are is = (place, is, are place (Min m) is)
 IsMerged-Made given rows (Max m) made place are is = (place, is, are place (Max m) is)
 IsMerged-Made given rows (SumOfSquares m) made place are is = (place, is, are place (SumOfSquares m) is)
+IsMerged-Made given rows (Values m) made place are is = (place, is, are place (Values m) is)
 
 pub IsMerged-Mean : (given : List Agg) (rows : List Row) (agg : Agg) (made : List Answer) (sums counts : ℕ) (a : Answer)
     → AreMadeOfRows given rows made → IsSourceOf given agg (source.Mean sums counts)
@@ -223,6 +230,7 @@ IsMerged-Mean given rows (PercentileDisc m units places) made sums counts a are 
 IsMerged-Mean given rows (SumOfSquares m) made sums counts a are is mean = absurd is
 IsMerged-Mean given rows (VarPop m) made sums counts a are is mean = absurd is
 IsMerged-Mean given rows (VarSamp m) made sums counts a are is mean = absurd is
+IsMerged-Mean given rows (Values m) made sums counts a are is mean = absurd is
 
 -- one more source
 pub AllZip-take : {X Y : Type 0} (R : X → Y → Type 0) (xs : List X) (ys : List Y) (i : ℕ) (d : X) (y : Y)
@@ -244,3 +252,99 @@ numbers_of-next_none answers i d inside none =
 
 pub length-push : (values : List ℤ) (z : ℤ) → 0 < length (values ++ z ∷ [])
 length-push values z = omega (arith, length-append values (z ∷ []))
+
+-- ---- answers with null in place of values make the same, but of values
+without-count : (a : Answer) → count_answered (without_values a) ≡ count_answered a
+without-count answer.Null = refl
+without-count (answer.Count n) = refl
+without-count (answer.Whole z) = refl
+without-count (answer.Ratio p q) = refl
+without-count (answer.Squares n) = refl
+without-count (answer.Variance p q) = refl
+without-count (answer.Values held) = refl
+
+without-number : (a : Answer) → number_in (without_values a) ≡ number_in a
+without-number answer.Null = refl
+without-number (answer.Count n) = refl
+without-number (answer.Whole z) = refl
+without-number (answer.Ratio p q) = refl
+without-number (answer.Squares n) = refl
+without-number (answer.Variance p q) = refl
+without-number (answer.Values held) = refl
+
+without-squares : (a : Answer) → squares_in (without_values a) ≡ squares_in a
+without-squares answer.Null = refl
+without-squares (answer.Count n) = refl
+without-squares (answer.Whole z) = refl
+without-squares (answer.Ratio p q) = refl
+without-squares (answer.Squares n) = refl
+without-squares (answer.Variance p q) = refl
+without-squares (answer.Values held) = refl
+
+sum_of_counts-without : (parts : List Answer) → sum_of_counts (map without_values parts) ≡ sum_of_counts parts
+sum_of_counts-without parts =
+    sum_by-map without_values count_answered parts
+    ∙ sum_by-same (λ a. count_answered (without_values a)) count_answered parts
+    (Contains-AllByRecursion (λ a. count_answered (without_values a) ≡ count_answered a) parts
+    (λ a there. without-count a))
+
+numbers_of-without : (parts : List Answer) → numbers_of (map without_values parts) ≡ numbers_of parts
+numbers_of-without [] = refl
+numbers_of-without (a ∷ parts) = ap₂ cons_option (without-number a) (numbers_of-without parts)
+
+squares_among-without : (parts : List Answer) → squares_among (map without_values parts) ≡ squares_among parts
+squares_among-without [] = refl
+squares_among-without (a ∷ parts) = ap₂ cons_option (without-squares a) (squares_among-without parts)
+
+pub MakesAnswer-without : (agg : Agg) (parts : List Answer) (a : Answer) → ((m : ℕ) → agg ≡ Values m → ⊥)
+    → MakesAnswer agg (map without_values parts) a → MakesAnswer agg parts a
+MakesAnswer-without CountAll parts a other makes = makes ∙ ap answer.Count (sum_of_counts-without parts)
+MakesAnswer-without (Count m) parts a other makes = makes ∙ ap answer.Count (sum_of_counts-without parts)
+MakesAnswer-without (Sum m) parts a other makes = subst (λ ns. IsSum ns a) (numbers_of-without parts) makes
+MakesAnswer-without (Min m) parts a other makes = subst (λ ns. IsLeast ns a) (numbers_of-without parts) makes
+MakesAnswer-without (Max m) parts a other makes = subst (λ ns. IsGreatest ns a) (numbers_of-without parts) makes
+MakesAnswer-without (Avg m) parts a other makes = tt
+MakesAnswer-without (CountDistinct m) parts a other makes = tt
+MakesAnswer-without (PercentileDisc m units places) parts a other makes = tt
+MakesAnswer-without (SumOfSquares m) parts a other makes =
+    subst (λ ns. IsSumOfAll ns a) (squares_among-without parts) makes
+MakesAnswer-without (VarPop m) parts a other makes = tt
+MakesAnswer-without (VarSamp m) parts a other makes = tt
+MakesAnswer-without (Values m) parts a other makes = absurd (other m refl)
+
+-- and are in range as they are
+IsInRange-same : (agg : Agg) (parts : List Answer) → ((m : ℕ) → agg ≡ Values m → ⊥)
+    → IsInRange agg (map without_values parts) ↔ IsInRange agg parts
+IsInRange-same CountAll parts other = (
+  subst (λ n. n < 2 ^ 64) (sum_of_counts-without parts),
+  subst (λ n. n < 2 ^ 64) (sym (sum_of_counts-without parts)),
+)
+IsInRange-same (Count m) parts other = (
+  subst (λ n. n < 2 ^ 64) (sum_of_counts-without parts),
+  subst (λ n. n < 2 ^ 64) (sym (sum_of_counts-without parts)),
+)
+IsInRange-same (Sum m) parts other = (
+  subst (λ ns. FitsSigned w128 (total_of ns)) (numbers_of-without parts),
+  subst (λ ns. FitsSigned w128 (total_of ns)) (sym (numbers_of-without parts)),
+)
+IsInRange-same (Min m) parts other = (λ h. h, λ h. h)
+IsInRange-same (Max m) parts other = (λ h. h, λ h. h)
+IsInRange-same (Avg m) parts other = (λ h. h, λ h. h)
+IsInRange-same (CountDistinct m) parts other = (λ h. h, λ h. h)
+IsInRange-same (PercentileDisc m units places) parts other = (λ h. h, λ h. h)
+IsInRange-same (SumOfSquares m) parts other = (
+  subst (λ (ns : List ℕ). sum_by (λ n. n) ns < 2 ^ 192) (squares_among-without parts),
+  subst (λ (ns : List ℕ). sum_by (λ n. n) ns < 2 ^ 192) (sym (squares_among-without parts)),
+)
+IsInRange-same (VarPop m) parts other = (λ h. h, λ h. h)
+IsInRange-same (VarSamp m) parts other = (λ h. h, λ h. h)
+IsInRange-same (Values m) parts other = absurd (other m refl)
+
+pub IsInRange-without : (agg : Agg) (parts : List Answer) → ((m : ℕ) → agg ≡ Values m → ⊥)
+    → IsInRange agg (map without_values parts) → IsInRange agg parts
+IsInRange-without agg parts other = (IsInRange-same agg parts other).0
+
+pub IsUnmade-without : (agg : Agg) (parts : List Answer) (unmade : Unmade) → ((m : ℕ) → agg ≡ Values m → ⊥)
+    → IsUnmade agg (map without_values parts) unmade → IsUnmade agg parts unmade
+IsUnmade-without agg parts Memory other is = tt
+IsUnmade-without agg parts (TooLarge place) other is = λ fits. is ((IsInRange-same agg parts other).1 fits)

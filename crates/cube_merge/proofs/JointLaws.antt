@@ -1,12 +1,12 @@
 -- Whose rows are joined, and what is made of them.
 use Rattle.std.proofs.Common.{◌≡◌, ◌++◌, ◌+◌, ◌<◌, ◌≤◌, ◌∷◌, [], ℕ, zero, suc, Bool, true, false, List, Some, None}
 use Rattle.std.proofs.Common.{length, get_or, take, refl, sym, ap, ◌∙◌, subst, arith, inl, inr, is_eq, option_to_list}
-use Rattle.std.proofs.Common.{slice_get}
+use Rattle.std.proofs.Common.{drop, length-append, slice_get}
 use Rattle.std.proofs.lemmas.Bool.{cases_eq}
 use Rattle.std.proofs.lemmas.Grind.{flat_map-append}
 use Rattle.std.proofs.lemmas.Option.{get_or_from_slice_get}
-use Rattle.std.proofs.lemmas.List.{append-nil, length-take-le, map-append, take_more}
-use Rattle.cube_core.specs.Merged.{MakesAnswer, column}
+use Rattle.std.proofs.lemmas.List.{append-nil, length-take-le, map-append, take-append-drop, take_more}
+use Rattle.cube_core.specs.Merged.{MakesAnswer, column, values_among, values_answered}
 use Rattle.cube_core.specs.Order.{key_cmp}
 use Rattle.cube_core.specs.declared.aggregate.Agg.{Agg}
 use Rattle.cube_core.specs.declared.aggregate.Answer.{Answer}
@@ -41,6 +41,39 @@ column-more at inputs places i inside =
     ∙ ap (λ t. rows_of inputs (take i places) ++ t) (one-row inputs (get_or places i 0)))
     ∙ map-append (λ (r : Row). get_or r.answers at answer.Null) (rows_of inputs (take i places))
     (option_to_list (get_or inputs (get_or places i 0) nothing_left).row)
+
+-- the values that the answers of one more input list
+pub values-more : (at : ℕ) (inputs : List InputView) (places : List ℕ) (i : ℕ) → i < length places
+    → values_among (column at (rows_of inputs (take (i + 1) places)))
+    ≡ values_among (column at (rows_of inputs (take i places)))
+    ++ values_among (column at (option_to_list (get_or inputs (get_or places i 0) nothing_left).row))
+values-more at inputs places i inside =
+    ap values_among (column-more at inputs places i inside)
+    ∙ flat_map-append values_answered (column at (rows_of inputs (take i places)))
+    (column at (option_to_list (get_or inputs (get_or places i 0) nothing_left).row))
+
+-- those of the first inputs are no more than those of all
+pub values-within : (at : ℕ) (inputs : List InputView) (places : List ℕ) (i : ℕ)
+    → length (values_among (column at (rows_of inputs (take i places))))
+    ≤ length (values_among (column at (rows_of inputs places)))
+values-within at inputs places i = omega (
+  arith,
+  length-append (values_among (column at (rows_of inputs (take i places))))
+      (values_among (column at (rows_of inputs (drop i places)))),
+  ap length (all ∙ ap values_among both
+      ∙ flat_map-append values_answered (column at (rows_of inputs (take i places)))
+      (column at (rows_of inputs (drop i places)))),
+) where
+  all : values_among (column at (rows_of inputs places))
+      ≡ values_among (column at (rows_of inputs (take i places ++ drop i places)))
+  all = ap (λ ps. values_among (column at (rows_of inputs ps))) (sym (take-append-drop i places))
+
+  both : column at (rows_of inputs (take i places ++ drop i places))
+      ≡ column at (rows_of inputs (take i places)) ++ column at (rows_of inputs (drop i places))
+  both = ap (column at)
+      (flat_map-append (λ p. option_to_list (get_or inputs p nothing_left).row) (take i places) (drop i places))
+      ∙ map-append (λ (r : Row). get_or r.answers at answer.Null) (rows_of inputs (take i places))
+      (rows_of inputs (drop i places))
 
 -- the rows of one more input, where it is used
 pub rows_of-more : (inputs : List InputView) (places : List ℕ) (us : List Bool) (place : ℕ) (x : InputView) (u : Bool)

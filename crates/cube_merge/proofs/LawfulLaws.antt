@@ -1,5 +1,5 @@
 -- Answers, each beside its aggregate.
-use Rattle.std.proofs.Common.{◌≡◌, ◌∙◌, ◌+◌, ◌<◌, ℕ, zero, suc, Bool, false, true, List, [], ◌∷◌, Some, None, ap}
+use Rattle.std.proofs.Common.{◌≡◌, ◌∙◌, ◌+◌, ◌<◌, ℕ, zero, suc, Bool, false, true, List, [], ◌∷◌, Some, None, ap, arith}
 use Rattle.std.proofs.Common.{get_or, length, refl, slice_get, subst, sym, take}
 use Rattle.std.specs.List.{AllZip}
 use Rattle.std.proofs.lemmas.List.{take_more}
@@ -23,6 +23,16 @@ AllZip-next R aggregates answers i x b inside inside_too is so_far one =
     rw (take_more aggregates i x inside, take_more answers i b inside_too)
     (AllZip-push R (take i aggregates) (take i answers) (get_or aggregates i x) (get_or answers i b) so_far
     (subst (R (get_or aggregates i x)) is one))
+
+-- an answer and its aggregate at a place
+pub AllZip-get : (R : Agg → Answer → Type 0) (aggregates : List Agg) (answers : List Answer) (i : ℕ) (x : Agg)
+    (b : Answer) → i < length aggregates → i < length answers → b ≡ get_or answers i b → AllZip R aggregates answers
+    → R (get_or aggregates i x) b
+AllZip-get R [] answers i x b inside inside_too is all = absurd (omega (arith, inside))
+AllZip-get R (y ∷ ys) [] i x b inside inside_too is all = absurd all
+AllZip-get R (y ∷ ys) (c ∷ cs) zero x b inside inside_too is all = subst (R y) (sym is) all.0
+AllZip-get R (y ∷ ys) (c ∷ cs) (suc i) x b inside inside_too is all =
+    AllZip-get R ys cs i x b (omega (arith, inside)) (omega (arith, inside_too)) is all.1
 
 -- what stands so to its aggregate also stands otherwise
 AllZip-map : (P Q : Agg → Answer → Type 0) (aggregates : List Agg) (answers : List Answer)

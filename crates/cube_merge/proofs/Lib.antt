@@ -1,7 +1,9 @@
 mod TotalLaws
+mod AnswerLaws
 mod SourceLaws
 mod GatherLaws
 mod SquaresLaws
+pub mod ValuesLaws
 mod JointLaws
 pub mod MergedLaws
 mod StepLaws

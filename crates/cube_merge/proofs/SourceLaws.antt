@@ -1,15 +1,20 @@
 -- What can be made of given aggregates.
 use Rattle.std.proofs.Common.{◌≡◌, ◌==◌, ◌&&◌, ◌∷◌, [], ℕ, zero, suc, Bool, true, false, List, Some, None, refl}
-use Rattle.std.proofs.Common.{sym, subst, slice_get}
-use Rattle.std.proofs.lemmas.Bool.{and_from, eq-eqb, or_left, or_right}
+use Rattle.std.proofs.Common.{get_or, length, sym, subst, slice_get}
+use Rattle.std.specs.Prelude.{All, nat_lt}
+use Rattle.std.proofs.lemmas.Bool.{and_from, and_parts, eq-eqb, or_left, or_right}
+use Rattle.std.proofs.lemmas.List.Elements.{All-get_or}
+use Rattle.std.proofs.lemmas.List.Sums.{AllPass-from_list_all}
+use Rattle.cube_core.specs.Layout.{IsSchema, Layout, is_aggregate_of, is_level}
 use Rattle.cube_core.specs.PartialForm.{has_aggregate, is_aggregate}
 use Rattle.cube_core.specs.declared.aggregate.Agg.{Agg}
 use Rattle.cube_core.specs.declared.aggregate.Agg.TheVariants.{CountAll, Count, Sum, Min, Max, Avg}
 use Rattle.cube_core.specs.declared.aggregate.Agg.TheVariants.{CountDistinct, PercentileDisc, SumOfSquares}
-use Rattle.cube_core.specs.declared.aggregate.Agg.TheVariants.{VarPop, VarSamp}
+use Rattle.cube_core.specs.declared.aggregate.Agg.TheVariants.{VarPop, VarSamp, Values}
+use Rattle.cube_merge.specs.Source.{HasLevel, IsDistinctSource, IsMadeSource, IsMeanSource, IsPercentileSource}
 use Rattle.cube_merge.specs.Source.{IsSourceOf, IsVarianceSource, can_be_made, can_make_variance}
 use Rattle.cube_merge.specs.declared.source.Source.{Source}
-use Rattle.cube_merge.specs.declared.source.Source.TheVariants.{Made, Mean, Variance}
+use Rattle.cube_merge.specs.declared.source.Source.TheVariants.{Made, Mean, Variance, Distinct, Percentile}
 
 is_aggregate-self : (agg : Agg) → is_aggregate agg agg ≡ true
 is_aggregate-self CountAll = refl
@@ -22,6 +27,7 @@ is_aggregate-self (CountDistinct m) = eq-eqb m m refl
 is_aggregate-self (SumOfSquares m) = eq-eqb m m refl
 is_aggregate-self (VarPop m) = eq-eqb m m refl
 is_aggregate-self (VarSamp m) = eq-eqb m m refl
+is_aggregate-self (Values m) = eq-eqb m m refl
 is_aggregate-self (PercentileDisc m units places) =
     and_from (m == m && units == units) (places == places)
     (and_from (m == m) (units == units) (eq-eqb m m refl) (eq-eqb units units refl)) (eq-eqb places places refl)
@@ -39,6 +45,25 @@ has_aggregate-at (a ∷ given) zero agg is =
 has_aggregate-at (a ∷ given) (suc place) agg is =
     or_right (is_aggregate agg a) (has_aggregate agg given) (has_aggregate-at given place agg is)
 
+-- ---- what has a source can be made
+can_make-own : (given : List Agg) (agg : Agg) (source : Source) → IsMadeSource given agg source
+    → has_aggregate agg given ≡ true
+can_make-own given agg (Made place) is = has_aggregate-at given place agg is
+can_make-own given agg (Mean sums counts) is = absurd is
+can_make-own given agg (Variance is_sample counts sums squares) is = absurd is
+can_make-own given agg (Distinct values) is = absurd is
+can_make-own given agg (Percentile units places values) is = absurd is
+
+can_make-mean : (given : List Agg) (m : ℕ) (source : Source) → IsMeanSource given m source
+    → has_aggregate (Sum m) given && has_aggregate (Count m) given ≡ true
+can_make-mean given m (Mean sums counts) is =
+    and_from (has_aggregate (Sum m) given) (has_aggregate (Count m) given) (has_aggregate-at given sums (Sum m) is.0)
+    (has_aggregate-at given counts (Count m) is.1)
+can_make-mean given m (Made place) is = absurd is
+can_make-mean given m (Variance is_sample counts sums squares) is = absurd is
+can_make-mean given m (Distinct values) is = absurd is
+can_make-mean given m (Percentile units places values) is = absurd is
+
 can_make-from : (of_sample : Bool) (given : List Agg) (m : ℕ) (source : Source)
     → IsVarianceSource of_sample given m source → can_make_variance given m ≡ true
 can_make-from of_sample given m (Variance is_sample counts sums squares) is =
@@ -48,34 +73,59 @@ can_make-from of_sample given m (Variance is_sample counts sums squares) is =
     (has_aggregate-at given squares (SumOfSquares m) is.3)
 can_make-from of_sample given m (Made place) is = absurd is
 can_make-from of_sample given m (Mean sums counts) is = absurd is
+can_make-from of_sample given m (Distinct values) is = absurd is
+can_make-from of_sample given m (Percentile units places values) is = absurd is
 
--- what has a source can be made
+can_make-distinct : (given : List Agg) (m : ℕ) (source : Source) → IsDistinctSource given m source
+    → has_aggregate (Values m) given ≡ true
+can_make-distinct given m (Distinct values) is = has_aggregate-at given values (Values m) is
+can_make-distinct given m (Made place) is = absurd is
+can_make-distinct given m (Mean sums counts) is = absurd is
+can_make-distinct given m (Variance is_sample counts sums squares) is = absurd is
+can_make-distinct given m (Percentile units places values) is = absurd is
+
+can_make-percentile : (of_units of_places : ℕ) (given : List Agg) (m : ℕ) (source : Source)
+    → IsPercentileSource of_units of_places given m source → has_aggregate (Values m) given ≡ true
+can_make-percentile of_units of_places given m (Percentile units places values) is =
+    has_aggregate-at given values (Values m) is.3
+can_make-percentile of_units of_places given m (Made place) is = absurd is
+can_make-percentile of_units of_places given m (Mean sums counts) is = absurd is
+can_make-percentile of_units of_places given m (Variance is_sample counts sums squares) is = absurd is
+can_make-percentile of_units of_places given m (Distinct values) is = absurd is
+
 pub IsSourceOf-can : (given : List Agg) (agg : Agg) (source : Source) → IsSourceOf given agg source
     → can_be_made given agg ≡ true
-IsSourceOf-can given (Avg m) (Mean sums counts) is =
-    and_from (has_aggregate (Sum m) given) (has_aggregate (Count m) given) (has_aggregate-at given sums (Sum m) is.0)
-    (has_aggregate-at given counts (Count m) is.1)
-IsSourceOf-can given (Avg m) (Made place) is = absurd is
-IsSourceOf-can given (Avg m) (Variance is_sample counts sums squares) is = absurd is
+IsSourceOf-can given (Avg m) source is = can_make-mean given m source is
 IsSourceOf-can given (VarPop m) source is = can_make-from false given m source is
 IsSourceOf-can given (VarSamp m) source is = can_make-from true given m source is
-IsSourceOf-can given (CountDistinct m) source is = absurd is
-IsSourceOf-can given (PercentileDisc m units places) source is = absurd is
-IsSourceOf-can given CountAll (Made place) is = has_aggregate-at given place CountAll is
-IsSourceOf-can given CountAll (Mean sums counts) is = absurd is
-IsSourceOf-can given CountAll (Variance is_sample counts sums squares) is = absurd is
-IsSourceOf-can given (Count m) (Made place) is = has_aggregate-at given place (Count m) is
-IsSourceOf-can given (Count m) (Mean sums counts) is = absurd is
-IsSourceOf-can given (Count m) (Variance is_sample counts sums squares) is = absurd is
-IsSourceOf-can given (Sum m) (Made place) is = has_aggregate-at given place (Sum m) is
-IsSourceOf-can given (Sum m) (Mean sums counts) is = absurd is
-IsSourceOf-can given (Sum m) (Variance is_sample counts sums squares) is = absurd is
-IsSourceOf-can given (Min m) (Made place) is = has_aggregate-at given place (Min m) is
-IsSourceOf-can given (Min m) (Mean sums counts) is = absurd is
-IsSourceOf-can given (Min m) (Variance is_sample counts sums squares) is = absurd is
-IsSourceOf-can given (Max m) (Made place) is = has_aggregate-at given place (Max m) is
-IsSourceOf-can given (Max m) (Mean sums counts) is = absurd is
-IsSourceOf-can given (Max m) (Variance is_sample counts sums squares) is = absurd is
-IsSourceOf-can given (SumOfSquares m) (Made place) is = has_aggregate-at given place (SumOfSquares m) is
-IsSourceOf-can given (SumOfSquares m) (Mean sums counts) is = absurd is
-IsSourceOf-can given (SumOfSquares m) (Variance is_sample counts sums squares) is = absurd is
+IsSourceOf-can given (CountDistinct m) source is = can_make-distinct given m source is
+IsSourceOf-can given (PercentileDisc m units places) source is = can_make-percentile units places given m source is
+IsSourceOf-can given CountAll source is = can_make-own given CountAll source is
+IsSourceOf-can given (Count m) source is = can_make-own given (Count m) source is
+IsSourceOf-can given (Sum m) source is = can_make-own given (Sum m) source is
+IsSourceOf-can given (Min m) source is = can_make-own given (Min m) source is
+IsSourceOf-can given (Max m) source is = can_make-own given (Max m) source is
+IsSourceOf-can given (SumOfSquares m) source is = can_make-own given (SumOfSquares m) source is
+IsSourceOf-can given (Values m) source is = can_make-own given (Values m) source is
+
+-- the percentiles of a schema are at levels
+HasLevel-of : (measures : ℕ) (agg : Agg) → is_aggregate_of measures agg ≡ true → HasLevel agg
+HasLevel-of measures (PercentileDisc m units places) is = (and_parts (nat_lt m measures) (is_level units places) is).1
+HasLevel-of measures CountAll is = tt
+HasLevel-of measures (Count m) is = tt
+HasLevel-of measures (Sum m) is = tt
+HasLevel-of measures (Min m) is = tt
+HasLevel-of measures (Max m) is = tt
+HasLevel-of measures (Avg m) is = tt
+HasLevel-of measures (CountDistinct m) is = tt
+HasLevel-of measures (SumOfSquares m) is = tt
+HasLevel-of measures (VarPop m) is = tt
+HasLevel-of measures (VarSamp m) is = tt
+HasLevel-of measures (Values m) is = tt
+
+pub HasLevel-all : (s : Layout) → IsSchema s → All HasLevel s.aggregates
+HasLevel-all s schema k d inside =
+    let of_measures : Agg → Bool = is_aggregate_of (length s.measures) in
+    HasLevel-of (length s.measures) (get_or s.aggregates k d)
+    (All-get_or (λ (agg : Agg). of_measures agg ≡ true) s.aggregates k d inside
+    (AllPass-from_list_all of_measures s.aggregates schema.aggregates_are_of_measures))

@@ -5,6 +5,8 @@ use Rattle.std.specs.Prelude.{◌==◌, Option, Some, None, IfSome, FitsSigned, 
 use Rattle.std.specs.Int.{w64, w128, IsGcd}
 use Rattle.std.specs.List.{AllZip, list_all}
 use Rattle.std.specs.Str.{bytes_eq}
+use Rattle.cube_core.specs.Answer.{AreHeld, IsAnswer, values_held}
+use Rattle.cube_core.specs.Group.{values_of}
 use Rattle.cube_core.specs.GroupingSet.{is_all_coord}
 use Rattle.cube_core.specs.Layout.{Layout, keeps}
 use Rattle.cube_core.specs.Merged.{IsMeanOf, IsVarianceOf, count_answered}
@@ -12,9 +14,10 @@ use Rattle.cube_core.specs.Takes.{null_text}
 use Rattle.cube_core.specs.declared.aggregate.Agg.{Agg}
 use Rattle.cube_core.specs.declared.aggregate.Agg.TheVariants.{CountAll, Count, Sum, Min, Max, Avg}
 use Rattle.cube_core.specs.declared.aggregate.Agg.TheVariants.{CountDistinct, PercentileDisc, SumOfSquares}
-use Rattle.cube_core.specs.declared.aggregate.Agg.TheVariants.{VarPop, VarSamp}
+use Rattle.cube_core.specs.declared.aggregate.Agg.TheVariants.{VarPop, VarSamp, Values}
 use Rattle.cube_core.specs.declared.aggregate.Answer.{Answer}
 use Rattle.cube_core.specs.declared.aggregate.Answer.TheVariants as answer
+use Rattle.cube_core.specs.declared.fact.Fact.{Fact}
 use Rattle.cube_core.specs.declared.key.Coord.{Coord}
 use Rattle.cube_core.specs.declared.key.Coord.TheVariants as coord
 use Rattle.cube_core.specs.declared.key.Key.{Key}
@@ -38,6 +41,7 @@ IsCount (answer.Whole z) = ⊥
 IsCount (answer.Ratio p q) = ⊥
 IsCount (answer.Squares n) = ⊥
 IsCount (answer.Variance p q) = ⊥
+IsCount (answer.Values held) = ⊥
 
 -- an answer is a sum, a number of 128 bits, or null
 abbrev pub IsNumber : Answer → Type 0
@@ -47,6 +51,7 @@ IsNumber (answer.Count n) = ⊥
 IsNumber (answer.Ratio p q) = ⊥
 IsNumber (answer.Squares n) = ⊥
 IsNumber (answer.Variance p q) = ⊥
+IsNumber (answer.Values held) = ⊥
 
 -- an answer is a value of a measure, a number of 64 bits, or null
 abbrev pub IsValue : Answer → Type 0
@@ -56,6 +61,7 @@ IsValue (answer.Count n) = ⊥
 IsValue (answer.Ratio p q) = ⊥
 IsValue (answer.Squares n) = ⊥
 IsValue (answer.Variance p q) = ⊥
+IsValue (answer.Values held) = ⊥
 
 -- an answer is a fraction in lowest terms of a number of 128 bits by a count of 64, at least 1, or null
 abbrev pub IsFraction : Answer → Type 0
@@ -65,6 +71,7 @@ IsFraction (answer.Count n) = ⊥
 IsFraction (answer.Whole z) = ⊥
 IsFraction (answer.Squares n) = ⊥
 IsFraction (answer.Variance p q) = ⊥
+IsFraction (answer.Values held) = ⊥
 
 -- an answer is a sum of squares, a number of 192 bits, or null
 abbrev pub IsSquares : Answer → Type 0
@@ -74,6 +81,7 @@ IsSquares (answer.Count n) = ⊥
 IsSquares (answer.Whole z) = ⊥
 IsSquares (answer.Ratio p q) = ⊥
 IsSquares (answer.Variance p q) = ⊥
+IsSquares (answer.Values held) = ⊥
 
 -- an answer is a fraction in lowest terms of a number of 256 bits by one of 128, at least 1, or null
 abbrev pub IsVarianceFraction : Answer → Type 0
@@ -83,6 +91,22 @@ IsVarianceFraction (answer.Count n) = ⊥
 IsVarianceFraction (answer.Whole z) = ⊥
 IsVarianceFraction (answer.Ratio p q) = ⊥
 IsVarianceFraction (answer.Squares n) = ⊥
+IsVarianceFraction (answer.Values held) = ⊥
+
+-- pairs list values: each is above the one before it and held once at least, and they are fewer than 2^64 together
+pub record AreListed (held : List (ℤ × ℕ)) : Type 0 where
+  pub in_order : AreHeld (values_held held) held
+  pub few : length (values_held held) < 2 ^ 64
+
+-- an answer lists values
+abbrev pub ListsValues : Answer → Type 0
+ListsValues (answer.Values held) = AreListed held
+ListsValues answer.Null = ⊥
+ListsValues (answer.Count n) = ⊥
+ListsValues (answer.Whole z) = ⊥
+ListsValues (answer.Ratio p q) = ⊥
+ListsValues (answer.Squares n) = ⊥
+ListsValues (answer.Variance p q) = ⊥
 
 -- an answer is of the kind of this aggregate's
 abbrev pub IsOfKind : Agg → Answer → Type 0
@@ -97,6 +121,7 @@ IsOfKind (PercentileDisc m units places) a = IsValue a
 IsOfKind (SumOfSquares m) a = IsSquares a
 IsOfKind (VarPop m) a = IsVarianceFraction a
 IsOfKind (VarSamp m) a = IsVarianceFraction a
+IsOfKind (Values m) a = ListsValues a
 
 -- an answer isn't a count of 0
 abbrev pub IsNoZero : Answer → Type 0
@@ -106,6 +131,7 @@ IsNoZero (answer.Whole z) = ⊤
 IsNoZero (answer.Ratio p q) = ⊤
 IsNoZero (answer.Squares n) = ⊤
 IsNoZero (answer.Variance p q) = ⊤
+IsNoZero (answer.Values held) = ⊤
 
 -- an answer, where it is one to `count(*)`, isn't 0
 abbrev pub CountsFacts : Agg → Answer → Type 0
@@ -120,6 +146,7 @@ CountsFacts (PercentileDisc m units places) a = ⊤
 CountsFacts (SumOfSquares m) a = ⊤
 CountsFacts (VarPop m) a = ⊤
 CountsFacts (VarSamp m) a = ⊤
+CountsFacts (Values m) a = ⊤
 
 -- a least answer isn't above a greatest one, where both are numbers
 abbrev pub IsInOrder : Answer → Answer → Type 0
@@ -140,6 +167,7 @@ IsAtLeast m least (PercentileDisc other units places) a = ⊤
 IsAtLeast m least (SumOfSquares other) a = ⊤
 IsAtLeast m least (VarPop other) a = ⊤
 IsAtLeast m least (VarSamp other) a = ⊤
+IsAtLeast m least (Values other) a = ⊤
 
 -- an answer, where it is one to a least value, isn't above the greatest value of its measure among answers
 abbrev pub IsWithin : List Agg → List Answer → Agg → Answer → Type 0
@@ -154,6 +182,7 @@ IsWithin aggregates answers (PercentileDisc m units places) a = ⊤
 IsWithin aggregates answers (SumOfSquares m) a = ⊤
 IsWithin aggregates answers (VarPop m) a = ⊤
 IsWithin aggregates answers (VarSamp m) a = ⊤
+IsWithin aggregates answers (Values m) a = ⊤
 
 -- no least value among answers is above the greatest value of its measure
 abbrev pub AreInOrder : List Agg → List Answer → Type 0
@@ -167,6 +196,7 @@ tells_none (answer.Whole z) = false
 tells_none (answer.Ratio p q) = false
 tells_none (answer.Squares n) = false
 tells_none (answer.Variance p q) = false
+tells_none (answer.Values held) = length held == 0
 
 -- the measure that an aggregate is of, if it is of one
 abbrev pub measure_of : Agg → Option ℕ
@@ -181,6 +211,7 @@ measure_of (PercentileDisc m units places) = Some m
 measure_of (SumOfSquares m) = Some m
 measure_of (VarPop m) = Some m
 measure_of (VarSamp m) = Some m
+measure_of (Values m) = Some m
 
 -- an answer, where it is one of this measure, is null, or a count of 0
 abbrev pub TellsNone : ℕ → Agg → Answer → Type 0
@@ -200,6 +231,7 @@ tells_no_value (CountDistinct m) a = tells_none a
 tells_no_value (PercentileDisc m units places) a = tells_none a
 tells_no_value (SumOfSquares m) a = tells_none a
 tells_no_value (VarPop m) a = tells_none a
+tells_no_value (Values m) a = tells_none a
 
 -- where an answer tells that its measure has no value, each of that measure among answers is null, or a count of 0
 abbrev pub IsNoneAmong : List Agg → List Answer → Agg → Answer → Type 0
@@ -228,16 +260,17 @@ pub record IsLawfulRow (s : Layout) (row : Row) : Type 0 where
 -- the number by which an aggregate's place is found
 abbrev pub number_of : Agg → ℕ
 number_of CountAll = 0
-number_of (Count m) = m % 4 * 9 + 1
-number_of (Sum m) = m % 4 * 9 + 2
-number_of (Min m) = m % 4 * 9 + 3
-number_of (Max m) = m % 4 * 9 + 4
-number_of (Avg m) = m % 4 * 9 + 5
-number_of (CountDistinct m) = m % 4 * 9 + 6
-number_of (SumOfSquares m) = m % 4 * 9 + 7
-number_of (VarPop m) = m % 4 * 9 + 8
-number_of (VarSamp m) = m % 4 * 9 + 9
-number_of (PercentileDisc m units places) = m % 4 * 16 + units % 16 + 37
+number_of (Count m) = m % 4 * 10 + 1
+number_of (Sum m) = m % 4 * 10 + 2
+number_of (Min m) = m % 4 * 10 + 3
+number_of (Max m) = m % 4 * 10 + 4
+number_of (Avg m) = m % 4 * 10 + 5
+number_of (CountDistinct m) = m % 4 * 10 + 6
+number_of (SumOfSquares m) = m % 4 * 10 + 7
+number_of (VarPop m) = m % 4 * 10 + 8
+number_of (VarSamp m) = m % 4 * 10 + 9
+number_of (Values m) = m % 4 * 10 + 10
+number_of (PercentileDisc m units places) = m % 4 * 16 + units % 16 + 41
 
 -- an answer is the one at the place of its aggregate
 abbrev pub IsAtPlace : List ℕ → List Answer → Agg → Answer → Type 0
@@ -263,6 +296,7 @@ sum_answered (answer.Count n) = pos 0
 sum_answered (answer.Ratio p q) = pos 0
 sum_answered (answer.Squares n) = pos 0
 sum_answered (answer.Variance p q) = pos 0
+sum_answered (answer.Values held) = pos 0
 
 -- the sum of squares that an answer is; 0 of any other
 abbrev pub squares_answered : Answer → ℕ
@@ -272,6 +306,7 @@ squares_answered (answer.Count n) = 0
 squares_answered (answer.Whole z) = 0
 squares_answered (answer.Ratio p q) = 0
 squares_answered (answer.Variance p q) = 0
+squares_answered (answer.Values held) = 0
 
 -- a mean of a measure is this sum by this answer, where that is the measure's count
 abbrev pub IsMeanByCount : ℕ → Answer → Answer → Agg → Answer → Type 0
@@ -286,6 +321,7 @@ IsMeanByCount m mean sum (PercentileDisc other units places) a = ⊤
 IsMeanByCount m mean sum (SumOfSquares other) a = ⊤
 IsMeanByCount m mean sum (VarPop other) a = ⊤
 IsMeanByCount m mean sum (VarSamp other) a = ⊤
+IsMeanByCount m mean sum (Values other) a = ⊤
 
 -- a mean of a measure is this answer, where that is the measure's sum, by the measure's count among answers
 abbrev pub IsMeanOfSum : List Agg → List Answer → ℕ → Answer → Agg → Answer → Type 0
@@ -300,6 +336,7 @@ IsMeanOfSum aggregates answers m mean (PercentileDisc other units places) a = �
 IsMeanOfSum aggregates answers m mean (SumOfSquares other) a = ⊤
 IsMeanOfSum aggregates answers m mean (VarPop other) a = ⊤
 IsMeanOfSum aggregates answers m mean (VarSamp other) a = ⊤
+IsMeanOfSum aggregates answers m mean (Values other) a = ⊤
 
 -- an answer, where it is a mean, is the sum by the count of its measure among answers
 abbrev pub IsMeanAmong : List Agg → List Answer → Agg → Answer → Type 0
@@ -314,6 +351,7 @@ IsMeanAmong aggregates answers (PercentileDisc m units places) a = ⊤
 IsMeanAmong aggregates answers (SumOfSquares m) a = ⊤
 IsMeanAmong aggregates answers (VarPop m) a = ⊤
 IsMeanAmong aggregates answers (VarSamp m) a = ⊤
+IsMeanAmong aggregates answers (Values m) a = ⊤
 
 -- each mean is the sum by the count of its measure, where these stand beside it
 abbrev pub AreMeans : List Agg → List Answer → Type 0
@@ -341,17 +379,54 @@ IsVarianceAmong aggregates answers (Avg m) a = ⊤
 IsVarianceAmong aggregates answers (CountDistinct m) a = ⊤
 IsVarianceAmong aggregates answers (PercentileDisc m units places) a = ⊤
 IsVarianceAmong aggregates answers (SumOfSquares m) a = ⊤
+IsVarianceAmong aggregates answers (Values m) a = ⊤
 
 -- each variance is that of the count, the sum and the sum of squares of its measure, where these stand beside it
 abbrev pub AreVariances : List Agg → List Answer → Type 0
 AreVariances aggregates answers = AllZip (IsVarianceAmong aggregates answers) aggregates answers
 
+-- an answer, where it is one of this measure, is that over any facts that have these values of it
+abbrev pub IsOfValues : List ℤ → ℕ → Agg → Answer → Type 0
+IsOfValues values m agg a =
+    measure_of agg ≡ Some m → (group : List Fact) → values_of m group ≡ values → IsAnswer group agg a
+
+-- where an answer lists values, each answer of this measure among answers is that of these
+abbrev pub AreOfList : List Agg → List Answer → ℕ → Answer → Type 0
+AreOfList aggregates answers m (answer.Values held) = AllZip (IsOfValues (values_held held) m) aggregates answers
+AreOfList aggregates answers m answer.Null = ⊤
+AreOfList aggregates answers m (answer.Count n) = ⊤
+AreOfList aggregates answers m (answer.Whole z) = ⊤
+AreOfList aggregates answers m (answer.Ratio p q) = ⊤
+AreOfList aggregates answers m (answer.Squares n) = ⊤
+AreOfList aggregates answers m (answer.Variance p q) = ⊤
+
+-- the same of an answer, where it is one to the values of a measure
+abbrev pub IsListAmong : List Agg → List Answer → Agg → Answer → Type 0
+IsListAmong aggregates answers (Values m) a = AreOfList aggregates answers m a
+IsListAmong aggregates answers CountAll a = ⊤
+IsListAmong aggregates answers (Count m) a = ⊤
+IsListAmong aggregates answers (Sum m) a = ⊤
+IsListAmong aggregates answers (Min m) a = ⊤
+IsListAmong aggregates answers (Max m) a = ⊤
+IsListAmong aggregates answers (Avg m) a = ⊤
+IsListAmong aggregates answers (CountDistinct m) a = ⊤
+IsListAmong aggregates answers (PercentileDisc m units places) a = ⊤
+IsListAmong aggregates answers (SumOfSquares m) a = ⊤
+IsListAmong aggregates answers (VarPop m) a = ⊤
+IsListAmong aggregates answers (VarSamp m) a = ⊤
+
+-- where the values of a measure are listed, each other answer of it is that of these values
+abbrev pub AreOfValues : List Agg → List Answer → Type 0
+AreOfValues aggregates answers = AllZip (IsListAmong aggregates answers) aggregates answers
+
 -- answers don't gainsay one another: an aggregate that stands twice has the same answer, a mean is its sum by its
--- count, and a variance is that of its count, its sum and its sum of squares
+-- count, a variance is that of its count, its sum and its sum of squares, and each answer of a measure whose values are
+-- listed is that of these values
 pub record AreConsistent (aggregates : List Agg) (answers : List Answer) : Type 0 where
   pub alike : AreAlike aggregates answers
   pub means : AreMeans aggregates answers
   pub variances : AreVariances aggregates answers
+  pub of_values : AreOfValues aggregates answers
 
 -- a cube of a schema may have this row, and its answers don't gainsay one another
 pub record IsRightRow (s : Layout) (row : Row) : Type 0 where

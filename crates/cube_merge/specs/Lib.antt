@@ -1,5 +1,6 @@
 pub mod NextLine
 pub mod Made
+pub mod Values
 pub mod Range
 pub mod Total
 pub mod Source

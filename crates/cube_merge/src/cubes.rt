@@ -33,9 +33,10 @@ struct Desk {
 /// their facts under the wanted one, which has the same dimensions and grouping sets,
 /// and the same digits behind the point of each measure.
 ///
-/// Each aggregate of the wanted schema is one of the given schema's, a mean whose sum and count are, or a variance whose
-/// count, sum and sum of squares are; else the fault is `Aggregates`, whatever else is wrong. One line of each input is in
-/// memory.
+/// Each aggregate of the wanted schema is one of the given schema's, a mean whose sum and count are, a variance whose
+/// count, sum and sum of squares are, or a distinct count or a percentile whose values are; else the fault is `Aggregates`,
+/// whatever else is wrong. A distinct count and a percentile need the values, also where they are the given schema's. One
+/// line of each input is in memory.
 ///
 /// What was written before a fault was met stays written: it is the first bytes of the text of the rows that were merged
 /// so far, as many as the fault says where the writer failed. The fault that is told is the one met first, where each step
@@ -211,6 +212,7 @@ fn put_next<R: Read>(
         return Ok(false);
     };
     put_row(
+        alloc,
         given,
         wanted,
         sources,
@@ -226,6 +228,7 @@ fn put_next<R: Read>(
 
 // Puts the line of the merged row with the key of the input at a place, which is the least.
 fn put_row<R: Read>(
+    alloc: Global,
     given: &Schema,
     wanted: &Schema,
     sources: &[Source],
@@ -246,13 +249,19 @@ fn put_row<R: Read>(
         return Err(MergeFault::Memory);
     };
     join_rows(
+        alloc,
         given.aggregates(),
         inputs,
         behind,
         &row.key,
         &mut desk.joint,
     )?;
-    put_answers(sources, desk.joint.made.as_slice(), &mut desk.answers)?;
+    put_answers(
+        alloc,
+        sources,
+        desk.joint.made.as_slice(),
+        &mut desk.answers,
+    )?;
     push_line(
         &mut desk.text,
         wanted,

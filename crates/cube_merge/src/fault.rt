@@ -21,7 +21,7 @@ pub enum InputFault {
     /// A key isn't above the one before it.
     #[error("M6")]
     Order,
-    /// A count, a sum or a sum of squares of the merged row is too large.
+    /// A count, a sum, a sum of squares or how many values there are is too large in the merged row.
     #[error("M7")]
     Overflow,
     /// The input ended without the grand total, which the schema keeps.
@@ -78,5 +78,35 @@ impl<T: Drop> From<AllocFailed<T>> for MergeFault {
 
     fn from(_: AllocFailed<T>) -> MergeFault {
         MergeFault::Memory
+    }
+}
+
+/// Why the answers to an aggregate make none together.
+pub(crate) enum Unmade {
+    /// Memory ran out.
+    Memory,
+    /// What they make is too large for its type, first with the answer at this place.
+    TooLarge(usize),
+}
+
+impl From<AllocError> for Unmade {
+    ghost use Rattle.cube_merge.specs.declared.fault.Unmade.TheVariants.{Memory};
+    ghost use Rattle.std.specs.Prelude.{◌≡◌};
+
+    ghost from_gives = { λ _ unmade. unmade ≡ Memory };
+
+    fn from(_: AllocError) -> Unmade {
+        Unmade::Memory
+    }
+}
+
+impl<T: Drop> From<AllocFailed<T>> for Unmade {
+    ghost use Rattle.cube_merge.specs.declared.fault.Unmade.TheVariants.{Memory};
+    ghost use Rattle.std.specs.Prelude.{◌≡◌};
+
+    ghost from_gives = { λ _ unmade. unmade ≡ Memory };
+
+    fn from(_: AllocFailed<T>) -> Unmade {
+        Unmade::Memory
     }
 }

@@ -1,21 +1,27 @@
 //! What the answers of parts make of the whole.
-ghost use Rattle.std.specs.Prelude.{◌≡◌, ◌≤◌, ◌<◌, ◌+◌, ◌^◌, IfErr, IfOk, IfNone, IfSome, Some, get_or, FitsSigned};
+ghost use Rattle.std.specs.Prelude.{◌≡◌, ◌≤◌, ◌<◌, ◌+◌, ◌^◌, ℕ, IfErr, IfOk, IfNone, IfSome, Some, get_or, FitsSigned};
 ghost use Rattle.std.specs.Int.{w128};
-ghost use Rattle.cube_core.specs.Merged.{MakesAnswer, IsMeanOf, IsVarianceOf, count_answered, number_in, squares_in};
+ghost use Rattle.cube_core.specs.Answer.{values_held};
+ghost use Rattle.cube_core.specs.Merged.{IsMeanOf, IsVarianceOf, MakesAnswer, count_answered, number_in, squares_in, values_answered};
+ghost use Rattle.cube_core.specs.declared.aggregate.Agg.TheVariants.{Values};
 ghost use Rattle.cube_core.specs.declared.aggregate.Answer.{Answer};
-ghost use Rattle.cube_merge.specs.Lawful.{squares_answered, sum_answered};
-ghost use Rattle.cube_merge.specs.Made.{JoinsAnswer};
+ghost use Rattle.cube_merge.specs.Lawful.{AreListed, squares_answered, sum_answered};
+ghost use Rattle.cube_merge.specs.Made.{IsOrderly, IsUnmade, JoinsAnswer, without_values};
 ghost use Rattle.cube_merge.specs.Range.{IsInRange};
 
+use crate::fault::Unmade;
 use crate::total::Total;
-use cube_core::{Agg, Answer, Squares, Wide, reduced, variance_from};
+use cube_core::{Agg, Answer, Sequence, Squares, reduced, variance_from};
+use std::alloc::{AllocError, Global};
 
-/// What the answers to an aggregate make; where a count, a sum or a sum of squares is too large for its type, the place of
-/// the answer with which it first is.
-pub(crate) fn made_of(aggregate: &Agg, answers: &[Answer]) -> Result<Answer, usize>
+/// What the answers to an aggregate make, which isn't `values(m)`; where a count, a sum or a sum of squares is too large for
+/// its type, the place of the answer with which it first is.
+pub(crate) fn made_of(aggregate: &Agg, answers: &[Answer]) -> Result<Answer, Unmade>
+    requires { (m : ℕ) → aggregate.now ≡ Values m → ⊥ }
     ensures made { IfOk result (MakesAnswer aggregate.now answers.now) }
+    ensures orderly { IfOk result IsOrderly }
     ensures fits { IfOk result (λ _. IsInRange aggregate.now answers.now) }
-    ensures too_large { IfErr result (λ _. IsInRange aggregate.now answers.now → ⊥) }
+    ensures err { IfErr result (IsUnmade aggregate.now answers.now) }
 {
     match aggregate {
         Agg::CountAll | Agg::Count(_) => count_of(answers),
@@ -25,28 +31,29 @@ pub(crate) fn made_of(aggregate: &Agg, answers: &[Answer]) -> Result<Answer, usi
         Agg::SumOfSquares(_) => squares_of(answers),
         Agg::Avg(_) | Agg::CountDistinct(_) | Agg::PercentileDisc { .. } => Ok(Answer::Null),
         Agg::VarPop(_) | Agg::VarSamp(_) => Ok(Answer::Null),
+        Agg::Values(_) => unreachable!(),
     }
 }
 
-fn count_of(answers: &[Answer]) -> Result<Answer, usize>
+fn count_of(answers: &[Answer]) -> Result<Answer, Unmade>
     ensures made { IfOk result (MakesAnswer (Agg.Count 0) answers.now) }
     ensures fits { IfOk result (λ _. IsInRange (Agg.Count 0) answers.now) }
-    ensures too_large { IfErr result (λ _. IsInRange (Agg.Count 0) answers.now → ⊥) }
+    ensures err { IfErr result (IsUnmade (Agg.Count 0) answers.now) }
 {
     let mut count: u64 = 0;
     for place in 0..answers.len() {
         let Some(more) = count.checked_add(count_in(&answers[place])) else {
-            return Err(place);
+            return Err(Unmade::TooLarge(place));
         };
         count = more;
     }
     Ok(Answer::Count(count))
 }
 
-fn sum_of(answers: &[Answer]) -> Result<Answer, usize>
+fn sum_of(answers: &[Answer]) -> Result<Answer, Unmade>
     ensures made { IfOk result (MakesAnswer (Agg.Sum 0) answers.now) }
     ensures fits { IfOk result (λ _. IsInRange (Agg.Sum 0) answers.now) }
-    ensures too_large { IfErr result (λ _. IsInRange (Agg.Sum 0) answers.now → ⊥) }
+    ensures err { IfErr result (IsUnmade (Agg.Sum 0) answers.now) }
 {
     let mut total = Total::ZERO;
     let mut is_null = true;
@@ -61,7 +68,7 @@ fn sum_of(answers: &[Answer]) -> Result<Answer, usize>
     }
     match total.get() {
         Some(sum) => Ok(Answer::Whole(sum)),
-        None => Err(first_too_large(answers)),
+        None => Err(Unmade::TooLarge(first_too_large(answers))),
     }
 }
 
@@ -79,15 +86,15 @@ fn first_too_large(answers: &[Answer]) -> usize {
     answers.len()
 }
 
-fn squares_of(answers: &[Answer]) -> Result<Answer, usize>
+fn squares_of(answers: &[Answer]) -> Result<Answer, Unmade>
     ensures made { IfOk result (MakesAnswer (Agg.SumOfSquares 0) answers.now) }
     ensures fits { IfOk result (λ _. IsInRange (Agg.SumOfSquares 0) answers.now) }
-    ensures too_large { IfErr result (λ _. IsInRange (Agg.SumOfSquares 0) answers.now → ⊥) }
+    ensures err { IfErr result (IsUnmade (Agg.SumOfSquares 0) answers.now) }
 {
     let mut made = Answer::Null;
     for place in 0..answers.len() {
-        let Some(more) = with_squares(&made, &answers[place]) else {
-            return Err(place);
+        let Some(more) = with_squares(made, &answers[place]) else {
+            return Err(Unmade::TooLarge(place));
         };
         made = more;
     }
@@ -95,19 +102,18 @@ fn squares_of(answers: &[Answer]) -> Result<Answer, usize>
 }
 
 // A sum of squares with one more, where it isn't too large for its type.
-fn with_squares(made: &Answer, answer: &Answer) -> Option<Answer>
-    ensures some { IfSome result (JoinsAnswer (Agg.SumOfSquares 0) made.now answer.now) }
-    ensures fits { squares_answered made.now < 2 ^ 192 → IfSome result (λ new. squares_answered new < 2 ^ 192) }
-    ensures none { IfNone result (2 ^ 192 ≤ squares_answered made.now + squares_answered answer.now) }
+fn with_squares(made: Answer, answer: &Answer) -> Option<Answer>
+    ensures some { IfSome result (JoinsAnswer (Agg.SumOfSquares 0) made answer.now) }
+    ensures fits { squares_answered made < 2 ^ 192 → IfSome result (λ new. squares_answered new < 2 ^ 192) }
+    ensures none { IfNone result (2 ^ 192 ≤ squares_answered made + squares_answered answer.now) }
 {
     let Some(more) = squares_in(answer) else {
-        return Some(*made);
+        return Some(made);
     };
-    let Some(squares) = squares_in(made) else {
+    let Some(squares) = squares_in(&made) else {
         return Some(Answer::Squares(more));
     };
     let sum = squares.checked_add(more)?;
-    let _number = sum.number();
     Some(Answer::Squares(sum))
 }
 
@@ -116,7 +122,7 @@ fn least_of(answers: &[Answer]) -> Answer
 {
     let mut made = Answer::Null;
     for place in 0..answers.len() {
-        made = least(&made, &answers[place]);
+        made = least(made, &answers[place]);
     }
     made
 }
@@ -126,18 +132,18 @@ fn greatest_of(answers: &[Answer]) -> Answer
 {
     let mut made = Answer::Null;
     for place in 0..answers.len() {
-        made = greatest(&made, &answers[place]);
+        made = greatest(made, &answers[place]);
     }
     made
 }
 
-fn least(made: &Answer, answer: &Answer) -> Answer
-    ensures { JoinsAnswer (Agg.Min 0) made.now answer.now result }
+fn least(made: Answer, answer: &Answer) -> Answer
+    ensures { JoinsAnswer (Agg.Min 0) made answer.now result }
 {
     let Some(number) = number_in(answer) else {
-        return *made;
+        return made;
     };
-    let Some(best) = number_in(made) else {
+    let Some(best) = number_in(&made) else {
         return Answer::Whole(number);
     };
     if best <= number {
@@ -147,13 +153,13 @@ fn least(made: &Answer, answer: &Answer) -> Answer
     }
 }
 
-fn greatest(made: &Answer, answer: &Answer) -> Answer
-    ensures { JoinsAnswer (Agg.Max 0) made.now answer.now result }
+fn greatest(made: Answer, answer: &Answer) -> Answer
+    ensures { JoinsAnswer (Agg.Max 0) made answer.now result }
 {
     let Some(number) = number_in(answer) else {
-        return *made;
+        return made;
     };
-    let Some(best) = number_in(made) else {
+    let Some(best) = number_in(&made) else {
         return Answer::Whole(number);
     };
     if number <= best {
@@ -167,11 +173,17 @@ fn greatest(made: &Answer, answer: &Answer) -> Answer
 pub(crate) fn mean_of(sum: &Answer, count: &Answer) -> Answer
     ensures { IsMeanOf (sum_answered sum.now) (count_answered count.now) result }
 {
-    let values = count_in(count);
-    if values == 0 {
+    mean_by(total_in(sum), count_in(count))
+}
+
+/// The same of the numbers themselves.
+pub(crate) fn mean_by(total: i128, count: u64) -> Answer
+    ensures { IsMeanOf total count result }
+{
+    if count == 0 {
         return Answer::Null;
     }
-    let (p, q) = reduced(total_in(sum), values);
+    let (p, q) = reduced(total, count);
     Answer::Ratio { p, q }
 }
 
@@ -181,22 +193,31 @@ pub(crate) fn variance_of(is_sample: bool, count: &Answer, sum: &Answer, squares
     ensures { IsVarianceOf is_sample (count_answered count.now) (sum_answered sum.now)
         (squares_answered squares.now) result }
 {
-    let Some(all_squares) = squares_answered(squares) else {
-        return Answer::Null;
-    };
-    match variance_from(count_in(count), total_in(sum), all_squares, is_sample) {
+    variance_by(
+        is_sample,
+        count_in(count),
+        total_in(sum),
+        squares_answered(squares),
+    )
+}
+
+/// The same of the numbers themselves.
+pub(crate) fn variance_by(is_sample: bool, count: u64, total: i128, squares: Squares) -> Answer
+    ensures { IsVarianceOf is_sample count total squares result }
+{
+    match variance_from(count, total, squares, is_sample) {
         Some((p, q)) => Answer::Variance { p, q },
         None => Answer::Null,
     }
 }
 
 // The sum of squares that an answer is; 0, which is one too, where it is none.
-fn squares_answered(answer: &Answer) -> Option<Squares>
-    ensures { result ≡ Some (squares_answered answer.now) }
+fn squares_answered(answer: &Answer) -> Squares
+    ensures { result ≡ squares_answered answer.now }
 {
     match answer {
-        Answer::Squares(squares) => Some(*squares),
-        _ => Squares::of(Wide::of(0)),
+        Answer::Squares(squares) => *squares,
+        _ => Squares::none(),
     }
 }
 
@@ -240,12 +261,50 @@ fn squares_in(answer: &Answer) -> Option<Squares>
     Some(*squares)
 }
 
-/// The answer at a place; null past the last one.
-pub(crate) fn answer_at(answers: &[Answer], place: usize) -> Answer
-    ensures { result ≡ get_or answers.now place Answer.Null }
+/// The pairs of an answer; none where it lists no values.
+pub(crate) fn pairs_of(answer: &Answer) -> &[(i64, u64)]
+    ensures values { values_held result.now ≡ values_answered answer.now }
+    ensures listed { IsOrderly answer.now → AreListed result.now }
+{
+    match answer {
+        Answer::Values(pairs) => pairs.as_slice(),
+        _ => &[],
+    }
+}
+
+/// The answer at a place; this other one past the last.
+pub(crate) fn answer_or<'a>(answers: &'a [Answer], place: usize, other: &'a Answer) -> &'a Answer
+    ensures { result.now ≡ get_or answers.now place other.now }
 {
     match answers.get(place) {
-        Some(answer) => *answer,
-        None => Answer::Null,
+        Some(answer) => answer,
+        None => other,
+    }
+}
+
+/// A copy; the only error is that memory ran out.
+pub(crate) fn copy_of(alloc: Global, answer: &Answer) -> Result<Answer, AllocError>
+    ensures { IfOk result (λ copy. copy ≡ answer.now) }
+{
+    match answer {
+        Answer::Values(pairs) => {
+            let copy = Vec::from_slice(alloc, pairs.as_slice())?;
+            Ok(Answer::Values(Sequence::from_vec(copy)))
+        }
+        _ => Ok(without_values(answer)),
+    }
+}
+
+/// A copy, but that null stands in place of values; it takes no memory.
+pub(crate) fn without_values(answer: &Answer) -> Answer
+    ensures { result ≡ without_values answer.now }
+{
+    match answer {
+        Answer::Null | Answer::Values(_) => Answer::Null,
+        Answer::Count(count) => Answer::Count(*count),
+        Answer::Whole(number) => Answer::Whole(*number),
+        Answer::Ratio { p, q } => Answer::Ratio { p: *p, q: *q },
+        Answer::Squares(squares) => Answer::Squares(*squares),
+        Answer::Variance { p, q } => Answer::Variance { p: *p, q: *q },
     }
 }

@@ -1,15 +1,13 @@
 //! What a row tells of itself: whether a printed cube can have it.
-ghost use Rattle.std.specs.Prelude.{◌≡◌, ◌<◌, ◌^◌, length, true, unsigned_abs};
-ghost use Rattle.std.specs.Int.{IsGcd};
+ghost use Rattle.std.specs.Prelude.{◌≡◌, length, true};
 ghost use Rattle.std.specs.List.{AllZip, list_all};
 ghost use Rattle.cube_core.specs.GroupingSet.{is_all_coord};
-ghost use Rattle.cube_merge.specs.Lawful.{AreVariances, IsVarianceAmong, IsVarianceBeside, tells_no_value};
-ghost use Rattle.cube_merge.specs.Lawful.{AreAlike, AreConsistent, AreMeans, IsMeanAmong, IsMeanByCount, IsMeanOfSum, IsOnlyAnswer, IsRightRow, IsSameAnswer, AreInOrder, AreNoneTogether, IsAtPlace, CountsFacts, IsNoneAmong, TellsNone, measure_of, tells_none, IsAtLeast, IsFraction, IsInOrder, IsWithin, IsNumber, IsOfKind, IsLawfulRow, IsSquares, IsValue, IsVarianceFraction, has_no_null_text, is_no_null_text};
+ghost use Rattle.cube_merge.specs.Lawful.{AreInOrder, AreNoneTogether, CountsFacts, IsAtLeast, IsInOrder, IsLawfulRow, IsNoneAmong, IsOfKind, IsRightRow};
+ghost use Rattle.cube_merge.specs.Lawful.{IsWithin, TellsNone, has_no_null_text, is_no_null_text, measure_of, tells_no_value, tells_none};
 
-use crate::gather::{answer_at, mean_of, variance_of};
-use crate::places::place_in;
-use crate::source::place_of;
-use cube_core::{Agg, Answer, Coord, Key, Row, Schema, Wide, reduced};
+use crate::consistent::is_row_consistent;
+use crate::kind::are_of_kind;
+use cube_core::{Agg, Answer, Coord, Key, Row, Schema};
 
 /// Whether a printed cube of the schema can have this row, as far as the row alone tells: that it is a row of the schema, its
 /// grouping set, and that its answers don't gainsay one another. The places are those of the schema's aggregates.
@@ -57,129 +55,6 @@ fn is_no_null_text(coord: &Coord) -> bool
         Coord::Text(text) => text.as_str() != "\\N",
         Coord::Null | Coord::All => true,
     }
-}
-
-// Whether these are answers to the aggregates, each of its kind.
-fn are_of_kind(aggregates: &[Agg], answers: &[Answer]) -> bool
-    ensures { result ≡ true → AllZip IsOfKind aggregates.now answers.now }
-{
-    if aggregates.len() != answers.len() {
-        return false;
-    }
-    for place in 0..aggregates.len() {
-        if !is_of_kind(&aggregates[place], answers[place]) {
-            return false;
-        }
-    }
-    true
-}
-
-fn is_of_kind(aggregate: &Agg, answer: Answer) -> bool
-    ensures { result ≡ true → IsOfKind aggregate.now answer }
-{
-    match aggregate {
-        Agg::CountAll | Agg::Count(_) | Agg::CountDistinct(_) => {
-            matches!(answer, Answer::Count(_))
-        }
-        Agg::Sum(_) => is_number(answer),
-        Agg::Min(_) | Agg::Max(_) | Agg::PercentileDisc { .. } => is_value(answer),
-        Agg::Avg(_) => is_fraction(answer),
-        Agg::SumOfSquares(_) => is_squares(answer),
-        Agg::VarPop(_) | Agg::VarSamp(_) => is_variance_fraction(answer),
-    }
-}
-
-fn is_number(answer: Answer) -> bool
-    ensures { result ≡ true → IsNumber answer }
-{
-    matches!(answer, Answer::Null | Answer::Whole(_))
-}
-
-// Whether an answer can be a value of a measure, or is null.
-fn is_value(answer: Answer) -> bool
-    ensures { result ≡ true → IsValue answer }
-{
-    match answer {
-        Answer::Null => true,
-        Answer::Whole(number) => {
-            number >= i128::from(i64::MIN) && number <= i128::from(i64::MAX)
-        }
-        Answer::Count(_) | Answer::Ratio { .. } | Answer::Squares(_) | Answer::Variance { .. } => {
-            false
-        }
-    }
-}
-
-fn is_fraction(answer: Answer) -> bool
-    ensures { result ≡ true → IsFraction answer }
-{
-    match answer {
-        Answer::Null => true,
-        Answer::Ratio { p, q } => is_in_lowest_terms(p, q),
-        Answer::Count(_) | Answer::Whole(_) | Answer::Squares(_) | Answer::Variance { .. } => {
-            false
-        }
-    }
-}
-
-fn is_in_lowest_terms(p: i128, q: u64) -> bool
-    ensures { result ≡ true → (0 < q) × IsGcd (unsigned_abs p) q 1 }
-{
-    if q == 0 {
-        return false;
-    }
-    let (numerator, denominator) = reduced(p, q);
-    numerator == p && denominator == q
-}
-
-fn is_squares(answer: Answer) -> bool
-    ensures { result ≡ true → IsSquares answer }
-{
-    match answer {
-        Answer::Null => true,
-        Answer::Squares(squares) => {
-            let _number = squares.number();
-            true
-        }
-        Answer::Count(_) | Answer::Whole(_) | Answer::Ratio { .. } | Answer::Variance { .. } => {
-            false
-        }
-    }
-}
-
-fn is_variance_fraction(answer: Answer) -> bool
-    ensures { result ≡ true → IsVarianceFraction answer }
-{
-    match answer {
-        Answer::Null => true,
-        Answer::Variance { p, q } => is_wide(p) && is_in_wide_terms(p, q),
-        Answer::Count(_) | Answer::Whole(_) | Answer::Ratio { .. } | Answer::Squares(_) => false,
-    }
-}
-
-// Whether a number is below 2^256, as each is.
-fn is_wide(number: Wide) -> bool
-    ensures { result ≡ true → number < 2 ^ 256 }
-{
-    number.saturating_add(Wide::of(0)) == number
-}
-
-fn is_in_wide_terms(p: Wide, q: u128) -> bool
-    ensures { result ≡ true → (0 < q) × IsGcd p q 1 }
-{
-    q != 0 && greatest_common_divisor(q, p.rest(q)) == 1
-}
-
-// Euclid's algorithm.
-fn greatest_common_divisor(left: u128, right: u128) -> u128
-    ensures { IsGcd left right result }
-{
-    let mut divisor = left;
-    let mut rest = right;
-    while rest != 0 {
-        (divisor, rest) = (rest, divisor % rest);
-    }
-    divisor
 }
 
 /// Whether the key of a row is ALL in each dimension.
@@ -288,7 +163,8 @@ fn is_none_of(measure: usize, aggregate: &Agg, answer: &Answer) -> bool
     measure_of(aggregate) != Some(measure) || tells_none(answer)
 }
 
-fn measure_of(aggregate: &Agg) -> Option<usize>
+/// The measure that an aggregate is of, if it is of one.
+pub(crate) fn measure_of(aggregate: &Agg) -> Option<usize>
     ensures { result ≡ measure_of aggregate.now }
 {
     match aggregate {
@@ -302,6 +178,7 @@ fn measure_of(aggregate: &Agg) -> Option<usize>
         | Agg::SumOfSquares(measure)
         | Agg::VarPop(measure)
         | Agg::VarSamp(measure)
+        | Agg::Values(measure)
         | Agg::PercentileDisc { measure, .. } => Some(*measure),
     }
 }
@@ -313,6 +190,7 @@ fn tells_none(answer: &Answer) -> bool
     match answer {
         Answer::Null => true,
         Answer::Count(count) => *count == 0,
+        Answer::Values(pairs) => pairs.is_empty(),
         Answer::Whole(_) | Answer::Ratio { .. } | Answer::Squares(_) | Answer::Variance { .. } => {
             false
         }
@@ -380,246 +258,4 @@ fn is_in_order(least: &Answer, greatest: &Answer) -> bool
         (Answer::Whole(least), Answer::Whole(greatest)) => least <= greatest,
         _ => true,
     }
-}
-
-// Whether the answers of a row don't gainsay one another.
-fn is_row_consistent(schema: &Schema, places: &[usize], row: &Row) -> bool
-    ensures { result ≡ true → AreConsistent schema.now.aggregates row.now.answers }
-{
-    are_consistent(schema.aggregates(), places, row.answers.as_slice())
-}
-
-fn are_consistent(aggregates: &[Agg], places: &[usize], answers: &[Answer]) -> bool
-    ensures { result ≡ true → AreConsistent aggregates.now answers.now }
-{
-    are_alike(aggregates, places, answers)
-        && are_means(aggregates, answers)
-        && are_variances(aggregates, answers)
-}
-
-// Whether an aggregate that stands twice has the same answer. Where each answer is that at its aggregate's place, all have;
-// else each is compared with each.
-#[tactic(auto, using(crate::proofs::LawfulLaws::alike_at_places))]
-fn are_alike(aggregates: &[Agg], places: &[usize], answers: &[Answer]) -> bool
-    ensures { result ≡ true → AreAlike aggregates.now answers.now }
-{
-    are_at_places(aggregates, places, answers) || is_each_alike(aggregates, answers)
-}
-
-fn are_at_places(aggregates: &[Agg], places: &[usize], answers: &[Answer]) -> bool
-    ensures { result ≡ true → AllZip (IsAtPlace places.now answers.now) aggregates.now answers.now }
-{
-    if aggregates.len() != answers.len() {
-        return false;
-    }
-    for place in 0..aggregates.len() {
-        if !is_at_place(places, answers, &aggregates[place], &answers[place]) {
-            return false;
-        }
-    }
-    true
-}
-
-fn is_at_place(places: &[usize], answers: &[Answer], aggregate: &Agg, answer: &Answer) -> bool
-    ensures { result ≡ true → IsAtPlace places.now answers.now aggregate.now answer.now }
-{
-    answer_at(answers, place_in(places, aggregate)) == *answer
-}
-
-fn is_each_alike(aggregates: &[Agg], answers: &[Answer]) -> bool
-    ensures { result ≡ true → AreAlike aggregates.now answers.now }
-{
-    if aggregates.len() != answers.len() {
-        return false;
-    }
-    for place in 0..aggregates.len() {
-        if !is_only_answer(aggregates, answers, &aggregates[place], &answers[place]) {
-            return false;
-        }
-    }
-    true
-}
-
-// Whether each answer to an aggregate among answers is this one.
-fn is_only_answer(aggregates: &[Agg], answers: &[Answer], aggregate: &Agg, answer: &Answer) -> bool
-    ensures { result ≡ true → IsOnlyAnswer aggregates.now answers.now aggregate.now answer.now }
-{
-    if aggregates.len() != answers.len() {
-        return false;
-    }
-    for place in 0..aggregates.len() {
-        if !is_same_answer(aggregate, answer, &aggregates[place], &answers[place]) {
-            return false;
-        }
-    }
-    true
-}
-
-fn is_same_answer(aggregate: &Agg, answer: &Answer, other: &Agg, its_answer: &Answer) -> bool
-    ensures { result ≡ true → IsSameAnswer aggregate.now answer.now other.now its_answer.now }
-{
-    *other != *aggregate || *its_answer == *answer
-}
-
-// Whether each mean is the sum by the count of its measure, where these stand beside it.
-fn are_means(aggregates: &[Agg], answers: &[Answer]) -> bool
-    ensures { result ≡ true → AreMeans aggregates.now answers.now }
-{
-    if aggregates.len() != answers.len() {
-        return false;
-    }
-    for place in 0..aggregates.len() {
-        if !is_mean_among(aggregates, answers, &aggregates[place], &answers[place]) {
-            return false;
-        }
-    }
-    true
-}
-
-fn is_mean_among(aggregates: &[Agg], answers: &[Answer], aggregate: &Agg, answer: &Answer) -> bool
-    ensures { result ≡ true → IsMeanAmong aggregates.now answers.now aggregate.now answer.now }
-{
-    match aggregate {
-        Agg::Avg(measure) => is_mean(aggregates, answers, *measure, answer),
-        _ => true,
-    }
-}
-
-// Whether an answer is the mean of a measure, by its sum and its count among answers.
-fn is_mean(aggregates: &[Agg], answers: &[Answer], measure: usize, mean: &Answer) -> bool
-    ensures { result ≡ true → AllZip (IsMeanOfSum aggregates.now answers.now measure mean.now) aggregates.now answers.now }
-{
-    if aggregates.len() != answers.len() {
-        return false;
-    }
-    for place in 0..aggregates.len() {
-        let aggregate = &aggregates[place];
-        if !is_mean_of_sum(
-            aggregates,
-            answers,
-            measure,
-            mean,
-            aggregate,
-            &answers[place],
-        ) {
-            return false;
-        }
-    }
-    true
-}
-
-// The same, where this answer is that sum.
-fn is_mean_of_sum(
-    aggregates: &[Agg],
-    answers: &[Answer],
-    measure: usize,
-    mean: &Answer,
-    aggregate: &Agg,
-    answer: &Answer,
-) -> bool
-    ensures { result ≡ true → IsMeanOfSum aggregates.now answers.now measure mean.now aggregate.now answer.now }
-{
-    match aggregate {
-        Agg::Sum(other) => {
-            *other != measure || is_mean_by(aggregates, answers, measure, mean, answer)
-        }
-        _ => true,
-    }
-}
-
-// Whether an answer is the mean of a measure that has this sum, by its count among answers.
-fn is_mean_by(
-    aggregates: &[Agg],
-    answers: &[Answer],
-    measure: usize,
-    mean: &Answer,
-    sum: &Answer,
-) -> bool
-    ensures { result ≡ true → AllZip (IsMeanByCount measure mean.now sum.now) aggregates.now answers.now }
-{
-    if aggregates.len() != answers.len() {
-        return false;
-    }
-    for place in 0..aggregates.len() {
-        if !is_mean_by_count(measure, mean, sum, &aggregates[place], &answers[place]) {
-            return false;
-        }
-    }
-    true
-}
-
-fn is_mean_by_count(
-    measure: usize,
-    mean: &Answer,
-    sum: &Answer,
-    aggregate: &Agg,
-    answer: &Answer,
-) -> bool
-    ensures { result ≡ true → IsMeanByCount measure mean.now sum.now aggregate.now answer.now }
-{
-    match aggregate {
-        Agg::Count(other) => *other != measure || *mean == mean_of(sum, answer),
-        _ => true,
-    }
-}
-
-// Whether each variance is that of the count, the sum and the sum of squares of its measure, where these stand beside it and
-// an aggregate that stands twice has the same answer.
-fn are_variances(aggregates: &[Agg], answers: &[Answer]) -> bool
-    ensures { result ≡ true → AreAlike aggregates.now answers.now → AreVariances aggregates.now answers.now }
-{
-    if aggregates.len() != answers.len() {
-        return false;
-    }
-    for place in 0..aggregates.len() {
-        if !is_variance_among(aggregates, answers, &aggregates[place], &answers[place]) {
-            return false;
-        }
-    }
-    true
-}
-
-fn is_variance_among(
-    aggregates: &[Agg],
-    answers: &[Answer],
-    aggregate: &Agg,
-    answer: &Answer,
-) -> bool
-    ensures { result ≡ true → AreAlike aggregates.now answers.now →
-        IsVarianceAmong aggregates.now answers.now aggregate.now answer.now }
-{
-    match aggregate {
-        Agg::VarPop(measure) => is_variance(false, aggregates, answers, *measure, answer),
-        Agg::VarSamp(measure) => is_variance(true, aggregates, answers, *measure, answer),
-        _ => true,
-    }
-}
-
-// Whether an answer is the variance of a measure, by the first count, sum and sum of squares of it among answers.
-fn is_variance(
-    is_sample: bool,
-    aggregates: &[Agg],
-    answers: &[Answer],
-    measure: usize,
-    variance: &Answer,
-) -> bool
-    ensures { result ≡ true → AreAlike aggregates.now answers.now →
-        IsVarianceBeside is_sample aggregates.now answers.now measure variance.now }
-{
-    let Some(counts) = place_of(aggregates, &Agg::Count(measure)) else {
-        return true;
-    };
-    let Some(sums) = place_of(aggregates, &Agg::Sum(measure)) else {
-        return true;
-    };
-    let Some(squares) = place_of(aggregates, &Agg::SumOfSquares(measure)) else {
-        return true;
-    };
-    *variance
-        == variance_of(
-            is_sample,
-            &answer_at(answers, counts),
-            &answer_at(answers, sums),
-            &answer_at(answers, squares),
-        )
 }

@@ -6,7 +6,7 @@ use cube_core::Agg;
 use std::alloc::{AllocError, Global};
 
 // How many numbers aggregates have.
-const NUMBERS: usize = 101;
+const NUMBERS: usize = 105;
 
 /// The last place where each aggregate stands, by the aggregate's number. Only how soon a row is known to be right rests
 /// on it.
@@ -36,17 +36,18 @@ fn number_of(aggregate: &Agg) -> usize
 {
     match aggregate {
         Agg::CountAll => 0,
-        Agg::Count(measure) => *measure % 4 * 9 + 1,
-        Agg::Sum(measure) => *measure % 4 * 9 + 2,
-        Agg::Min(measure) => *measure % 4 * 9 + 3,
-        Agg::Max(measure) => *measure % 4 * 9 + 4,
-        Agg::Avg(measure) => *measure % 4 * 9 + 5,
-        Agg::CountDistinct(measure) => *measure % 4 * 9 + 6,
-        Agg::SumOfSquares(measure) => *measure % 4 * 9 + 7,
-        Agg::VarPop(measure) => *measure % 4 * 9 + 8,
-        Agg::VarSamp(measure) => *measure % 4 * 9 + 9,
+        Agg::Count(measure) => *measure % 4 * 10 + 1,
+        Agg::Sum(measure) => *measure % 4 * 10 + 2,
+        Agg::Min(measure) => *measure % 4 * 10 + 3,
+        Agg::Max(measure) => *measure % 4 * 10 + 4,
+        Agg::Avg(measure) => *measure % 4 * 10 + 5,
+        Agg::CountDistinct(measure) => *measure % 4 * 10 + 6,
+        Agg::SumOfSquares(measure) => *measure % 4 * 10 + 7,
+        Agg::VarPop(measure) => *measure % 4 * 10 + 8,
+        Agg::VarSamp(measure) => *measure % 4 * 10 + 9,
+        Agg::Values(measure) => *measure % 4 * 10 + 10,
         Agg::PercentileDisc { measure, units, .. } => {
-            *measure % 4 * 16 + usize::from(*units) % 16 + 37
+            *measure % 4 * 16 + usize::from(*units) % 16 + 41
         }
     }
 }

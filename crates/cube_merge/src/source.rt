@@ -1,14 +1,17 @@
 //! Where the answers to the wanted aggregates come from.
-ghost use Rattle.std.specs.Prelude.{◌≡◌, IfNone, IfOk, IfSome, Some, slice_get, false, List};
+ghost use Rattle.std.specs.Prelude.{◌≡◌, All, IfNone, IfOk, IfSome, Some, slice_get, true, false, List};
 ghost use Rattle.std.specs.List.{AllZip, list_all};
-ghost use Rattle.cube_core.specs.Merged.{IsMerged};
-ghost use Rattle.cube_merge.specs.Made.{AreMadeOfRows};
-ghost use Rattle.cube_merge.specs.Source.{IsSourceOf, IsVarianceSource, can_be_made, can_make_variance};
+ghost use Rattle.cube_core.specs.Answer.{IsDistinctCount, IsPercentile};
+ghost use Rattle.cube_core.specs.Layout.{is_level};
+ghost use Rattle.cube_core.specs.Merged.{IsMerged, values_answered};
+ghost use Rattle.cube_merge.specs.Made.{AreMadeOfRows, AreOrderly, IsOrderly};
+ghost use Rattle.cube_merge.specs.Source.{HasLevel, IsSourceOf, IsVarianceSource, can_be_made, can_make_variance};
 ghost use Rattle.cube_core.specs.PartialForm.{has_aggregate};
 ghost use Rattle.cube_core.specs.declared.aggregate.Agg.{Agg};
 ghost use Rattle.cube_core.specs.declared.key.Row.{Row};
 
-use crate::gather::{answer_at, mean_of, variance_of};
+use crate::gather::{answer_or, copy_of, mean_of, pairs_of, variance_of};
+use crate::values::{distinct_count_of, percentile_of};
 use cube_core::{Agg, Answer};
 use std::alloc::{AllocError, Global};
 
@@ -29,10 +32,21 @@ pub(crate) enum Source {
         sums: usize,
         squares: usize,
     },
+    /// How many different values those at a place make.
+    Distinct {
+        values: usize,
+    },
+    /// The percentile that values at a place make, at the level of so many units of 10 to the power minus `places`.
+    Percentile {
+        units: u16,
+        places: u8,
+        values: usize,
+    },
 }
 
 /// Whether answers to each wanted aggregate can be made of those to the given ones.
 pub(crate) fn can_all_be_made(given: &[Agg], wanted: &[Agg]) -> bool
+    requires { All HasLevel wanted.now }
     ensures { result ≡ list_all (can_be_made given.now) wanted.now }
 {
     for aggregate in wanted {
@@ -44,6 +58,7 @@ pub(crate) fn can_all_be_made(given: &[Agg], wanted: &[Agg]) -> bool
 }
 
 fn can_be_made(given: &[Agg], wanted: &Agg) -> bool
+    requires { HasLevel wanted.now }
     ensures { result ≡ can_be_made given.now wanted.now }
 {
     match source_of(given, wanted) {
@@ -58,6 +73,7 @@ pub(crate) fn sources_of(
     given: &[Agg],
     wanted: &[Agg],
 ) -> Result<Option<Vec<Source>>, AllocError>
+    requires { All HasLevel wanted.now }
     ensures some { IfOk result (λ found. IfSome found (λ sources.
         AllZip (IsSourceOf given.now) wanted.now sources.items)) }
     ensures none { IfOk result (λ found. IfNone found
@@ -74,6 +90,7 @@ pub(crate) fn sources_of(
 }
 
 fn source_of(given: &[Agg], wanted: &Agg) -> Option<Source>
+    requires { HasLevel wanted.now }
     ensures some { IfSome result (IsSourceOf given.now wanted.now) }
     ensures none { IfNone result (can_be_made given.now wanted.now ≡ false) }
 {
@@ -89,8 +106,20 @@ fn source_of(given: &[Agg], wanted: &Agg) -> Option<Source>
         | Agg::Sum(_)
         | Agg::Min(_)
         | Agg::Max(_)
-        | Agg::SumOfSquares(_) => Some(Source::Made(place_of(given, wanted)?)),
-        Agg::CountDistinct(_) | Agg::PercentileDisc { .. } => None,
+        | Agg::SumOfSquares(_)
+        | Agg::Values(_) => Some(Source::Made(place_of(given, wanted)?)),
+        Agg::CountDistinct(measure) => Some(Source::Distinct {
+            values: place_of(given, &Agg::Values(*measure))?,
+        }),
+        Agg::PercentileDisc {
+            measure,
+            units,
+            places,
+        } => Some(Source::Percentile {
+            units: *units,
+            places: *places,
+            values: place_of(given, &Agg::Values(*measure))?,
+        }),
     }
 }
 
@@ -119,28 +148,59 @@ pub(crate) fn place_of(given: &[Agg], wanted: &Agg) -> Option<usize>
     None
 }
 
-/// The answer from a source, of what the answers at each place made.
-pub(crate) fn answer_from(made: &[Answer], source: &Source) -> Answer
-    ensures { (given : List Agg) (rows : List Row) (aggregate : Agg) →
+/// The answer from a source, of what the answers at each place made. The only error is that memory ran out.
+pub(crate) fn answer_from(
+    alloc: Global,
+    made: &[Answer],
+    source: &Source,
+) -> Result<Answer, AllocError>
+    requires { AreOrderly made.now }
+    ensures { IfOk result (λ answer. (given : List Agg) (rows : List Row) (aggregate : Agg) →
         AreMadeOfRows given rows made.now → IsSourceOf given aggregate source.now →
-        IsMerged given rows aggregate result }
+        IsMerged given rows aggregate answer) }
 {
+    let null = Answer::Null;
     match source {
-        Source::Made(place) => answer_at(made, *place),
-        Source::Mean { sums, counts } => mean_of(
-            &answer_at(made, *sums),
-            &answer_at(made, *counts),
-        ),
+        Source::Made(place) => copy_of(alloc, answer_or(made, *place, &null)),
+        Source::Mean { sums, counts } => Ok(mean_of(
+            answer_or(made, *sums, &null),
+            answer_or(made, *counts, &null),
+        )),
         Source::Variance {
             is_sample,
             counts,
             sums,
             squares,
-        } => variance_of(
+        } => Ok(variance_of(
             *is_sample,
-            &answer_at(made, *counts),
-            &answer_at(made, *sums),
-            &answer_at(made, *squares),
-        ),
+            answer_or(made, *counts, &null),
+            answer_or(made, *sums, &null),
+            answer_or(made, *squares, &null),
+        )),
+        Source::Distinct { values } => Ok(distinct_count_at(answer_or(made, *values, &null))),
+        Source::Percentile {
+            units,
+            places,
+            values,
+        } => Ok(percentile_at(*units, *places, answer_or(made, *values, &null))),
+    }
+}
+
+// How many different values an answer lists.
+fn distinct_count_at(answer: &Answer) -> Answer
+    requires { IsOrderly answer.now }
+    ensures { IsDistinctCount (values_answered answer.now) result }
+{
+    distinct_count_of(pairs_of(answer))
+}
+
+// The percentile of the values that an answer lists; null where its level is above 1.
+fn percentile_at(units: u16, places: u8, answer: &Answer) -> Answer
+    requires { IsOrderly answer.now }
+    ensures { is_level units places ≡ true → IsPercentile units places (values_answered answer.now) result }
+{
+    match percentile_of(units, places, pairs_of(answer)) {
+        Some(percentile) => percentile,
+        None => Answer::Null,
     }
 }

@@ -1,25 +1,27 @@
 //! One step of a merge: the rows with the least key make one more row.
-ghost use Rattle.std.specs.Prelude.{◌≡◌, ◌<◌, ◌+◌, ◌++◌, ℕ, List, IfErr, OnOk, length, get_or, option_map, option_to_list, true};
+ghost use Rattle.std.specs.Prelude.{◌≡◌, ◌≤◌, ◌<◌, ◌+◌, ◌++◌, ◌^◌, ℕ, List, IfErr, IfOk, MatchOption, OnOk, length, map, get_or, option_map, option_to_list, true};
 ghost use Rattle.std.specs.List.{AllZip};
 ghost use Rattle.std.specs.Ordering.{is_eq};
 ghost use Rattle.cube_core.specs.Order.{key_cmp};
 ghost use Rattle.cube_core.specs.declared.aggregate.Agg.{Agg};
-ghost use Rattle.cube_core.specs.Merged.{IsMerged, column};
+ghost use Rattle.cube_core.specs.Answer.{AreValues, values_held};
+ghost use Rattle.cube_core.specs.Merged.{IsMerged, MakesAnswer, column, values_among};
 ghost use Rattle.cube_core.specs.declared.key.Row.{Row};
-ghost use Rattle.cube_merge.specs.Made.{AreMadeOfRows};
-ghost use Rattle.cube_merge.specs.Range.{AreInRange};
+ghost use Rattle.cube_merge.specs.Made.{AreMadeOfRows, AreOrderly, IsOrderly, IsUnmade, without_values};
+ghost use Rattle.cube_merge.specs.Range.{AreInRange, IsInRange};
 ghost use Rattle.cube_merge.specs.Source.{IsSourceOf};
 ghost use Rattle.cube_merge.specs.Front.{AreAbove};
 ghost use Rattle.cube_merge.specs.Joint.{HaveRows, place_where, rows_of};
 ghost use Rattle.cube_merge.specs.Faults.{FailsToJoin, FailsToMake, FailsToMoveAll, IsFaultAt, TellsOverflow};
 ghost use Rattle.cube_merge.specs.Merging.{AllMove, AreUses, IsBelow, IsNotBelow, IsUse, nothing_left, used_rows};
 
-use crate::fault::{InputFault, MergeFault};
+use crate::fault::{InputFault, MergeFault, Unmade};
 use crate::front::is_behind;
-use crate::gather::{answer_at, made_of};
+use crate::gather::{answer_or, made_of, pairs_of, without_values};
 use crate::input::Input;
 use crate::source::{Source, answer_from};
-use cube_core::{Agg, Answer, Key, Row, Schema};
+use cube_core::{Agg, Answer, Key, Row, Schema, Sequence};
+use cube_values::held;
 use std::alloc::{AllocError, Global};
 use std::cmp::Ordering;
 use std::io::Read;
@@ -54,6 +56,7 @@ impl Joint {
 /// Joins the answers of each row that has the key, the least, and tells whose rows they are. Rows of inputs that are behind
 /// are above it.
 pub(crate) fn join_rows<R: Read>(
+    alloc: Global,
     given: &[Agg],
     inputs: &[Input<R>],
     behind: &[bool],
@@ -66,12 +69,14 @@ pub(crate) fn join_rows<R: Read>(
     ensures uses { OnOk result (AreUses key.now joint.new.used.items inputs.now) }
     ensures made { OnOk result
         (AreMadeOfRows given.now (used_rows joint.new.used.items inputs.now) joint.new.made.items) }
+    ensures orderly { OnOk result (AreOrderly joint.new.made.items) }
     ensures fit { OnOk result
         (AreInRange given.now (used_rows joint.new.used.items inputs.now)) }
     ensures err { IfErr result (FailsToJoin given.now inputs.now) }
 {
     find_used(inputs, behind, key, &mut joint.used, &mut joint.places)?;
     make_answers(
+        alloc,
         given,
         inputs,
         joint.places.as_slice(),
@@ -132,6 +137,7 @@ fn has_key<R: Read>(input: &Input<R>, is_behind: bool, key: &Key) -> bool
 
 // Puts what the rows of the inputs at these places make of each aggregate in place of what the list holds.
 fn make_answers<R: Read>(
+    alloc: Global,
     given: &[Agg],
     inputs: &[Input<R>],
     places: &[usize],
@@ -140,28 +146,118 @@ fn make_answers<R: Read>(
 ) -> Result<(), MergeFault>
     requires { HaveRows inputs.now places.now }
     ensures made { OnOk result (AreMadeOfRows given.now (rows_of inputs.now places.now) made.new.items) }
+    ensures orderly { OnOk result (AreOrderly made.new.items) }
     ensures fit { OnOk result (AreInRange given.now (rows_of inputs.now places.now)) }
     ensures err { IfErr result (FailsToMake given.now inputs.now places.now) }
 {
     made.clear();
     for place in 0..given.len() {
-        put_column(inputs, places, place, column)?;
-        match made_of(&given[place], column.as_slice()) {
+        match make_answer(alloc, &given[place], inputs, places, place, column) {
             Ok(answer) => made.push(answer)?,
-            Err(which) => return Err(overflow_of(inputs, places, which)),
+            Err(Unmade::Memory) => return Err(MergeFault::Memory),
+            Err(Unmade::TooLarge(which)) => return Err(overflow_of(inputs, places, which)),
         }
     }
     Ok(())
 }
 
-// Puts the answers at a place of the rows of the inputs at these places in place of what the list holds.
+// What the answers to an aggregate, which stand at a place of the rows of the inputs at these places, make; the list gets
+// other answers.
+fn make_answer<R: Read>(
+    alloc: Global,
+    aggregate: &Agg,
+    inputs: &[Input<R>],
+    places: &[usize],
+    at: usize,
+    answers: &mut Vec<Answer>,
+) -> Result<Answer, Unmade>
+    ensures made { IfOk result (MakesAnswer aggregate.now (column at (rows_of inputs.now places.now))) }
+    ensures orderly { IfOk result IsOrderly }
+    ensures fits { IfOk result (λ _. IsInRange aggregate.now (column at (rows_of inputs.now places.now))) }
+    ensures err { IfErr result (IsUnmade aggregate.now (column at (rows_of inputs.now places.now))) }
+{
+    match aggregate {
+        Agg::Values(_) => joined_values(alloc, inputs, places, at),
+        _ => {
+            put_column(inputs, places, at, answers)?;
+            made_of(aggregate, answers.as_slice())
+        }
+    }
+}
+
+// The values that the answers at a place of the rows of the inputs at these places list, put together in order.
+fn joined_values<R: Read>(
+    alloc: Global,
+    inputs: &[Input<R>],
+    places: &[usize],
+    at: usize,
+) -> Result<Answer, Unmade>
+    ensures made { IfOk result (AreValues (values_among (column at (rows_of inputs.now places.now)))) }
+    ensures orderly { IfOk result IsOrderly }
+    ensures fits { IfOk result (λ _.
+        IsInRange (Agg.Values 0) (column at (rows_of inputs.now places.now))) }
+    ensures err { IfErr result (IsUnmade (Agg.Values 0) (column at (rows_of inputs.now places.now))) }
+{
+    let pairs = joined_pairs(alloc, inputs, places, at)?;
+    Ok(Answer::Values(Sequence::from_vec(held::in_order(pairs))))
+}
+
+// The pairs of these answers, one after another.
+fn joined_pairs<R: Read>(
+    alloc: Global,
+    inputs: &[Input<R>],
+    places: &[usize],
+    at: usize,
+) -> Result<Vec<(i64, u64)>, Unmade>
+    ensures values { IfOk result (λ pairs.
+        values_held pairs.items ≡ values_among (column at (rows_of inputs.now places.now))) }
+    ensures fits { IfOk result (λ pairs. length (values_held pairs.items) < 2 ^ 64) }
+    ensures err { IfErr result (IsUnmade (Agg.Values 0) (column at (rows_of inputs.now places.now))) }
+{
+    let mut joined = Vec::new(alloc);
+    let mut count: u64 = 0;
+    for place in 0..places.len() {
+        let pairs = pairs_at(row_at(inputs, places[place]), at);
+        let Some(more) = count_with(count, pairs) else {
+            return Err(Unmade::TooLarge(place));
+        };
+        count = more;
+        joined.extend_from_slice(pairs)?;
+    }
+    Ok(joined)
+}
+
+// The pairs of the answer at a place of a row, where there is a row.
+fn pairs_at(row: Option<&Row>, at: usize) -> &[(i64, u64)]
+    ensures { values_held result.now ≡ values_among (column at (option_to_list (option_map (λ row. row.now) row.entry))) }
+{
+    let Some(row) = row else {
+        return &[];
+    };
+    match row.answers.as_slice().get(at) {
+        Some(answer) => pairs_of(answer),
+        None => &[],
+    }
+}
+
+// A count of values with that of more; None where it is too large for its type.
+fn count_with(count: u64, pairs: &[(i64, u64)]) -> Option<u64>
+    ensures { MatchOption result (2 ^ 64 ≤ count + length (values_held pairs.now))
+        (λ sum. sum ≡ count + length (values_held pairs.now)) }
+{
+    count.checked_add(held::count_of(pairs)?)
+}
+
+// Puts the answers at a place of the rows of the inputs at these places, with null in place of values, in place of what the
+// list holds.
 fn put_column<R: Read>(
     inputs: &[Input<R>],
     places: &[usize],
     at: usize,
     answers: &mut Vec<Answer>,
 ) -> Result<(), AllocError>
-    ensures { OnOk result (answers.new.items ≡ column at (rows_of inputs.now places.now)) }
+    ensures { OnOk result
+        (answers.new.items ≡ map without_values (column at (rows_of inputs.now places.now))) }
 {
     answers.clear();
     for place in places {
@@ -170,13 +266,14 @@ fn put_column<R: Read>(
     Ok(())
 }
 
-// Adds the answer of a row at a place, where there is a row.
+// Adds the answer of a row at a place, with null in place of values, where there is a row.
 fn push_answer(answers: &mut Vec<Answer>, row: Option<&Row>, at: usize) -> Result<(), AllocError>
     ensures { OnOk result (answers.new.items ≡ answers.old.items
-        ++ column at (option_to_list (option_map (λ row. row.now) row.entry))) }
+        ++ map without_values (column at (option_to_list (option_map (λ row. row.now) row.entry)))) }
 {
     if let Some(row) = row {
-        answers.push(answer_at(row.answers.as_slice(), at))?;
+        let null = Answer::Null;
+        answers.push(without_values(answer_or(row.answers.as_slice(), at, &null)))?;
     }
     Ok(())
 }
@@ -190,8 +287,7 @@ fn row_at<R: Read>(inputs: &[Input<R>], place: usize) -> Option<&Row>
     }
 }
 
-// That a count, a sum or a sum of squares of the rows of the inputs at these places is too large, as a merge tells it, by
-// one of them.
+// That what the rows of the inputs at these places make is too large, as a merge tells it, by one of them.
 fn overflow_of<R: Read>(inputs: &[Input<R>], places: &[usize], which: usize) -> MergeFault
     requires { HaveRows inputs.now places.now }
     ensures { TellsOverflow inputs.now (rows_of inputs.now places.now) result }
@@ -202,19 +298,22 @@ fn overflow_of<R: Read>(inputs: &[Input<R>], places: &[usize], which: usize) -> 
     }
 }
 
-/// Puts the answers from each source in place of what the list holds.
+/// Puts the answers from each source in place of what the list holds. The only error is that memory ran out.
 pub(crate) fn put_answers(
+    alloc: Global,
     sources: &[Source],
     made: &[Answer],
     answers: &mut Vec<Answer>,
 ) -> Result<(), AllocError>
+    requires { AreOrderly made.now }
     ensures { OnOk result ((given wanted : List Agg) (rows : List Row) →
         AreMadeOfRows given rows made.now → AllZip (IsSourceOf given) wanted sources.now →
         AllZip (IsMerged given rows) wanted answers.new.items) }
 {
     answers.clear();
     for source in sources {
-        answers.push(answer_from(made, source))?;
+        let answer = answer_from(alloc, made, source)?;
+        answers.push(answer)?;
     }
     Ok(())
 }

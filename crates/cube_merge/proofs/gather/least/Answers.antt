@@ -6,13 +6,13 @@ use Rattle.cube_merge.proofs.GatherLaws.{JoinsAnswer-Min-new}
 use Rattle.cube_merge.proofs.gather.least.Goals as goal
 
 pub returns-in_default : goal.returns-in_default
-returns-in_default c = JoinsAnswer-Min-none c.args.made.now c.args.answer.now (search rules)
+returns-in_default c = JoinsAnswer-Min-none c.args.made c.args.answer.now (search rules)
 
 pub returns-in_default-number_in : goal.returns-in_default-number_in
 returns-in_default-number_in c =
     let fits : FitsSigned w128 c.in-Some.number = search rules in
     rw (to_z-of_z w128 c.in-Some.number fits)
-    (JoinsAnswer-Min-one c.args.made.now c.args.answer.now c.in-Some.number (search rules) (search rules))
+    (JoinsAnswer-Min-one c.args.made c.args.answer.now c.in-Some.number (search rules) (search rules))
 
 pub returns-then-best-number : goal.returns-then-best-number
 returns-then-best-number c =
@@ -23,11 +23,11 @@ returns-then-best-number c =
       to_z-of_z w128 c.in-Some-number_in.best fits_best,
     ) at c.if-best-number.true in
     rw (to_z-of_z w128 c.in-Some-number_in.best fits_best)
-    (JoinsAnswer-Min-stays c.args.made.now c.args.answer.now c.in-Some-number_in.best c.in-Some.number (search rules)
+    (JoinsAnswer-Min-stays c.args.made c.args.answer.now c.in-Some-number_in.best c.in-Some.number (search rules)
     (search rules) (omega (arith, ints, test)))
 
-pub returns-else-best-number : goal.returns-else-best-number
-returns-else-best-number c =
+pub returns : goal.returns
+returns c =
     let fits : FitsSigned w128 c.in-Some.number = search rules in
     let fits_best : FitsSigned w128 c.in-Some-number_in.best = search rules in
     let test = simp (
@@ -35,5 +35,5 @@ returns-else-best-number c =
       to_z-of_z w128 c.in-Some-number_in.best fits_best,
     ) at c.if-best-number.false in
     rw (to_z-of_z w128 c.in-Some.number fits)
-    (JoinsAnswer-Min-new c.args.made.now c.args.answer.now c.in-Some-number_in.best c.in-Some.number (search rules)
+    (JoinsAnswer-Min-new c.args.made c.args.answer.now c.in-Some-number_in.best c.in-Some.number (search rules)
     (search rules) (omega (arith, ints, test)))

@@ -12,6 +12,7 @@ none-in_other (answer.Whole z) other = absurd (other z refl)
 none-in_other (answer.Ratio p q) other = refl
 none-in_other (answer.Squares n) other = refl
 none-in_other (answer.Variance p q) other = refl
+none-in_other (answer.Values held) other = refl
 
 pub returns-in_default-clause-value : goal.returns-in_default-clause-value
 returns-in_default-clause-value c = sym (none-in_other c.args.answer.now c.in_default.not-Whole)

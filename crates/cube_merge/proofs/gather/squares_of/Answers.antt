@@ -4,8 +4,8 @@ use Rattle.cube_merge.specs.Lawful.{squares_answered}
 use Rattle.cube_merge.proofs.SquaresLaws.{IsSumOfAll-answered, sum_of_squares-within}
 use Rattle.cube_merge.proofs.gather.squares_of.Goals as goal
 
-pub returns-in_default-clause-too_large : goal.returns-in_default-clause-too_large
-returns-in_default-clause-too_large c fits =
+pub returns-in_default-clause-err : goal.returns-in_default-clause-err
+returns-in_default-clause-err c fits =
     let answers = c.args.answers.now in
     let place = c.loop-place.place in
     let made = c.loop-place.made in

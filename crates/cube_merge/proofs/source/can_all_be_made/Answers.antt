@@ -6,6 +6,9 @@ use Rattle.cube_core.proofs.ListLaws.{list_all-more}
 use Rattle.cube_merge.specs.Source.{can_be_made}
 use Rattle.cube_merge.proofs.source.can_all_be_made.Goals as goal
 
+pub can_be_made-requires : goal.can_be_made-requires
+can_be_made-requires c = c.requires c.loop-aggregate.aggregate-index _ c.loop-aggregate-test.true
+
 pub loop-aggregate-preserved : goal.loop-aggregate-preserved
 loop-aggregate-preserved c =
     list_all-more (can_be_made c.args.given.now) c.args.wanted.now c.loop-aggregate.aggregate-index _

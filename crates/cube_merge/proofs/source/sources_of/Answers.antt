@@ -10,6 +10,9 @@ loop-aggregate-preserved c =
     c.loop-aggregate.aggregate-index _ c.in-Some.source c.loop-aggregate-test.true c.loop-aggregate.invariant
     (c.in-Some.ensures.some))
 
+pub source_of-requires : goal.source_of-requires
+source_of-requires c = c.requires c.loop-aggregate.aggregate-index _ c.loop-aggregate-test.true
+
 pub returns-in_default-clause-none : goal.returns-in_default-clause-none
 returns-in_default-clause-none c =
     list_all_at (can_be_made c.args.given.now) c.args.wanted.now c.loop-aggregate.aggregate-index _

@@ -19,10 +19,10 @@ loop-source-preserved c given wanted rows made sources =
     let all : AllZip (IsSourceOf given) wanted (take i c.args.sources.now ++ at ∷ []) =
     rw (sym (take_more c.args.sources.now i (source.Made 0) c.loop-source-test.true)) sources in
     let last = AllZip-last (IsSourceOf given) wanted (take i c.args.sources.now) at all in
-    let pushed : c.push.new.self.items ≡ c.loop-source.answers.items ++ c.answer_from.result ∷ [] = search rules in
+    let pushed : c.push.new.self.items ≡ c.loop-source.answers.items ++ c.in_ok-answer.answer ∷ [] = search rules in
     rw (pushed, last.2)
-    (AllZip-push (IsMerged given rows) last.0 c.loop-source.answers.items last.1 c.answer_from.result
-    (c.loop-source.invariant given last.0 rows made last.3) (c.answer_from.ensures given rows last.1 made last.4))
+    (AllZip-push (IsMerged given rows) last.0 c.loop-source.answers.items last.1 c.in_ok-answer.answer
+    (c.loop-source.invariant given last.0 rows made last.3) (c.in_ok-answer.ensures given rows last.1 made last.4))
 
 pub returns : goal.returns
 returns c given wanted rows made sources =

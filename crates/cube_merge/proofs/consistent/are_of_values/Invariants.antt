@@ -1,0 +1,7 @@
+use Rattle.std.proofs.Common.{take}
+use Rattle.std.specs.List.{AllZip}
+use Rattle.cube_merge.specs.Lawful.{IsListAmong}
+use Rattle.cube_merge.proofs.consistent.are_of_values.Given as goal
+
+abbrev pub invariant-loop-place : goal.invariant-loop-place
+invariant-loop-place l = AllZip (IsListAmong l.aggregates l.answers) (take l.place l.aggregates) (take l.place l.answers)

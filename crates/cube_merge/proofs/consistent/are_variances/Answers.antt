@@ -1,0 +1,13 @@
+use Rattle.std.proofs.Common.{◌<◌, ◌≡◌, true, length, rules, arith}
+use Rattle.cube_merge.proofs.LawfulLaws.{AllZip-next}
+use Rattle.cube_merge.specs.Lawful.{IsVarianceAmong}
+use Rattle.cube_merge.proofs.consistent.are_variances.Goals as goal
+
+pub loop-place-preserved : goal.loop-place-preserved
+loop-place-preserved c alike =
+    let on : c.is_variance_among.result ≡ true = search rules in
+    let inside : c.loop-place.place < length c.args.answers.now =
+    omega (arith, c.loop-place-test.true, c.if-aggregates-answers.false) in
+    AllZip-next (IsVarianceAmong c.args.aggregates.now c.args.answers.now) c.args.aggregates.now c.args.answers.now
+    c.loop-place.place _ _ c.loop-place-test.true inside c.index-answers-place.is (c.loop-place.invariant alike)
+    (c.is_variance_among.ensures on alike)
