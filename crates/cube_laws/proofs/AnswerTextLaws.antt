@@ -1,10 +1,10 @@
 -- The text of an answer tells the answer, among those of its kind.
-use Rattle.std.proofs.Common.{◌≡◌, ℕ, ◌≤◌, ◌*◌, ℤ, pos, negsuc, List, [], ◌∷◌, Option, Some, None, FitsSigned, refl}
-use Rattle.std.proofs.Common.{sym, ap, ap₂, arith, get_or, inl, inr, length, map, unwrap_or}
+use Rattle.std.proofs.Common.{◌≡◌, ℕ, ◌<◌, ◌≤◌, ◌*◌, ◌^◌, ℤ, pos, negsuc, List, [], ◌∷◌, Option, Some, None, FitsSigned, refl}
+use Rattle.std.proofs.Common.{true, sym, ap, ap₂, arith, get_or, inl, inr, length, map, unwrap_or}
 use Rattle.std.specs.Int.{w64, w128}
-use Rattle.std.specs.List.{AllZip}
+use Rattle.std.specs.List.{AllByRecursion, AllZip, list_all}
 use Rattle.std.specs.Prelude.{All, IfSome}
-use Rattle.std.proofs.lemmas.Bool.{cases_lt}
+use Rattle.std.proofs.lemmas.Bool.{cases_lt, and_parts, false≢true}
 use Rattle.std.proofs.lemmas.List.{get_or_past}
 use Rattle.std.proofs.lemmas.List.Elements.{All-get_or}
 use Rattle.cube_core.specs.Layout.{Layout}
@@ -12,10 +12,15 @@ use Rattle.cube_core.specs.Text.{answer_text, answer_texts, digits_of, digits_of
 use Rattle.cube_core.specs.declared.aggregate.Agg.{Agg}
 use Rattle.cube_core.specs.declared.aggregate.Agg.TheVariants.{CountAll, Count, Sum, Min, Max, Avg}
 use Rattle.cube_core.specs.declared.aggregate.Agg.TheVariants.{CountDistinct, PercentileDisc}
-use Rattle.cube_core.specs.declared.aggregate.Agg.TheVariants.{SumOfSquares, VarPop, VarSamp}
+use Rattle.cube_core.specs.declared.aggregate.Agg.TheVariants.{SumOfSquares, VarPop, VarSamp, Values}
 use Rattle.cube_core.specs.declared.aggregate.Answer.{Answer}
 use Rattle.cube_core.specs.declared.aggregate.Answer.TheVariants as answer
-use Rattle.cube_merge.specs.Lawful.{IsCount, IsNumber, IsValue, IsFraction, IsOfKind, IsSquares, IsVarianceFraction}
+use Rattle.cube_core.specs.declared.key.Row.{Row}
+use Rattle.cube_merge.specs.Lawful.{AreListed, IsCount, IsNumber, IsValue, IsFraction, IsOfKind, IsSquares}
+use Rattle.cube_merge.specs.Lawful.{IsLawfulRow, IsVarianceFraction, ListsValues}
+use Rattle.cube_laws.specs.Told.{HasSmallLists, ListsSmallValues, lists_no_values, lists_nothing}
+use Rattle.cube_laws.proofs.HeldLaws.{held-times}
+use Rattle.cube_laws.proofs.HeldTextLaws.{IsToldPair, values_text-unique}
 use Rattle.cube_laws.proofs.LongTextLaws.{long_fraction_text-unique, long_units_text-unique, null_text-long_fraction}
 use Rattle.cube_laws.proofs.LongTextLaws.{null_text-long_units}
 use Rattle.cube_laws.proofs.UnitTextLaws.{decimal-unique, fraction_text-unique, null_text-fraction, null_text-units}
@@ -49,6 +54,7 @@ digits_of-few s (PercentileDisc m units places) few = measure-few s m few
 digits_of-few s (SumOfSquares m) few = measure-few s m few
 digits_of-few s (VarPop m) few = measure-few s m few
 digits_of-few s (VarSamp m) few = measure-few s m few
+digits_of-few s (Values m) few = measure-few s m few
 
 -- ---- answers of a kind
 IsCount-told : (k : ℕ) (a b : Answer) → IsCount a → IsCount b → answer_text k a ≡ answer_text k b → a ≡ b
@@ -59,11 +65,13 @@ IsCount-told k (answer.Count m) (answer.Whole z) h h' same = absurd h'
 IsCount-told k (answer.Count m) (answer.Ratio p q) h h' same = absurd h'
 IsCount-told k (answer.Count m) (answer.Squares n) h h' same = absurd h'
 IsCount-told k (answer.Count m) (answer.Variance p q) h h' same = absurd h'
+IsCount-told k (answer.Count m) (answer.Values held) h h' same = absurd h'
 IsCount-told k answer.Null b h h' same = absurd h
 IsCount-told k (answer.Whole y) b h h' same = absurd h
 IsCount-told k (answer.Ratio p q) b h h' same = absurd h
 IsCount-told k (answer.Squares n) b h h' same = absurd h
 IsCount-told k (answer.Variance p q) b h h' same = absurd h
+IsCount-told k (answer.Values held) b h h' same = absurd h
 
 IsNumber-told : (k : ℕ) (a b : Answer) → IsNumber a → IsNumber b → answer_text k a ≡ answer_text k b → a ≡ b
 IsNumber-told k answer.Null answer.Null h h' same = refl
@@ -75,14 +83,17 @@ IsNumber-told k answer.Null (answer.Count n) h h' same = absurd h'
 IsNumber-told k answer.Null (answer.Ratio p q) h h' same = absurd h'
 IsNumber-told k answer.Null (answer.Squares n) h h' same = absurd h'
 IsNumber-told k answer.Null (answer.Variance p q) h h' same = absurd h'
+IsNumber-told k answer.Null (answer.Values held) h h' same = absurd h'
 IsNumber-told k (answer.Whole y) (answer.Count n) h h' same = absurd h'
 IsNumber-told k (answer.Whole y) (answer.Ratio p q) h h' same = absurd h'
 IsNumber-told k (answer.Whole y) (answer.Squares n) h h' same = absurd h'
 IsNumber-told k (answer.Whole y) (answer.Variance p q) h h' same = absurd h'
+IsNumber-told k (answer.Whole y) (answer.Values held) h h' same = absurd h'
 IsNumber-told k (answer.Count m) b h h' same = absurd h
 IsNumber-told k (answer.Ratio p q) b h h' same = absurd h
 IsNumber-told k (answer.Squares n) b h h' same = absurd h
 IsNumber-told k (answer.Variance p q) b h h' same = absurd h
+IsNumber-told k (answer.Values held) b h h' same = absurd h
 
 -- a number of 64 bits is one of 128
 fits_wider : (z : ℤ) → FitsSigned w64 z → FitsSigned w128 z
@@ -96,6 +107,7 @@ IsValue-IsNumber (answer.Count n) h = absurd h
 IsValue-IsNumber (answer.Ratio p q) h = absurd h
 IsValue-IsNumber (answer.Squares n) h = absurd h
 IsValue-IsNumber (answer.Variance p q) h = absurd h
+IsValue-IsNumber (answer.Values held) h = absurd h
 
 IsFraction-told : (k : ℕ) (a b : Answer) → k ≤ 18 → IsFraction a → IsFraction b
     → answer_text k a ≡ answer_text k b → a ≡ b
@@ -109,14 +121,17 @@ IsFraction-told k answer.Null (answer.Count n) few h h' same = absurd h'
 IsFraction-told k answer.Null (answer.Whole z) few h h' same = absurd h'
 IsFraction-told k answer.Null (answer.Squares n) few h h' same = absurd h'
 IsFraction-told k answer.Null (answer.Variance p q) few h h' same = absurd h'
+IsFraction-told k answer.Null (answer.Values held) few h h' same = absurd h'
 IsFraction-told k (answer.Ratio p q) (answer.Count n) few h h' same = absurd h'
 IsFraction-told k (answer.Ratio p q) (answer.Whole z) few h h' same = absurd h'
 IsFraction-told k (answer.Ratio p q) (answer.Squares n) few h h' same = absurd h'
 IsFraction-told k (answer.Ratio p q) (answer.Variance r s) few h h' same = absurd h'
+IsFraction-told k (answer.Ratio p q) (answer.Values held) few h h' same = absurd h'
 IsFraction-told k (answer.Count m) b few h h' same = absurd h
 IsFraction-told k (answer.Whole y) b few h h' same = absurd h
 IsFraction-told k (answer.Squares n) b few h h' same = absurd h
 IsFraction-told k (answer.Variance p q) b few h h' same = absurd h
+IsFraction-told k (answer.Values held) b few h h' same = absurd h
 
 IsSquares-told : (k : ℕ) (a b : Answer) → IsSquares a → IsSquares b → answer_text k a ≡ answer_text k b → a ≡ b
 IsSquares-told k answer.Null answer.Null h h' same = refl
@@ -128,14 +143,17 @@ IsSquares-told k answer.Null (answer.Count n) h h' same = absurd h'
 IsSquares-told k answer.Null (answer.Whole z) h h' same = absurd h'
 IsSquares-told k answer.Null (answer.Ratio p q) h h' same = absurd h'
 IsSquares-told k answer.Null (answer.Variance p q) h h' same = absurd h'
+IsSquares-told k answer.Null (answer.Values held) h h' same = absurd h'
 IsSquares-told k (answer.Squares m) (answer.Count n) h h' same = absurd h'
 IsSquares-told k (answer.Squares m) (answer.Whole z) h h' same = absurd h'
 IsSquares-told k (answer.Squares m) (answer.Ratio p q) h h' same = absurd h'
 IsSquares-told k (answer.Squares m) (answer.Variance p q) h h' same = absurd h'
+IsSquares-told k (answer.Squares m) (answer.Values held) h h' same = absurd h'
 IsSquares-told k (answer.Count m) b h h' same = absurd h
 IsSquares-told k (answer.Whole y) b h h' same = absurd h
 IsSquares-told k (answer.Ratio p q) b h h' same = absurd h
 IsSquares-told k (answer.Variance p q) b h h' same = absurd h
+IsSquares-told k (answer.Values held) b h h' same = absurd h
 
 IsVarianceFraction-told : (k : ℕ) (a b : Answer) → IsVarianceFraction a → IsVarianceFraction b
     → answer_text k a ≡ answer_text k b → a ≡ b
@@ -151,42 +169,116 @@ IsVarianceFraction-told k answer.Null (answer.Count n) h h' same = absurd h'
 IsVarianceFraction-told k answer.Null (answer.Whole z) h h' same = absurd h'
 IsVarianceFraction-told k answer.Null (answer.Ratio p q) h h' same = absurd h'
 IsVarianceFraction-told k answer.Null (answer.Squares n) h h' same = absurd h'
+IsVarianceFraction-told k answer.Null (answer.Values held) h h' same = absurd h'
 IsVarianceFraction-told k (answer.Variance p q) (answer.Count n) h h' same = absurd h'
 IsVarianceFraction-told k (answer.Variance p q) (answer.Whole z) h h' same = absurd h'
 IsVarianceFraction-told k (answer.Variance p q) (answer.Ratio r s) h h' same = absurd h'
 IsVarianceFraction-told k (answer.Variance p q) (answer.Squares n) h h' same = absurd h'
+IsVarianceFraction-told k (answer.Variance p q) (answer.Values held) h h' same = absurd h'
 IsVarianceFraction-told k (answer.Count m) b h h' same = absurd h
 IsVarianceFraction-told k (answer.Whole y) b h h' same = absurd h
 IsVarianceFraction-told k (answer.Ratio p q) b h h' same = absurd h
 IsVarianceFraction-told k (answer.Squares n) b h h' same = absurd h
+IsVarianceFraction-told k (answer.Values held) b h h' same = absurd h
+
+-- pairs that list values can be told
+AreListed-told : (held : List (ℤ × ℕ)) → AreListed held → AllByRecursion (λ pair. FitsSigned w64 pair.0) held
+    → AllByRecursion IsToldPair held
+AreListed-told held are small = each held small (held-times held (2 ^ 64) are.few) where
+  each : (pairs : List (ℤ × ℕ)) → AllByRecursion (λ pair. FitsSigned w64 pair.0) pairs
+      → AllByRecursion (λ pair. pair.1 < 2 ^ 64) pairs → AllByRecursion IsToldPair pairs
+  each [] small few = tt
+  each (pair ∷ pairs) small few = (
+    record { value = fits_wider pair.0 small.0; times = omega (arith, few.0) },
+    each pairs small.1 few.1,
+  )
+
+ListsValues-told : (k : ℕ) (a b : Answer) → ListsValues a → ListsValues b → ListsSmallValues a → ListsSmallValues b
+    → answer_text k a ≡ answer_text k b → a ≡ b
+ListsValues-told k (answer.Values held) (answer.Values others) h h' small small' same =
+    ap answer.Values (values_text-unique k held others (AreListed-told held h small)
+    (AreListed-told others h' small') same)
+ListsValues-told k (answer.Values held) answer.Null h h' small small' same = absurd h'
+ListsValues-told k (answer.Values held) (answer.Count n) h h' small small' same = absurd h'
+ListsValues-told k (answer.Values held) (answer.Whole z) h h' small small' same = absurd h'
+ListsValues-told k (answer.Values held) (answer.Ratio p q) h h' small small' same = absurd h'
+ListsValues-told k (answer.Values held) (answer.Squares n) h h' small small' same = absurd h'
+ListsValues-told k (answer.Values held) (answer.Variance p q) h h' small small' same = absurd h'
+ListsValues-told k answer.Null b h h' small small' same = absurd h
+ListsValues-told k (answer.Count m) b h h' small small' same = absurd h
+ListsValues-told k (answer.Whole y) b h h' small small' same = absurd h
+ListsValues-told k (answer.Ratio p q) b h h' small small' same = absurd h
+ListsValues-told k (answer.Squares n) b h h' small small' same = absurd h
+ListsValues-told k (answer.Variance p q) b h h' small small' same = absurd h
 
 IsOfKind-told : (k : ℕ) (agg : Agg) (a b : Answer) → k ≤ 18 → IsOfKind agg a → IsOfKind agg b
-    → answer_text k a ≡ answer_text k b → a ≡ b
-IsOfKind-told k CountAll a b few h h' same = IsCount-told k a b h h' same
-IsOfKind-told k (Count m) a b few h h' same = IsCount-told k a b h h' same
-IsOfKind-told k (Sum m) a b few h h' same = IsNumber-told k a b h h' same
-IsOfKind-told k (Min m) a b few h h' same = IsNumber-told k a b (IsValue-IsNumber a h) (IsValue-IsNumber b h') same
-IsOfKind-told k (Max m) a b few h h' same = IsNumber-told k a b (IsValue-IsNumber a h) (IsValue-IsNumber b h') same
-IsOfKind-told k (Avg m) a b few h h' same = IsFraction-told k a b few h h' same
-IsOfKind-told k (CountDistinct m) a b few h h' same = IsCount-told k a b h h' same
-IsOfKind-told k (PercentileDisc m units places) a b few h h' same =
+    → ListsSmallValues a → ListsSmallValues b → answer_text k a ≡ answer_text k b → a ≡ b
+IsOfKind-told k CountAll a b few h h' small small' same = IsCount-told k a b h h' same
+IsOfKind-told k (Count m) a b few h h' small small' same = IsCount-told k a b h h' same
+IsOfKind-told k (Sum m) a b few h h' small small' same = IsNumber-told k a b h h' same
+IsOfKind-told k (Min m) a b few h h' small small' same = IsNumber-told k a b (IsValue-IsNumber a h) (IsValue-IsNumber b h') same
+IsOfKind-told k (Max m) a b few h h' small small' same = IsNumber-told k a b (IsValue-IsNumber a h) (IsValue-IsNumber b h') same
+IsOfKind-told k (Avg m) a b few h h' small small' same = IsFraction-told k a b few h h' same
+IsOfKind-told k (CountDistinct m) a b few h h' small small' same = IsCount-told k a b h h' same
+IsOfKind-told k (PercentileDisc m units places) a b few h h' small small' same =
     IsNumber-told k a b (IsValue-IsNumber a h) (IsValue-IsNumber b h') same
-IsOfKind-told k (SumOfSquares m) a b few h h' same = IsSquares-told k a b h h' same
-IsOfKind-told k (VarPop m) a b few h h' same = IsVarianceFraction-told k a b h h' same
-IsOfKind-told k (VarSamp m) a b few h h' same = IsVarianceFraction-told k a b h h' same
+IsOfKind-told k (SumOfSquares m) a b few h h' small small' same = IsSquares-told k a b h h' same
+IsOfKind-told k (VarPop m) a b few h h' small small' same = IsVarianceFraction-told k a b h h' same
+IsOfKind-told k (VarSamp m) a b few h h' small small' same = IsVarianceFraction-told k a b h h' same
+IsOfKind-told k (Values m) a b few h h' small small' same = ListsValues-told k a b h h' small small' same
 
 -- answers to the same aggregates of a schema that show the same are the same
 pub AreOfKind-told : (s : Layout) (aggregates : List Agg) (as' bs : List Answer) → HasFewDigits s
     → AllZip IsOfKind aggregates as' → AllZip IsOfKind aggregates bs
+    → AllByRecursion ListsSmallValues as' → AllByRecursion ListsSmallValues bs
     → answer_texts (map (digits_of s) aggregates) as' ≡ answer_texts (map (digits_of s) aggregates) bs → as' ≡ bs
-AreOfKind-told s [] [] [] few h h' same = refl
-AreOfKind-told s [] [] (b ∷ bs) few h h' same = absurd h'
-AreOfKind-told s [] (a ∷ as') bs few h h' same = absurd h
-AreOfKind-told s (agg ∷ aggregates) [] bs few h h' same = absurd h
-AreOfKind-told s (agg ∷ aggregates) (a ∷ as') [] few h h' same = absurd h'
-AreOfKind-told s (agg ∷ aggregates) (a ∷ as') (b ∷ bs) few h h' same =
+AreOfKind-told s [] [] [] few h h' small small' same = refl
+AreOfKind-told s [] [] (b ∷ bs) few h h' small small' same = absurd h'
+AreOfKind-told s [] (a ∷ as') bs few h h' small small' same = absurd h
+AreOfKind-told s (agg ∷ aggregates) [] bs few h h' small small' same = absurd h
+AreOfKind-told s (agg ∷ aggregates) (a ∷ as') [] few h h' small small' same = absurd h'
+AreOfKind-told s (agg ∷ aggregates) (a ∷ as') (b ∷ bs) few h h' small small' same =
     let first : answer_text (digits_of s agg) a ≡ answer_text (digits_of s agg) b = cc same in
     let after : answer_texts (map (digits_of s) aggregates) as' ≡ answer_texts (map (digits_of s) aggregates) bs =
     cc same in
-    ap₂ (λ x xs. x ∷ xs) (IsOfKind-told (digits_of s agg) agg a b (digits_of-few s agg few) h.0 h'.0 first)
-    (AreOfKind-told s aggregates as' bs few h.1 h'.1 after)
+    ap₂ (λ x xs. x ∷ xs)
+    (IsOfKind-told (digits_of s agg) agg a b (digits_of-few s agg few) h.0 h'.0 small.0 small'.0 first)
+    (AreOfKind-told s aggregates as' bs few h.1 h'.1 small.1 small'.1 after)
+
+-- ---- answers that list nothing
+-- one of a kind that lists no values lists none
+pub IsOfKind-small : (agg : Agg) (a : Answer) → lists_nothing agg ≡ true → IsOfKind agg a → ListsSmallValues a
+IsOfKind-small agg answer.Null none h = tt
+IsOfKind-small agg (answer.Count n) none h = tt
+IsOfKind-small agg (answer.Whole z) none h = tt
+IsOfKind-small agg (answer.Ratio p q) none h = tt
+IsOfKind-small agg (answer.Squares n) none h = tt
+IsOfKind-small agg (answer.Variance p q) none h = tt
+IsOfKind-small CountAll (answer.Values held) none h = absurd h
+IsOfKind-small (Count m) (answer.Values held) none h = absurd h
+IsOfKind-small (Sum m) (answer.Values held) none h = absurd h
+IsOfKind-small (Min m) (answer.Values held) none h = absurd h
+IsOfKind-small (Max m) (answer.Values held) none h = absurd h
+IsOfKind-small (Avg m) (answer.Values held) none h = absurd h
+IsOfKind-small (CountDistinct m) (answer.Values held) none h = absurd h
+IsOfKind-small (PercentileDisc m units places) (answer.Values held) none h = absurd h
+IsOfKind-small (SumOfSquares m) (answer.Values held) none h = absurd h
+IsOfKind-small (VarPop m) (answer.Values held) none h = absurd h
+IsOfKind-small (VarSamp m) (answer.Values held) none h = absurd h
+IsOfKind-small (Values m) (answer.Values held) none h = absurd (false≢true none)
+
+AreOfKind-small : (aggregates : List Agg) (answers : List Answer) → list_all lists_nothing aggregates ≡ true
+    → AllZip IsOfKind aggregates answers → AllByRecursion ListsSmallValues answers
+AreOfKind-small [] [] none h = tt
+AreOfKind-small [] (a ∷ answers) none h = absurd h
+AreOfKind-small (agg ∷ aggregates) [] none h = tt
+AreOfKind-small (agg ∷ aggregates) (a ∷ answers) none h =
+    let (one, others) = and_parts (lists_nothing agg) (list_all lists_nothing aggregates) none in
+    (IsOfKind-small agg a one h.0, AreOfKind-small aggregates answers others h.1)
+
+-- so do rows of a schema without such an aggregate
+pub IsLawfulRow-small : (s : Layout) (rows : List Row) → lists_no_values s ≡ true → AllByRecursion (IsLawfulRow s) rows
+    → AllByRecursion HasSmallLists rows
+IsLawfulRow-small s [] none all = tt
+IsLawfulRow-small s (row ∷ rows) none all =
+    (AreOfKind-small s.aggregates row.answers none all.0.answers, IsLawfulRow-small s rows none all.1)

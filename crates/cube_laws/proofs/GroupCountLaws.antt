@@ -12,6 +12,7 @@ use Rattle.cube_core.specs.declared.fact.Fact.{Fact}
 use Rattle.cube_core.specs.declared.key.Key.{Key}
 use Rattle.cube_laws.proofs.SortedLaws.{IsStrictlySortedBy-head}
 use Rattle.cube_core.proofs.ReorderedLaws.{Reordered, none, next, exchange, both, Reordered-refl}
+use Rattle.cube_core.proofs.ReorderedLaws.{Reordered-sym}
 use Rattle.cube_core.proofs.ListLaws.{Contains-cases, Contains-head, Contains-tail, count_by-failed, count_by-none}
 use Rattle.cube_core.proofs.ListLaws.{count_by-passed, filter-failed, filter-passed}
 
@@ -35,14 +36,44 @@ count_by-one {X} {c} o p one (x ∷ xs) sorted among passes alone = elim (Contai
 ]
 
 -- an element from behind a list comes before it
-pub Reordered-middle : {X : Type 0} (x : X) (xs ys : List X) → Reordered (xs ++ x ∷ ys) (x ∷ (xs ++ ys))
+Reordered-middle : {X : Type 0} (x : X) (xs ys : List X) → Reordered (xs ++ x ∷ ys) (x ∷ (xs ++ ys))
 Reordered-middle x [] ys = Reordered-refl (x ∷ ys)
 Reordered-middle x (y ∷ xs) ys = both (next (Reordered-middle x xs ys)) exchange
 
 -- the lists behind a list are in another order
-pub Reordered-append : {X : Type 0} (zs : List X) {xs ys : List X} → Reordered xs ys → Reordered (zs ++ xs) (zs ++ ys)
+Reordered-append : {X : Type 0} (zs : List X) {xs ys : List X} → Reordered xs ys → Reordered (zs ++ xs) (zs ++ ys)
 Reordered-append [] r = r
 Reordered-append (z ∷ zs) r = next (Reordered-append zs r)
+
+-- so are those before a list
+Reordered-append_front : {X : Type 0} (zs : List X) {xs ys : List X} → Reordered xs ys
+    → Reordered (xs ++ zs) (ys ++ zs)
+Reordered-append_front zs none = Reordered-refl zs
+Reordered-append_front zs (next r) = next (Reordered-append_front zs r)
+Reordered-append_front zs exchange = exchange
+Reordered-append_front zs (both r t) = both (Reordered-append_front zs r) (Reordered-append_front zs t)
+
+-- two lists that begin a list change places
+Reordered-exchange : {X : Type 0} (xs ys zs : List X) → Reordered (xs ++ (ys ++ zs)) (ys ++ (xs ++ zs))
+Reordered-exchange [] ys zs = Reordered-refl (ys ++ zs)
+Reordered-exchange (x ∷ xs) ys zs =
+    both (next (Reordered-exchange xs ys zs)) (Reordered-sym (Reordered-middle x ys (xs ++ zs)))
+
+-- lists in another order, joined, are joined in another order
+pub flat_map-Reordered : {X Y : Type 0} (f : X → List Y) {xs ys : List X} → Reordered xs ys
+    → Reordered (flat_map f xs) (flat_map f ys)
+flat_map-Reordered f none = none
+flat_map-Reordered f (next {x} r) = Reordered-append (f x) (flat_map-Reordered f r)
+flat_map-Reordered f (exchange {x} {y} {xs}) = Reordered-exchange (f x) (f y) (flat_map f xs)
+flat_map-Reordered f (both r t) = both (flat_map-Reordered f r) (flat_map-Reordered f t)
+
+-- and so are lists each of which is in another order
+pub flat_map-each_Reordered : {X Y : Type 0} (f g : X → List Y) (xs : List X)
+    → AllByRecursion (λ x. Reordered (f x) (g x)) xs → Reordered (flat_map f xs) (flat_map g xs)
+flat_map-each_Reordered f g [] each = none
+flat_map-each_Reordered f g (x ∷ xs) each =
+    both (Reordered-append_front (flat_map f xs) each.0)
+    (Reordered-append (g x) (flat_map-each_Reordered f g xs each.1))
 
 module _ {X A : Type 0} (p : A → Bool) (x : X) (g : A → List X) where
   -- the list of an element, with x before it where the element passes

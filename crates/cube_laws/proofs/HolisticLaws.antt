@@ -47,7 +47,7 @@ IsDistinct-length numbers values sorted within =
     eq_by_cmp-Decides x y = ranked_equal x y (int_cmp x y) (int_ranks x y)
 
 -- one more element counts where it passes
-count-cons : (p : ℤ → Bool) (x : ℤ) (xs : List ℤ) → count_by p (x ∷ xs) ≡ cond (p x) 1 0 + count_by p xs
+pub count-cons : (p : ℤ → Bool) (x : ℤ) (xs : List ℤ) → count_by p (x ∷ xs) ≡ cond (p x) 1 0 + count_by p xs
 count-cons p x xs = sum_by-cons (λ y. cond (p y) 1 0) x xs
 
 count-passed : (p : ℤ → Bool) (x : ℤ) (xs : List ℤ) → p x ≡ true → count_by p (x ∷ xs) ≡ 1 + count_by p xs

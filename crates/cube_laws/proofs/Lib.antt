@@ -2,6 +2,7 @@ mod FractionLaws
 mod ScaledLaws
 mod UnitTextLaws
 mod LongTextLaws
+mod HeldTextLaws
 mod LifeLaws
 mod FieldLaws
 mod SpellingLaws
@@ -14,6 +15,7 @@ mod HolisticLaws
 mod StatisticsLaws
 mod RowLaws
 mod RowOrderLaws
+mod HeldLaws
 mod GroupCountLaws
 mod CountLaws
 mod CellCountLaws

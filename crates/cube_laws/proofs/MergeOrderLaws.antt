@@ -1,5 +1,5 @@
 -- Neither the order nor the nesting of merges changes the merged rows.
-use Rattle.std.proofs.Common.{◌≡◌, ◌≤◌, List, [], ◌∷◌, ◌++◌, length, IsPermutation, sym, subst}
+use Rattle.std.proofs.Common.{◌≡◌, ◌≤◌, List, length, IsPermutation, sym, subst}
 use Rattle.std.specs.List.{AllZip}
 use Rattle.std.proofs.lemmas.List.Sorted.{IsPermutation-sym, IsPermutation-trans}
 use Rattle.cube_core.specs.Layout.{Layout}
@@ -9,32 +9,17 @@ use Rattle.cube_core.specs.declared.aggregate.Agg.{Agg}
 use Rattle.cube_core.specs.declared.fact.Fact.{Fact}
 use Rattle.cube_core.specs.declared.key.Row.{Row}
 use Rattle.cube_laws.specs.Merging.{joined, AreMergedOf, IsMergeTree, cube, merge, AreMergeTrees, none, more}
-use Rattle.cube_laws.proofs.GroupCountLaws.{Reordered-middle, Reordered-append}
+use Rattle.cube_laws.proofs.GroupCountLaws.{flat_map-Reordered}
 use Rattle.cube_laws.proofs.MergedLaws.{AreRowsOver-AreMergedOf}
 use Rattle.cube_laws.proofs.RowLaws.{AreRowsOver-unique}
-use Rattle.cube_core.proofs.ReorderedLaws.{Reordered, Reordered-refl, Reordered-sym, next, exchange, both}
 use Rattle.cube_core.proofs.ReorderedLaws.{IsPermutation-Reordered, Reordered-IsPermutation}
 use Rattle.cube_laws.proofs.RowOrderLaws.{AreRowsOver-IsPermutation}
-use Rattle.cube_core.proofs.ReorderedLaws.{none as no_steps}
-
--- two lists that begin a list change places
-Reordered-exchange : {X : Type 0} (xs ys zs : List X) → Reordered (xs ++ (ys ++ zs)) (ys ++ (xs ++ zs))
-Reordered-exchange [] ys zs = Reordered-refl (ys ++ zs)
-Reordered-exchange (x ∷ xs) ys zs =
-    both (next (Reordered-exchange xs ys zs)) (Reordered-sym (Reordered-middle x ys (xs ++ zs)))
 
 -- lists in another order, joined, are joined in another order
-joined-Reordered : {X : Type 0} {lists others : List (List X)} → Reordered lists others
-    → Reordered (joined lists) (joined others)
-joined-Reordered no_steps = no_steps
-joined-Reordered (next {x} r) = Reordered-append x (joined-Reordered r)
-joined-Reordered (exchange {x} {y} {xs}) = Reordered-exchange x y (joined xs)
-joined-Reordered (both r t) = both (joined-Reordered r) (joined-Reordered t)
-
 pub joined-IsPermutation : {X : Type 0} (lists others : List (List X)) → IsPermutation lists others
     → IsPermutation (joined lists) (joined others)
-joined-IsPermutation lists others h =
-    Reordered-IsPermutation (joined-Reordered (IsPermutation-Reordered lists others h))
+joined-IsPermutation {X} lists others h =
+    Reordered-IsPermutation (flat_map-Reordered (λ (list : List X). list) (IsPermutation-Reordered lists others h))
 
 -- cubes in another order have the same merged rows
 pub AreMergedOf-IsPermutation : (given wanted : List Agg) (cubes others : List (List Row)) (rows : List Row)

@@ -1,19 +1,19 @@
 -- The partial form of a schema has what each of its aggregates, and each of the schema's, is made of.
-use Rattle.std.proofs.Common.{◌≡◌, ◌==◌, ◌&&◌, ℕ, zero, suc, ◌≤◌, true, false, List, [], ◌∷◌, length, fold, Some}
+use Rattle.std.proofs.Common.{◌≡◌, ◌==◌, ◌&&◌, ℕ, zero, suc, ◌≤◌, true, List, [], ◌∷◌, length, fold, Some}
 use Rattle.std.proofs.Common.{Contains, ◌⊎◌, refl, sym}
 use Rattle.std.proofs.Common.{ap, ◌∙◌, subst, inl, inr, eqb-true, eq-eqb, map}
 use Rattle.std.specs.Prelude.{Bool}
-use Rattle.std.specs.List.{AllByRecursion, AllZip, list_all, list_any}
+use Rattle.std.specs.List.{AllByRecursion, AllZip, list_all}
 use Rattle.std.proofs.lemmas.Bool.{and_from, and_parts, cases_Bool, false≢true}
 use Rattle.std.proofs.lemmas.List.Elements.{Contains-append_left, Contains-push, Contains-push_cases}
 use Rattle.cube_core.specs.Cube.{AreRows}
-use Rattle.cube_core.specs.Layout.{Layout, has_holistic, is_holistic, spelling_of}
+use Rattle.cube_core.specs.Layout.{Layout, spelling_of}
 use Rattle.cube_core.specs.PartialForm.{is_aggregate, has_aggregate, with_aggregate, with_parts, partial_aggregates}
 use Rattle.cube_core.specs.PartialForm.{partial_form, with_mean_parts, with_variance_parts}
 use Rattle.cube_core.specs.declared.aggregate.Agg.{Agg}
 use Rattle.cube_core.specs.declared.aggregate.Agg.TheVariants.{CountAll, Count, Sum, Min, Max, Avg}
 use Rattle.cube_core.specs.declared.aggregate.Agg.TheVariants.{CountDistinct, PercentileDisc}
-use Rattle.cube_core.specs.declared.aggregate.Agg.TheVariants.{SumOfSquares, VarPop, VarSamp}
+use Rattle.cube_core.specs.declared.aggregate.Agg.TheVariants.{SumOfSquares, VarPop, VarSamp, Values}
 use Rattle.cube_core.specs.declared.fact.Fact.{Fact}
 use Rattle.cube_core.specs.declared.key.Row.{Row}
 use Rattle.cube_core.proofs.ListLaws.{Contains-AllByRecursion, Contains-cases, Contains-list_any, Contains-nil}
@@ -38,6 +38,7 @@ is_aggregate-same (PercentileDisc m units places) (PercentileDisc n others digit
 is_aggregate-same (SumOfSquares m) (SumOfSquares n) h = ap SumOfSquares (eqb-true m n h)
 is_aggregate-same (VarPop m) (VarPop n) h = ap VarPop (eqb-true m n h)
 is_aggregate-same (VarSamp m) (VarSamp n) h = ap VarSamp (eqb-true m n h)
+is_aggregate-same (Values m) (Values n) h = ap Values (eqb-true m n h)
 is_aggregate-same _ _ h = absurd (false≢true h)
 
 -- what a list contains stands at a place
@@ -72,7 +73,7 @@ with_aggregate-cases given agg other among = elim (cases_Bool (has_aggregate agg
   | inr missing ↦ Contains-push_cases given agg other (rw missing at among)
 ]
 
--- ---- a list with the parts of a mean or a variance
+-- ---- a list with the parts of another aggregate
 mean_parts-keeps : (given : List Agg) (m : ℕ) (other : Agg) → Contains given other
     → Contains (with_mean_parts given m) other
 mean_parts-keeps given m other among =
@@ -93,23 +94,36 @@ with_parts-keeps given (Count m) other among = among
 with_parts-keeps given (Sum m) other among = among
 with_parts-keeps given (Min m) other among = among
 with_parts-keeps given (Max m) other among = among
-with_parts-keeps given (CountDistinct m) other among = among
-with_parts-keeps given (PercentileDisc m units places) other among = among
+with_parts-keeps given (CountDistinct m) other among = with_aggregate-keeps given (Values m) other among
+with_parts-keeps given (PercentileDisc m units places) other among = with_aggregate-keeps given (Values m) other among
+with_parts-keeps given (Values m) other among = among
 
--- an aggregate that is neither a sum, a count of values nor a sum of squares
+-- an aggregate that is neither a sum, a count of values, a sum of squares nor values
 record IsNoPart (other : Agg) : Type 0 where
   no_sum : (m : ℕ) → Sum m ≡ other → ⊥
   no_count : (m : ℕ) → Count m ≡ other → ⊥
   no_squares : (m : ℕ) → SumOfSquares m ≡ other → ⊥
+  no_values : (m : ℕ) → Values m ≡ other → ⊥
 
 Avg-IsNoPart : (n : ℕ) → IsNoPart (Avg n)
-Avg-IsNoPart n = record { no_sum = λ m same. cc; no_count = λ m same. cc; no_squares = λ m same. cc }
+Avg-IsNoPart n =
+    record { no_sum = λ m same. cc; no_count = λ m same. cc; no_squares = λ m same. cc; no_values = λ m same. cc }
 
 VarPop-IsNoPart : (n : ℕ) → IsNoPart (VarPop n)
-VarPop-IsNoPart n = record { no_sum = λ m same. cc; no_count = λ m same. cc; no_squares = λ m same. cc }
+VarPop-IsNoPart n =
+    record { no_sum = λ m same. cc; no_count = λ m same. cc; no_squares = λ m same. cc; no_values = λ m same. cc }
 
 VarSamp-IsNoPart : (n : ℕ) → IsNoPart (VarSamp n)
-VarSamp-IsNoPart n = record { no_sum = λ m same. cc; no_count = λ m same. cc; no_squares = λ m same. cc }
+VarSamp-IsNoPart n =
+    record { no_sum = λ m same. cc; no_count = λ m same. cc; no_squares = λ m same. cc; no_values = λ m same. cc }
+
+CountDistinct-IsNoPart : (n : ℕ) → IsNoPart (CountDistinct n)
+CountDistinct-IsNoPart n =
+    record { no_sum = λ m same. cc; no_count = λ m same. cc; no_squares = λ m same. cc; no_values = λ m same. cc }
+
+PercentileDisc-IsNoPart : (n units places : ℕ) → IsNoPart (PercentileDisc n units places)
+PercentileDisc-IsNoPart n units places =
+    record { no_sum = λ m same. cc; no_count = λ m same. cc; no_squares = λ m same. cc; no_values = λ m same. cc }
 
 -- it is none of the parts that are added
 no_part-mean : (given : List Agg) (m : ℕ) (other : Agg) → IsNoPart other → Contains (with_mean_parts given m) other
@@ -131,6 +145,13 @@ no_part-variance given m other no_part among =
       | inr same ↦ absurd (no_part.no_squares m same)
     ]
 
+no_part-values : (given : List Agg) (m : ℕ) (other : Agg) → IsNoPart other
+    → Contains (with_aggregate given (Values m)) other → Contains given other
+no_part-values given m other no_part among = elim (with_aggregate-cases given (Values m) other among) [
+  | inl own ↦ own
+  | inr same ↦ absurd (no_part.no_values m same)
+]
+
 with_parts-no_part : (given : List Agg) (agg other : Agg) → IsNoPart other → Contains (with_parts given agg) other
     → Contains given other
 with_parts-no_part given (Avg m) other no_part among = no_part-mean given m other no_part among
@@ -142,10 +163,12 @@ with_parts-no_part given (Count m) other no_part among = among
 with_parts-no_part given (Sum m) other no_part among = among
 with_parts-no_part given (Min m) other no_part among = among
 with_parts-no_part given (Max m) other no_part among = among
-with_parts-no_part given (CountDistinct m) other no_part among = among
-with_parts-no_part given (PercentileDisc m units places) other no_part among = among
+with_parts-no_part given (CountDistinct m) other no_part among = no_part-values given m other no_part among
+with_parts-no_part given (PercentileDisc m units places) other no_part among =
+    no_part-values given m other no_part among
+with_parts-no_part given (Values m) other no_part among = among
 
--- ---- the parts of all means and variances
+-- ---- the parts of all aggregates
 fold-keeps : (given means : List Agg) (other : Agg) → Contains given other
     → Contains (fold with_parts given means) other
 fold-keeps given [] other among = among
@@ -157,20 +180,6 @@ fold-no_part : (given means : List Agg) (other : Agg) → IsNoPart other → Con
 fold-no_part given [] other no_part among = among
 fold-no_part given (agg ∷ means) other no_part among =
     with_parts-no_part given agg other no_part (fold-no_part (with_parts given agg) means other no_part among)
-
--- a distinct count or a percentile of the partial form is one of the schema's own
-holistic-IsNoPart : (agg : Agg) → is_holistic agg ≡ true → IsNoPart agg
-holistic-IsNoPart agg holistic = record {
-  no_sum = λ m same. false≢true (ap is_holistic same ∙ holistic);
-  no_count = λ m same. false≢true (ap is_holistic same ∙ holistic);
-  no_squares = λ m same. false≢true (ap is_holistic same ∙ holistic);
-}
-
-partial-holistic : (aggregates : List Agg) (agg : Agg) → list_any is_holistic aggregates ≡ false
-    → Contains (partial_aggregates aggregates) agg → is_holistic agg ≡ true → ⊥
-partial-holistic aggregates agg none among holistic =
-    false≢true (sym none ∙ Contains-list_any is_holistic aggregates agg
-    (fold-no_part aggregates aggregates agg (holistic-IsNoPart agg holistic) among) holistic)
 
 -- the sum and the count of each mean
 HasMeanParts-with : (given : List Agg) (m : ℕ)
@@ -204,7 +213,7 @@ fold-part given (first ∷ aggregates) agg part adds among = elim (Contains-case
   | inr after ↦ fold-part (with_parts given first) aggregates agg part adds after
 ]
 
--- so what each mean and each variance of the partial form is made of stands there
+-- so what each mean, variance, distinct count and percentile of the partial form is made of stands there
 partial-mean : (aggregates : List Agg) (m : ℕ) → Contains (partial_aggregates aggregates) (Avg m)
     → Contains (partial_aggregates aggregates) (Sum m) × Contains (partial_aggregates aggregates) (Count m)
 partial-mean aggregates m among =
@@ -237,6 +246,26 @@ partial-VarSamp : (aggregates : List Agg) (m : ℕ) → Contains (partial_aggreg
 partial-VarSamp aggregates m among =
     partial-variance aggregates (VarSamp m) m (VarSamp-IsNoPart m) (λ some. refl) among
 
+partial-values : (aggregates : List Agg) (agg : Agg) (m : ℕ) → IsNoPart agg
+    → ((some : List Agg) → with_parts some agg ≡ with_aggregate some (Values m))
+    → Contains (partial_aggregates aggregates) agg → Contains (partial_aggregates aggregates) (Values m)
+partial-values aggregates agg m no_part adds among =
+    fold-part aggregates aggregates agg (Values m)
+    (λ some. subst (λ more. Contains more (Values m)) (sym (adds some)) (with_aggregate-has some (Values m)))
+    (fold-no_part aggregates aggregates agg no_part among)
+
+partial-CountDistinct : (aggregates : List Agg) (m : ℕ) → Contains (partial_aggregates aggregates) (CountDistinct m)
+    → Contains (partial_aggregates aggregates) (Values m)
+partial-CountDistinct aggregates m among =
+    partial-values aggregates (CountDistinct m) m (CountDistinct-IsNoPart m) (λ some. refl) among
+
+partial-PercentileDisc : (aggregates : List Agg) (m units places : ℕ)
+    → Contains (partial_aggregates aggregates) (PercentileDisc m units places)
+    → Contains (partial_aggregates aggregates) (Values m)
+partial-PercentileDisc aggregates m units places among =
+    partial-values aggregates (PercentileDisc m units places) m (PercentileDisc-IsNoPart m units places) (λ some. refl)
+    among
+
 -- ---- what an answer is made of
 ContainsParts-Stand : (given : List Agg) (m : ℕ) → ContainsParts given m → HasVarianceParts given m
 ContainsParts-Stand given m parts = (
@@ -245,55 +274,56 @@ ContainsParts-Stand given m parts = (
   Contains-Stands given (SumOfSquares m) parts.2,
 )
 
-partial-CanBeMadeOf : (aggregates : List Agg) (agg : Agg) → list_any is_holistic aggregates ≡ false
+partial-CanBeMadeOf : (aggregates : List Agg) (agg : Agg)
     → Contains (partial_aggregates aggregates) agg → CanBeMadeOf (partial_aggregates aggregates) agg
-partial-CanBeMadeOf aggregates (CountDistinct m) none among =
-    absurd (partial-holistic aggregates (CountDistinct m) none among refl)
-partial-CanBeMadeOf aggregates (PercentileDisc m units places) none among =
-    absurd (partial-holistic aggregates (PercentileDisc m units places) none among refl)
-partial-CanBeMadeOf aggregates (Avg m) none among =
+partial-CanBeMadeOf aggregates (CountDistinct m) among =
+    Contains-Stands (partial_aggregates aggregates) (Values m) (partial-CountDistinct aggregates m among)
+partial-CanBeMadeOf aggregates (PercentileDisc m units places) among =
+    Contains-Stands (partial_aggregates aggregates) (Values m) (partial-PercentileDisc aggregates m units places among)
+partial-CanBeMadeOf aggregates (Avg m) among =
     let parts = partial-mean aggregates m among in (
       Contains-Stands (partial_aggregates aggregates) (Sum m) parts.0,
       Contains-Stands (partial_aggregates aggregates) (Count m) parts.1,
     )
-partial-CanBeMadeOf aggregates (VarPop m) none among =
+partial-CanBeMadeOf aggregates (VarPop m) among =
     ContainsParts-Stand (partial_aggregates aggregates) m (partial-VarPop aggregates m among)
-partial-CanBeMadeOf aggregates (VarSamp m) none among =
+partial-CanBeMadeOf aggregates (VarSamp m) among =
     ContainsParts-Stand (partial_aggregates aggregates) m (partial-VarSamp aggregates m among)
-partial-CanBeMadeOf aggregates (SumOfSquares m) none among =
+partial-CanBeMadeOf aggregates (SumOfSquares m) among =
     Contains-Stands (partial_aggregates aggregates) (SumOfSquares m) among
-partial-CanBeMadeOf aggregates CountAll none among = Contains-Stands (partial_aggregates aggregates) CountAll among
-partial-CanBeMadeOf aggregates (Count m) none among = Contains-Stands (partial_aggregates aggregates) (Count m) among
-partial-CanBeMadeOf aggregates (Sum m) none among = Contains-Stands (partial_aggregates aggregates) (Sum m) among
-partial-CanBeMadeOf aggregates (Min m) none among = Contains-Stands (partial_aggregates aggregates) (Min m) among
-partial-CanBeMadeOf aggregates (Max m) none among = Contains-Stands (partial_aggregates aggregates) (Max m) among
+partial-CanBeMadeOf aggregates (Values m) among = Contains-Stands (partial_aggregates aggregates) (Values m) among
+partial-CanBeMadeOf aggregates CountAll among = Contains-Stands (partial_aggregates aggregates) CountAll among
+partial-CanBeMadeOf aggregates (Count m) among = Contains-Stands (partial_aggregates aggregates) (Count m) among
+partial-CanBeMadeOf aggregates (Sum m) among = Contains-Stands (partial_aggregates aggregates) (Sum m) among
+partial-CanBeMadeOf aggregates (Min m) among = Contains-Stands (partial_aggregates aggregates) (Min m) among
+partial-CanBeMadeOf aggregates (Max m) among = Contains-Stands (partial_aggregates aggregates) (Max m) among
 
-pub partial-each : (aggregates : List Agg) → list_any is_holistic aggregates ≡ false
+pub partial-each : (aggregates : List Agg)
     → AllByRecursion (CanBeMadeOf (partial_aggregates aggregates)) (partial_aggregates aggregates)
-partial-each aggregates none = Contains-AllByRecursion (CanBeMadeOf (partial_aggregates aggregates))
-    (partial_aggregates aggregates) (λ agg among. partial-CanBeMadeOf aggregates agg none among)
+partial-each aggregates = Contains-AllByRecursion (CanBeMadeOf (partial_aggregates aggregates))
+    (partial_aggregates aggregates) (λ agg among. partial-CanBeMadeOf aggregates agg among)
 
-pub own-each : (aggregates : List Agg) → list_any is_holistic aggregates ≡ false
+pub own-each : (aggregates : List Agg)
     → AllByRecursion (CanBeMadeOf (partial_aggregates aggregates)) aggregates
-own-each aggregates none =
+own-each aggregates =
     Contains-AllByRecursion (CanBeMadeOf (partial_aggregates aggregates)) aggregates
-    (λ agg among. partial-CanBeMadeOf aggregates agg none (fold-keeps aggregates aggregates agg among))
+    (λ agg among. partial-CanBeMadeOf aggregates agg (fold-keeps aggregates aggregates agg among))
 
 -- the rows of the whole are merged rows
 pub AreMergedOf-whole : (s : Layout) (parts : List (List Fact)) (cubes : List (List Row)) (rows : List Row)
-    → has_holistic s ≡ false → 1 ≤ length parts → AllZip (AreRows (partial_form s)) parts cubes
+    → 1 ≤ length parts → AllZip (AreRows (partial_form s)) parts cubes
     → AreRows s (joined parts) rows → AreMergedOf (partial_aggregates s.aggregates) s.aggregates cubes rows
-AreMergedOf-whole s parts cubes rows none some are whole =
+AreMergedOf-whole s parts cubes rows some are whole =
     AreMergedOf-AreRowsOver s.grouping_sets (length s.dimensions)
-    (partial_aggregates s.aggregates) s.aggregates parts cubes rows (own-each s.aggregates none) some are whole
+    (partial_aggregates s.aggregates) s.aggregates parts cubes rows (own-each s.aggregates) some are whole
 
 pub AreMergedOf-partial : (s : Layout) (parts : List (List Fact)) (cubes : List (List Row)) (rows : List Row)
-    → has_holistic s ≡ false → 1 ≤ length parts → AllZip (AreRows (partial_form s)) parts cubes
+    → 1 ≤ length parts → AllZip (AreRows (partial_form s)) parts cubes
     → AreRows (partial_form s) (joined parts) rows
     → AreMergedOf (partial_aggregates s.aggregates) (partial_aggregates s.aggregates) cubes rows
-AreMergedOf-partial s parts cubes rows none some are whole =
+AreMergedOf-partial s parts cubes rows some are whole =
     AreMergedOf-AreRowsOver s.grouping_sets (length s.dimensions) (partial_aggregates s.aggregates)
-    (partial_aggregates s.aggregates) parts cubes rows (partial-each s.aggregates none) some are whole
+    (partial_aggregates s.aggregates) parts cubes rows (partial-each s.aggregates) some are whole
 
 -- ---- the partial form of a partial form
 is_aggregate-itself : (agg : Agg) → is_aggregate agg agg ≡ true
@@ -307,6 +337,7 @@ is_aggregate-itself (CountDistinct m) = eq-eqb m m refl
 is_aggregate-itself (SumOfSquares m) = eq-eqb m m refl
 is_aggregate-itself (VarPop m) = eq-eqb m m refl
 is_aggregate-itself (VarSamp m) = eq-eqb m m refl
+is_aggregate-itself (Values m) = eq-eqb m m refl
 is_aggregate-itself (PercentileDisc m units places) =
     and_from (m == m && units == units) (places == places)
     (and_from (m == m) (units == units) (eq-eqb m m refl) (eq-eqb units units refl)) (eq-eqb places places refl)
@@ -345,8 +376,12 @@ partial-there aggregates (Count m) among = refl
 partial-there aggregates (Sum m) among = refl
 partial-there aggregates (Min m) among = refl
 partial-there aggregates (Max m) among = refl
-partial-there aggregates (CountDistinct m) among = refl
-partial-there aggregates (PercentileDisc m units places) among = refl
+partial-there aggregates (CountDistinct m) among =
+    with_aggregate-there (partial_aggregates aggregates) (Values m) (partial-CountDistinct aggregates m among)
+partial-there aggregates (PercentileDisc m units places) among =
+    with_aggregate-there (partial_aggregates aggregates) (Values m)
+    (partial-PercentileDisc aggregates m units places among)
+partial-there aggregates (Values m) among = refl
 
 fold-there : (given aggregates : List Agg) → AllByRecursion (λ agg. with_parts given agg ≡ given) aggregates
     → fold with_parts given aggregates ≡ given
@@ -381,40 +416,42 @@ ContainsParts-makes given m parts =
       has_aggregate-among given (SumOfSquares m) parts.2,
     ) refl
 
-partial-makes : (aggregates : List Agg) (agg : Agg) → list_any is_holistic aggregates ≡ false
+partial-makes : (aggregates : List Agg) (agg : Agg)
     → Contains (partial_aggregates aggregates) agg → can_be_made (partial_aggregates aggregates) agg ≡ true
-partial-makes aggregates (CountDistinct m) none among =
-    absurd (partial-holistic aggregates (CountDistinct m) none among refl)
-partial-makes aggregates (PercentileDisc m units places) none among =
-    absurd (partial-holistic aggregates (PercentileDisc m units places) none among refl)
-partial-makes aggregates (VarPop m) none among =
+partial-makes aggregates (CountDistinct m) among =
+    has_aggregate-among (partial_aggregates aggregates) (Values m) (partial-CountDistinct aggregates m among)
+partial-makes aggregates (PercentileDisc m units places) among =
+    has_aggregate-among (partial_aggregates aggregates) (Values m)
+    (partial-PercentileDisc aggregates m units places among)
+partial-makes aggregates (VarPop m) among =
     ContainsParts-makes (partial_aggregates aggregates) m (partial-VarPop aggregates m among)
-partial-makes aggregates (VarSamp m) none among =
+partial-makes aggregates (VarSamp m) among =
     ContainsParts-makes (partial_aggregates aggregates) m (partial-VarSamp aggregates m among)
-partial-makes aggregates (SumOfSquares m) none among =
+partial-makes aggregates (SumOfSquares m) among =
     has_aggregate-among (partial_aggregates aggregates) (SumOfSquares m) among
-partial-makes aggregates (Avg m) none among =
+partial-makes aggregates (Values m) among = has_aggregate-among (partial_aggregates aggregates) (Values m) among
+partial-makes aggregates (Avg m) among =
     let parts = partial-mean aggregates m among in
     rw (
       has_aggregate-among (partial_aggregates aggregates) (Sum m) parts.0,
       has_aggregate-among (partial_aggregates aggregates) (Count m) parts.1,
     ) refl
-partial-makes aggregates CountAll none among = has_aggregate-among (partial_aggregates aggregates) CountAll among
-partial-makes aggregates (Count m) none among = has_aggregate-among (partial_aggregates aggregates) (Count m) among
-partial-makes aggregates (Sum m) none among = has_aggregate-among (partial_aggregates aggregates) (Sum m) among
-partial-makes aggregates (Min m) none among = has_aggregate-among (partial_aggregates aggregates) (Min m) among
-partial-makes aggregates (Max m) none among = has_aggregate-among (partial_aggregates aggregates) (Max m) among
+partial-makes aggregates CountAll among = has_aggregate-among (partial_aggregates aggregates) CountAll among
+partial-makes aggregates (Count m) among = has_aggregate-among (partial_aggregates aggregates) (Count m) among
+partial-makes aggregates (Sum m) among = has_aggregate-among (partial_aggregates aggregates) (Sum m) among
+partial-makes aggregates (Min m) among = has_aggregate-among (partial_aggregates aggregates) (Min m) among
+partial-makes aggregates (Max m) among = has_aggregate-among (partial_aggregates aggregates) (Max m) among
 
-pub partial-makes_each : (aggregates : List Agg) → list_any is_holistic aggregates ≡ false
+pub partial-makes_each : (aggregates : List Agg)
     → list_all (can_be_made (partial_aggregates aggregates)) (partial_aggregates aggregates) ≡ true
-partial-makes_each aggregates none =
+partial-makes_each aggregates =
     each-passes (can_be_made (partial_aggregates aggregates)) (partial_aggregates aggregates)
     (Contains-AllByRecursion (λ agg. can_be_made (partial_aggregates aggregates) agg ≡ true)
-    (partial_aggregates aggregates) (λ agg among. partial-makes aggregates agg none among))
+    (partial_aggregates aggregates) (λ agg among. partial-makes aggregates agg among))
 
-pub own-makes_each : (aggregates : List Agg) → list_any is_holistic aggregates ≡ false
+pub own-makes_each : (aggregates : List Agg)
     → list_all (can_be_made (partial_aggregates aggregates)) aggregates ≡ true
-own-makes_each aggregates none =
+own-makes_each aggregates =
     each-passes (can_be_made (partial_aggregates aggregates)) aggregates
     (Contains-AllByRecursion (λ agg. can_be_made (partial_aggregates aggregates) agg ≡ true) aggregates
-    (λ agg among. partial-makes aggregates agg none (fold-keeps aggregates aggregates agg among)))
+    (λ agg among. partial-makes aggregates agg (fold-keeps aggregates aggregates agg among)))

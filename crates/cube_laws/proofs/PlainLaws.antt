@@ -98,6 +98,21 @@ decimal-49 = decimal-known (codes "49") refl (omega arith) (λ is. omega arith) 
 decimal-6 : decimal 6 ≡ codes "6"
 decimal-6 = decimal-known (codes "6") refl (omega arith) (λ is. omega arith) (omega arith)
 
+decimal-150 : decimal 150 ≡ codes "150"
+decimal-150 = decimal-known (codes "150") refl (omega arith) (λ is. omega arith) (omega arith)
+
+decimal-300 : decimal 300 ≡ codes "300"
+decimal-300 = decimal-known (codes "300") refl (omega arith) (λ is. omega arith) (omega arith)
+
+decimal-1 : decimal 1 ≡ codes "1"
+decimal-1 = decimal_digit 1 (omega arith)
+
+decimal-2 : decimal 2 ≡ codes "2"
+decimal-2 = decimal_digit 2 (omega arith)
+
+decimal-3 : decimal 3 ≡ codes "3"
+decimal-3 = decimal_digit 3 (omega arith)
+
 -- numbers of hundredths
 pub decimals-printed : ArePrintedSo
 decimals-printed = record {
@@ -109,6 +124,11 @@ decimals-printed = record {
   squares = ap (λ digits. pointed 4 (padded 5 digits)) (long_decimal_is_decimal 1920 (omega arith) ∙ decimal-1920);
   variance = ap₂ (λ (top bottom : List ℕ). (top ++ codes "/") ++ bottom) (long_decimal_digit 1 (omega arith))
       (long_decimal_digit 6 (omega arith));
+  values = λ i. ((pointed 2 (padded 3 (decimal-150 i)) ++ codes "*") ++ decimal-2 i)
+      ++ ((codes " " ++ ((pointed 2 (padded 3 (decimal-300 i)) ++ codes "*") ++ decimal-1 i)) ++ []);
+  whole_values = λ i. (((45 ∷ decimal-2 i) ++ codes "*") ++ decimal-1 i)
+      ++ ((codes " " ++ ((decimal-5 i ++ codes "*") ++ decimal-3 i)) ++ []);
+  no_values = refl;
 }
 
 pub row_fields-sample : row_fields sample_layout sample_row

@@ -13,7 +13,7 @@ use Rattle.std.proofs.lemmas.List.Sums.{sum_by-cons}
 use Rattle.std.proofs.lemmas.Nat.Gcd.{IsGcd-swap, le_of_dvd}
 use Rattle.std.proofs.Math.Nat.{dvd-mul_left, dvd-mul_right, mul_comm, le-mul_of_pos_right, mul-le-mul}
 use Rattle.cube_core.specs.Answer.{IsSum, IsBest, IsMean, IsAnswer, AreAnswers, IsPercentile, IsSumOfSquares}
-use Rattle.cube_core.specs.Answer.{IsVarianceAnswer}
+use Rattle.cube_core.specs.Answer.{AreValues, IsVarianceAnswer}
 use Rattle.cube_core.specs.Covers.{covers}
 use Rattle.cube_core.specs.Cube.{AreRows, HasAnswers, is_total, key_of}
 use Rattle.cube_core.specs.Fraction.{IsInLowestTerms}
@@ -25,10 +25,10 @@ use Rattle.cube_core.specs.Wide.{IsReduced}
 use Rattle.cube_core.specs.declared.aggregate.Agg.{Agg}
 use Rattle.cube_core.specs.declared.aggregate.Agg.TheVariants.{CountAll, Count, Sum, Min, Max, Avg}
 use Rattle.cube_core.specs.declared.aggregate.Agg.TheVariants.{CountDistinct, PercentileDisc}
-use Rattle.cube_core.specs.declared.aggregate.Agg.TheVariants.{SumOfSquares, VarPop, VarSamp}
+use Rattle.cube_core.specs.declared.aggregate.Agg.TheVariants.{SumOfSquares, VarPop, VarSamp, Values}
 use Rattle.cube_core.specs.declared.aggregate.Answer.{Answer}
 use Rattle.cube_core.specs.declared.aggregate.Answer.TheVariants.{Null, Count as CountOf, Whole, Ratio}
-use Rattle.cube_core.specs.declared.aggregate.Answer.TheVariants.{Squares, Variance}
+use Rattle.cube_core.specs.declared.aggregate.Answer.TheVariants.{Squares, Variance, Values as ValuesOf}
 use Rattle.cube_core.specs.declared.fact.Fact.{Fact}
 use Rattle.cube_core.specs.declared.key.Key.{Key}
 use Rattle.cube_core.specs.declared.key.Row.{Row}
@@ -37,12 +37,16 @@ use Rattle.cube_core.proofs.VarianceLaws.{squares_and_spread}
 use Rattle.cube_core.proofs.ListLaws.{AllByRecursion-Contains, Contains-AllByRecursion, map-Contains, filter-passed}
 use Rattle.cube_core.proofs.ListLaws.{Contains-head, Contains-nil, filter-failed}
 use Rattle.cube_merge.specs.Lawful.{IsCount, IsNumber, IsValue, IsFraction, IsOfKind, IsLawfulRow, IsSquares}
-use Rattle.cube_merge.specs.Lawful.{IsVarianceFraction}
+use Rattle.cube_merge.specs.Lawful.{IsVarianceFraction, ListsValues}
 use Rattle.cube_merge.specs.Lawful.{IsNoZero, CountsFacts, IsInOrder, IsAtLeast, IsWithin}
 use Rattle.cube_merge.specs.Lawful.{IsNoneAmong, TellsNone, measure_of, tells_no_value, tells_none}
 use Rattle.cube_laws.specs.Told.{HasSmallValues, AreCountable, CanBePrinted}
+use Rattle.cube_laws.specs.Told.{HasSmallLists, ListsSmallValues, lists_nothing}
+use Rattle.cube_laws.proofs.AnswerTextLaws.{IsOfKind-small}
+use Rattle.cube_laws.proofs.HeldLaws.{AreHeld-each, AreHeld-itself, AreHeld-none, AreHeld-order}
 use Rattle.cube_laws.proofs.HolisticLaws.{IsDistinct-length, IsPercentile-Contains}
 use Rattle.cube_laws.proofs.KeyLaws.{IsTold-is_cell}
+use Rattle.cube_laws.proofs.RowOrderLaws.{length-Reordered}
 use Rattle.cube_laws.proofs.StatisticsLaws.{IsReduced-IsInLowestTerms, IsVariance-spread}
 
 -- ---- sizes
@@ -206,6 +210,19 @@ IsVarianceAnswer-IsVarianceFraction is_sample values (CountOf n) few small h = a
 IsVarianceAnswer-IsVarianceFraction is_sample values (Whole z) few small h = absurd h
 IsVarianceAnswer-IsVarianceFraction is_sample values (Ratio p q) few small h = absurd h
 IsVarianceAnswer-IsVarianceFraction is_sample values (Squares n) few small h = absurd h
+IsVarianceAnswer-IsVarianceFraction is_sample values (ValuesOf held) few small h = absurd h
+
+AreValues-ListsValues : (values : List ℤ) (a : Answer) → length values < 2 ^ 64 → AreValues values a → ListsValues a
+AreValues-ListsValues values a few (held, is, are) =
+    subst ListsValues (sym is) (record {
+      in_order = AreHeld-itself values held are;
+      few = omega (arith, few, length-Reordered (AreHeld-order values held are));
+    })
+
+AreValues-ListsSmallValues : (values : List ℤ) (a : Answer) → AllByRecursion (FitsSigned w64) values
+    → AreValues values a → ListsSmallValues a
+AreValues-ListsSmallValues values a small (held, is, are) =
+    subst ListsSmallValues (sym is) (AreHeld-each (FitsSigned w64) values held are small)
 
 -- ---- groups
 length-filter-le : {X : Type 0} (p : X → Bool) (xs : List X) → length (filter p xs) ≤ length xs
@@ -291,6 +308,16 @@ IsAnswer-IsOfKind group (VarSamp m) a countable h =
       length-values_of-le m group,
       countable.few,
     )) (values_of-small m group countable.small) h
+IsAnswer-IsOfKind group (Values m) a countable h =
+    AreValues-ListsValues (values_of m group) a (omega (
+      arith,
+      length-values_of-le m group,
+      countable.few,
+    )) h
+
+of_kind : (group : List Fact) (agg : Agg) (a : Answer) → AreCountable group → IsAnswer group agg a
+    → lists_nothing agg ≡ true → ListsSmallValues a
+of_kind group agg a countable h none = IsOfKind-small agg a none (IsAnswer-IsOfKind group agg a countable h)
 
 AreAnswers-AreOfKind : (group : List Fact) (aggregates : List Agg) (answers : List Answer) → AreCountable group
     → AreAnswers group aggregates answers → AllZip IsOfKind aggregates answers
@@ -299,6 +326,32 @@ AreAnswers-AreOfKind group [] (a ∷ answers) countable h = h
 AreAnswers-AreOfKind group (agg ∷ aggregates) [] countable h = h
 AreAnswers-AreOfKind group (agg ∷ aggregates) (a ∷ answers) countable h =
     (IsAnswer-IsOfKind group agg a countable h.0, AreAnswers-AreOfKind group aggregates answers countable h.1)
+
+-- the values that they list are of 64 bits
+IsAnswer-small : (group : List Fact) (agg : Agg) (a : Answer) → AreCountable group → IsAnswer group agg a
+    → ListsSmallValues a
+IsAnswer-small group (Values m) a countable h =
+    AreValues-ListsSmallValues (values_of m group) a (values_of-small m group countable.small) h
+IsAnswer-small group CountAll a countable h = of_kind group CountAll a countable h refl
+IsAnswer-small group (Count m) a countable h = of_kind group (Count m) a countable h refl
+IsAnswer-small group (Sum m) a countable h = of_kind group (Sum m) a countable h refl
+IsAnswer-small group (Min m) a countable h = of_kind group (Min m) a countable h refl
+IsAnswer-small group (Max m) a countable h = of_kind group (Max m) a countable h refl
+IsAnswer-small group (Avg m) a countable h = of_kind group (Avg m) a countable h refl
+IsAnswer-small group (CountDistinct m) a countable h = of_kind group (CountDistinct m) a countable h refl
+IsAnswer-small group (PercentileDisc m units places) a countable h =
+    of_kind group (PercentileDisc m units places) a countable h refl
+IsAnswer-small group (SumOfSquares m) a countable h = of_kind group (SumOfSquares m) a countable h refl
+IsAnswer-small group (VarPop m) a countable h = of_kind group (VarPop m) a countable h refl
+IsAnswer-small group (VarSamp m) a countable h = of_kind group (VarSamp m) a countable h refl
+
+AreAnswers-small : (group : List Fact) (aggregates : List Agg) (answers : List Answer) → AreCountable group
+    → AreAnswers group aggregates answers → AllByRecursion ListsSmallValues answers
+AreAnswers-small group [] [] countable h = tt
+AreAnswers-small group [] (a ∷ answers) countable h = absurd h
+AreAnswers-small group (agg ∷ aggregates) [] countable h = tt
+AreAnswers-small group (agg ∷ aggregates) (a ∷ answers) countable h =
+    (IsAnswer-small group agg a countable h.0, AreAnswers-small group aggregates answers countable h.1)
 
 -- a group of facts that can be counted can be
 group_of-AreCountable : (facts : List Fact) (row : Row) → AreCountable facts → AreCountable (group_of row.key facts)
@@ -335,6 +388,7 @@ IsAnswer-CountsFacts group (PercentileDisc m units places) a some h = tt
 IsAnswer-CountsFacts group (SumOfSquares m) a some h = tt
 IsAnswer-CountsFacts group (VarPop m) a some h = tt
 IsAnswer-CountsFacts group (VarSamp m) a some h = tt
+IsAnswer-CountsFacts group (Values m) a some h = tt
 
 AreAnswers-CountFacts : (group : List Fact) (aggregates : List Agg) (answers : List Answer) → 0 < length group
     → AreAnswers group aggregates answers → AllZip CountsFacts aggregates answers
@@ -368,6 +422,7 @@ IsAnswer-IsAtLeast group m least (PercentileDisc other units places) a h k = tt
 IsAnswer-IsAtLeast group m least (SumOfSquares other) a h k = tt
 IsAnswer-IsAtLeast group m least (VarPop other) a h k = tt
 IsAnswer-IsAtLeast group m least (VarSamp other) a h k = tt
+IsAnswer-IsAtLeast group m least (Values other) a h k = tt
 
 AreAnswers-AreAtLeast : (group : List Fact) (m : ℕ) (least : Answer) (aggregates : List Agg) (answers : List Answer)
     → IsAnswer group (Min m) least → AreAnswers group aggregates answers
@@ -394,6 +449,7 @@ module _ (group : List Fact) (aggregates : List Agg) (answers : List Answer)
   IsAnswer-IsWithin (SumOfSquares m) a h = tt
   IsAnswer-IsWithin (VarPop m) a h = tt
   IsAnswer-IsWithin (VarSamp m) a h = tt
+  IsAnswer-IsWithin (Values m) a h = tt
 
   AreAnswers-AreWithin : (some : List Agg) (their : List Answer) → AreAnswers group some their
       → AllZip (IsWithin aggregates answers) some their
@@ -435,6 +491,7 @@ none-of-variance (v ∷ vs) (CountOf n) h none = absurd h
 none-of-variance (v ∷ vs) (Whole z) h none = absurd h
 none-of-variance (v ∷ vs) (Ratio p q) h none = absurd h
 none-of-variance (v ∷ vs) (Squares n) h none = absurd h
+none-of-variance (v ∷ vs) (ValuesOf held) h none = absurd h
 
 -- of no value a variance is null
 variance-of-none : (is_sample : Bool) (a : Answer) → IsVarianceAnswer is_sample [] a → tells_none a ≡ true
@@ -444,6 +501,12 @@ variance-of-none is_sample (CountOf n) h = absurd h
 variance-of-none is_sample (Whole z) h = absurd h
 variance-of-none is_sample (Ratio p q) h = absurd h
 variance-of-none is_sample (Squares n) h = absurd h
+variance-of-none is_sample (ValuesOf held) h = absurd h
+
+-- values tell that there is none where none is held
+no_pairs : (held : List (ℤ × ℕ)) → (length held == 0) ≡ true → held ≡ []
+no_pairs [] e = refl
+no_pairs (pair ∷ held) e = absurd (omega (arith, eqb-true (length (pair ∷ held)) 0 e))
 
 -- so does an answer of a measure, but for the variance of a sample
 tells_none-values : (group : List Fact) (m : ℕ) (agg : Agg) (a : Answer) → IsAnswer group agg a
@@ -483,6 +546,9 @@ tells_none-values group m (SumOfSquares k) a h is none =
 tells_none-values group m (VarPop k) a h is none =
     subst (λ n. values_of n group ≡ []) (some-same k m is) (none-of-variance (values_of k group) a h none)
 tells_none-values group m (VarSamp k) a h is none = absurd (false≢true none)
+tells_none-values group m (Values k) a (held, same, are) is none =
+    subst (λ n. values_of n group ≡ []) (some-same k m is)
+    ((AreHeld-none (values_of k group) held are).0 (no_pairs held (ap tells_none (sym same) ∙ none)))
 
 values-tells_none : (group : List Fact) (m : ℕ) (agg : Agg) (a : Answer) → values_of m group ≡ []
     → IsAnswer group agg a → TellsNone m agg a
@@ -509,6 +575,10 @@ values-tells_none group m (VarPop k) a empty h is =
     variance-of-none false a (subst (λ values. IsVarianceAnswer false values a) (none-at group k m empty is) h)
 values-tells_none group m (VarSamp k) a empty h is =
     variance-of-none true a (subst (λ values. IsVarianceAnswer true values a) (none-at group k m empty is) h)
+values-tells_none group m (Values k) a empty (held, same, are) is =
+    ap tells_none same
+    ∙ ap (λ (pairs : List (ℤ × ℕ)). length pairs == 0)
+    ((AreHeld-none (values_of k group) held are).1 (none-at group k m empty is))
 
 AreAnswers-TellNone : (group : List Fact) (m : ℕ) (aggregates : List Agg) (answers : List Answer)
     → values_of m group ≡ [] → AreAnswers group aggregates answers → AllZip (TellsNone m) aggregates answers
@@ -538,6 +608,7 @@ module _ (group : List Fact) (aggregates : List Agg) (answers : List Answer)
   IsAnswer-IsNoneAmong (SumOfSquares m) a h none = none-of_measure m (SumOfSquares m) a h refl none
   IsAnswer-IsNoneAmong (VarPop m) a h none = none-of_measure m (VarPop m) a h refl none
   IsAnswer-IsNoneAmong (VarSamp m) a h none = none-of_measure m (VarSamp m) a h refl none
+  IsAnswer-IsNoneAmong (Values m) a h none = none-of_measure m (Values m) a h refl none
 
   AreAnswers-AreNone : (some : List Agg) (their : List Answer) → AreAnswers group some their
       → AllZip (IsNoneAmong aggregates answers) some their
@@ -581,3 +652,12 @@ AreRows-IsLawfulRow s facts rows printable are =
       counted = λ part. AreAnswers-CountFacts (group_of row.key facts) s.aggregates row.answers
           (group_of-some (length s.dimensions) facts row.key parts.1 part) answers;
     })
+
+-- and the values that they list are of 64 bits
+pub AreRows-HasSmallLists : (s : Layout) (facts : List Fact) (rows : List Row) → CanBePrinted s facts
+    → AreRows s facts rows → AllByRecursion HasSmallLists rows
+AreRows-HasSmallLists s facts rows printable are =
+    Contains-AllByRecursion HasSmallLists rows (λ row among.
+    AreAnswers-small (group_of row.key facts) s.aggregates row.answers
+    (group_of-AreCountable facts row printable.countable)
+    (AllByRecursion-Contains (HasAnswers s.aggregates facts) rows row are.answers among))

@@ -153,6 +153,7 @@ module _ {X : Type 0} (values_under : X → List ℤ) (answer_of : X → Answer)
   number_in-Contains (answer.Ratio p q) numbers n among = among
   number_in-Contains (answer.Squares k) numbers n among = among
   number_in-Contains (answer.Variance p q) numbers n among = among
+  number_in-Contains (answer.Values held) numbers n among = among
 
   -- a number is an answer, or among the other numbers
   number_in-cases : (a : Answer) (numbers : List ℤ) (n : ℤ) → Contains (cons_option (number_in a) numbers) n →
@@ -166,6 +167,7 @@ module _ {X : Type 0} (values_under : X → List ℤ) (answer_of : X → Answer)
   number_in-cases (answer.Ratio p q) numbers n among = inr among
   number_in-cases (answer.Squares k) numbers n among = inr among
   number_in-cases (answer.Variance p q) numbers n among = inr among
+  number_in-cases (answer.Values held) numbers n among = inr among
 
   module _ (R : ℤ → ℤ → Type 0) where
     -- each number is one of the values

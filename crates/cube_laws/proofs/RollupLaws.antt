@@ -52,6 +52,7 @@ measure_in (agg.PercentileDisc m units places) = m
 measure_in (agg.SumOfSquares m) = m
 measure_in (agg.VarPop m) = m
 measure_in (agg.VarSamp m) = m
+measure_in (agg.Values m) = m
 
 -- what an answer to an aggregate of numbers says
 IsAnswer-Says : (group : List Fact) (aggregate : Agg) (a : Answer) → gives_numbers aggregate ≡ true →
@@ -69,6 +70,7 @@ IsAnswer-Says group (agg.PercentileDisc m units places) a numbers h =
 IsAnswer-Says group (agg.SumOfSquares m) a numbers h = cc
 IsAnswer-Says group (agg.VarPop m) a numbers h = cc
 IsAnswer-Says group (agg.VarSamp m) a numbers h = cc
+IsAnswer-Says group (agg.Values m) a numbers h = cc
 
 module _ (s : Layout) (facts : List Fact) (rows : List Row) (row : Row) (dimension place : ℕ)
     (is : IsRolledUp s facts rows row dimension) where

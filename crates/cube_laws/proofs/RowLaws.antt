@@ -16,6 +16,7 @@ use Rattle.cube_core.specs.declared.aggregate.Answer.TheVariants as answer
 use Rattle.cube_core.specs.declared.fact.Fact.{Fact}
 use Rattle.cube_core.specs.declared.key.Row.{Row}
 use Rattle.cube_laws.proofs.FractionLaws.{IsInLowestTerms-unique}
+use Rattle.cube_laws.proofs.HeldLaws.{AreValues-unique}
 use Rattle.cube_laws.proofs.HolisticLaws.{IsDistinctCount-unique, IsPercentile-unique}
 use Rattle.cube_laws.proofs.StatisticsLaws.{IsSumOfSquares-unique, IsVarianceAnswer-unique}
 use Rattle.cube_laws.proofs.SortedLaws.{IsStrictlySortedBy-unique}
@@ -62,6 +63,7 @@ IsAnswer-unique group (agg.PercentileDisc m units places) a b h k =
 IsAnswer-unique group (agg.SumOfSquares m) a b h k = IsSumOfSquares-unique (values_of m group) a b h k
 IsAnswer-unique group (agg.VarPop m) a b h k = IsVarianceAnswer-unique false (values_of m group) a b h k
 IsAnswer-unique group (agg.VarSamp m) a b h k = IsVarianceAnswer-unique true (values_of m group) a b h k
+IsAnswer-unique group (agg.Values m) a b h k = AreValues-unique (values_of m group) a b h k
 
 -- the answers over a group are determined
 pub AreAnswers-unique : (group : List Fact) (aggregates : List Agg) (as' bs : List Answer) →

@@ -4,7 +4,7 @@ use Rattle.std.proofs.Common.{length, sum_by}
 use Rattle.std.proofs.Common.{map, filter_map, Option, Some, None, Contains, IsPermutation, IsTrue}
 use Rattle.std.proofs.Common.{◌↔◌, ◌||◌, ◌&&◌, refl, sym, ap, ◌∙◌, subst, subst₂, ap₂, arith}
 use Rattle.std.specs.List.{AllByRecursion, cons_option, count_by}
-use Rattle.std.specs.Ordering.{int_cmp, is_lt, is_le}
+use Rattle.std.specs.Ordering.{int_cmp, int_eq, is_lt, is_le}
 use Rattle.std.proofs.lemmas.Int.{ints}
 use Rattle.std.proofs.lemmas.List.Elements.{All-from_recursion, recursion_from_All}
 use Rattle.std.proofs.lemmas.List.Sorted.{All-permutation}
@@ -13,7 +13,7 @@ use Rattle.cube_core.specs.Layout.{Layout}
 use Rattle.cube_core.proofs.ReorderedLaws.{Reordered, none, next, exchange, both, Reordered-refl, IsPermutation-Reordered}
 use Rattle.cube_core.proofs.ReorderedLaws.{Reordered-sym, Reordered-IsPermutation, filter-Reordered}
 use Rattle.cube_core.specs.Answer.{IsSum, IsBest, IsMean, IsAnswer, AreAnswers, IsDistinctCount, IsPercentile, StandsAt}
-use Rattle.cube_core.specs.Answer.{IsSumOfSquares, IsVarianceAnswer, percentile_place}
+use Rattle.cube_core.specs.Answer.{AreHeld, AreValues, IsSumOfSquares, IsVarianceAnswer, percentile_place}
 use Rattle.cube_core.specs.Covers.{covers}
 use Rattle.cube_core.specs.Cube.{AreRowsOver, HasAnswers, key_of, is_cell, is_total}
 use Rattle.cube_core.specs.Fraction.{IsInLowestTerms}
@@ -100,7 +100,7 @@ IsBest-Reordered IsAsGood (v ∷ vs) (w ∷ ws) a r h = (
   AllByRecursion-Reordered (IsAsGood h.0) (v ∷ vs) (w ∷ ws) r h.3,
 )
 
-IsMean-Reordered : (values values' : List ℤ) (a : Answer) → Reordered values values' → IsMean values a
+pub IsMean-Reordered : (values values' : List ℤ) (a : Answer) → Reordered values values' → IsMean values a
     → IsMean values' a
 IsMean-Reordered [] [] a r h = h
 IsMean-Reordered [] (w ∷ ws) a r h = absurd (omega (arith, length-Reordered r))
@@ -113,7 +113,7 @@ IsMean-Reordered (v ∷ vs) (w ∷ ws) a r h = (
 )
 
 -- as many elements pass a test
-count_by-Reordered : {X : Type 0} (p : X → Bool) {xs ys : List X} → Reordered xs ys → count_by p xs ≡ count_by p ys
+pub count_by-Reordered : {X : Type 0} (p : X → Bool) {xs ys : List X} → Reordered xs ys → count_by p xs ≡ count_by p ys
 count_by-Reordered p {xs} {ys} r =
     sym (sum_by-IsPermutation (λ x. cond (p x) 1 0) xs ys (Reordered-IsPermutation r))
 
@@ -124,7 +124,7 @@ StandsAt-Reordered place values values' v r stands = record {
   as_many = omega (arith, stands.as_many, count_by-Reordered (λ x. is_le (int_cmp x v)) r);
 }
 
-IsDistinctCount-Reordered : (values values' : List ℤ) (a : Answer) → Reordered values values'
+pub IsDistinctCount-Reordered : (values values' : List ℤ) (a : Answer) → Reordered values values'
     → IsDistinctCount values a → IsDistinctCount values' a
 IsDistinctCount-Reordered values values' a r (numbers, sorted, same, is) = (
   numbers,
@@ -136,7 +136,7 @@ IsDistinctCount-Reordered values values' a r (numbers, sorted, same, is) = (
   is,
 )
 
-IsPercentile-Reordered : (units places : ℕ) (values values' : List ℤ) (a : Answer) → Reordered values values'
+pub IsPercentile-Reordered : (units places : ℕ) (values values' : List ℤ) (a : Answer) → Reordered values values'
     → IsPercentile units places values a → IsPercentile units places values' a
 IsPercentile-Reordered units places [] [] a r h = h
 IsPercentile-Reordered units places [] (w ∷ ws) a r h = absurd (omega (arith, length-Reordered r))
@@ -152,8 +152,8 @@ IsPercentile-Reordered units places (v ∷ vs) (w ∷ ws) a r (x, is, stands) = 
 squares_of-Reordered : {xs ys : List ℤ} → Reordered xs ys → squares_of xs ≡ squares_of ys
 squares_of-Reordered {xs} {ys} r = sym (sum_by-IsPermutation square xs ys (Reordered-IsPermutation r))
 
-IsSumOfSquares-Reordered : (values values' : List ℤ) (a : Answer) → Reordered values values' → IsSumOfSquares values a
-    → IsSumOfSquares values' a
+pub IsSumOfSquares-Reordered : (values values' : List ℤ) (a : Answer) → Reordered values values'
+    → IsSumOfSquares values a → IsSumOfSquares values' a
 IsSumOfSquares-Reordered [] [] a r h = h
 IsSumOfSquares-Reordered [] (w ∷ ws) a r h = absurd (omega (arith, length-Reordered r))
 IsSumOfSquares-Reordered (v ∷ vs) [] a r h = absurd (omega (arith, length-Reordered r))
@@ -165,7 +165,7 @@ deviations_of-Reordered {xs} {ys} r =
     ap₂ (λ (n : ℕ) (z : ℤ). sum_by (λ x. square (pos n *ℤ x -ℤ z)) xs) (length-Reordered r) (total_of-Reordered r)
     ∙ sym (sum_by-IsPermutation (λ x. square (pos (length ys) *ℤ x -ℤ total_of ys)) xs ys (Reordered-IsPermutation r))
 
-IsVarianceAnswer-Reordered : (is_sample : Bool) (values values' : List ℤ) (a : Answer) → Reordered values values'
+pub IsVarianceAnswer-Reordered : (is_sample : Bool) (values values' : List ℤ) (a : Answer) → Reordered values values'
     → IsVarianceAnswer is_sample values a → IsVarianceAnswer is_sample values' a
 IsVarianceAnswer-Reordered is_sample values values' answer.Null r h =
     subst (λ n. freedom_of is_sample n ≡ 0) (length-Reordered r) h
@@ -177,6 +177,20 @@ IsVarianceAnswer-Reordered is_sample values values' (answer.Count n) r h = absur
 IsVarianceAnswer-Reordered is_sample values values' (answer.Whole z) r h = absurd h
 IsVarianceAnswer-Reordered is_sample values values' (answer.Ratio p q) r h = absurd h
 IsVarianceAnswer-Reordered is_sample values values' (answer.Squares n) r h = absurd h
+IsVarianceAnswer-Reordered is_sample values values' (answer.Values held) r h = absurd h
+
+-- each value as often
+AreHeld-Reordered : (values values' : List ℤ) (held : List (ℤ × ℕ)) → Reordered values values' → AreHeld values held
+    → AreHeld values' held
+AreHeld-Reordered values values' held r are = record {
+  ascending = are.ascending;
+  some = are.some;
+  same = λ x. are.same x ∙ count_by-Reordered (int_eq x) r;
+}
+
+pub AreValues-Reordered : (values values' : List ℤ) (a : Answer) → Reordered values values' → AreValues values a
+    → AreValues values' a
+AreValues-Reordered values values' a r (held, is, are) = (held, is, AreHeld-Reordered values values' held r are)
 
 -- an answer over a group is one over the group in another order
 IsAnswer-Reordered : (group group' : List Fact) (aggregate : Agg) (a : Answer) → Reordered group group' →
@@ -201,6 +215,8 @@ IsAnswer-Reordered group group' (agg.VarPop m) a r h =
     IsVarianceAnswer-Reordered false (values_of m group) (values_of m group') a (values_of-Reordered m r) h
 IsAnswer-Reordered group group' (agg.VarSamp m) a r h =
     IsVarianceAnswer-Reordered true (values_of m group) (values_of m group') a (values_of-Reordered m r) h
+IsAnswer-Reordered group group' (agg.Values m) a r h =
+    AreValues-Reordered (values_of m group) (values_of m group') a (values_of-Reordered m r) h
 
 AreAnswers-Reordered : (group group' : List Fact) (aggregates : List Agg) (answers : List Answer)
     → Reordered group group' →

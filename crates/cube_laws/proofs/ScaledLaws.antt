@@ -1,12 +1,12 @@
 -- What the greatest common divisor with a power of ten is, and the fraction of a value for one of its units.
-use Rattle.std.proofs.Common.{◌≡◌, ◌≢◌, ◌==◌, ℕ, zero, suc, ◌+◌, ◌*◌, ◌/◌, ◌%◌, ◌^◌, ◌<◌, ◌≤◌, ℤ, pos, negsuc, neg_ℤ, ◌*ℤ◌}
+use Rattle.std.proofs.Common.{◌≡◌, ◌≢◌, ◌==◌, ℕ, zero, suc, ◌*◌, ◌/◌, ◌%◌, ◌^◌, ◌<◌, ℤ, pos, negsuc, neg_ℤ, ◌*ℤ◌}
 use Rattle.std.proofs.Common.{unsigned_abs, int_div, refl, sym, ap, ◌∙◌, subst, arith, inl, inr}
 use Prim.Native.Nat.{◌∣◌}
 use Rattle.std.specs.Int.{IsGcd}
 use Rattle.std.proofs.lemmas.Bool.{cases_Bool, eqb-true, eqb-false}
 use Rattle.std.proofs.lemmas.Nat.{mod_below, mul-pow}
 use Rattle.std.proofs.lemmas.Nat.Gcd.{IsGcd-from_mod, IsGcd-swap, dvd_of_mod-eq-zero, dvd_refl, dvd_trans}
-use Rattle.std.proofs.Math.Nat.{div-mul_cancel, dvd-mul_left, dvd-mul_right, dvd-mul_right_of_dvd, mul-dvd-mul_right}
+use Rattle.std.proofs.Math.Nat.{div-mul_cancel, dvd-mul_right, dvd-mul_right_of_dvd, mul-dvd-mul_right}
 use Rattle.std.proofs.Math.Nat.{mul_comm, one-dvd, one-le-pow, pos_of_dvd_of_pos, pow-suc, pow-zero, zero-mul}
 use Rattle.cube_core.specs.Fraction.{IsInLowestTerms}
 use Rattle.cube_core.specs.Text.{common_power, common_with_ten}

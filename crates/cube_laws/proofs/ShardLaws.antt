@@ -3,7 +3,7 @@ use Rattle.std.proofs.Common.{◌≡◌, ℕ, zero, suc, ◌+◌, ◌<◌, ◌�
 use Rattle.std.proofs.Common.{length, map, filter, filter_map, drop, get_or, if◌then◌else◌, Option, Some, None, IsSome}
 use Rattle.std.proofs.Common.{IfSome, Result, Ok, Err, IfOk, Contains, option_map, ◌≢◌, refl, sym, ap, ◌∙◌, subst, inl}
 use Rattle.std.proofs.Common.{inr, arith, append_assoc, length-append, codes}
-use Rattle.std.specs.Prelude.{◌==◌, ◌||◌, ◌&&◌, ◌%◌, is_some}
+use Rattle.std.specs.Prelude.{◌==◌, ◌&&◌, ◌%◌, is_some}
 use Rattle.std.specs.Option.{option_map_or, option_to_list}
 use Rattle.std.specs.List.{AllByRecursion, AllZip, IsDistinct, list_all, cons_option, range_with_len}
 use Rattle.std.specs.Str.{bytes_eq, is_utf8}

@@ -8,16 +8,18 @@ use Rattle.std.proofs.lemmas.List.Concat.{length-flat_map}
 use Rattle.std.proofs.lemmas.List.Elements.{filter_map-append}
 use Rattle.std.proofs.lemmas.List.Sorted.{IsPermutation-map, sum_by-IsPermutation}
 use Rattle.std.proofs.lemmas.List.Sums.{sum_by-append, sum_by-cons}
-use Rattle.cube_core.specs.Answer.{IsSum, IsBest, IsMean, IsAnswer, AreAnswers, IsSumOfSquares, IsVarianceAnswer}
+use Rattle.cube_core.specs.Answer.{IsSum, IsBest, IsMean, IsAnswer, AreAnswers, AreValues, IsSumOfSquares}
+use Rattle.cube_core.specs.Answer.{IsVarianceAnswer}
 use Rattle.cube_core.specs.Fraction.{IsInLowestTerms}
 use Rattle.cube_core.specs.Group.{values_of, value_of, total_of}
 use Rattle.cube_core.specs.Merged.{count_answered, number_in, sum_of_counts, numbers_of, column, IsMeanOf, IsMerged}
 use Rattle.cube_core.specs.Merged.{IsMadeVariance, IsSumOfAll, IsVarianceOf, squares_among, squares_in, sum_of_squares}
+use Rattle.cube_core.specs.Merged.{values_among, values_answered}
 use Rattle.cube_core.specs.Variance.{freedom_of, square, squares_of}
 use Rattle.cube_core.specs.declared.aggregate.Agg.{Agg}
 use Rattle.cube_core.specs.declared.aggregate.Agg.TheVariants.{CountAll, Count, Sum, Min, Max, Avg}
 use Rattle.cube_core.specs.declared.aggregate.Agg.TheVariants.{CountDistinct, PercentileDisc}
-use Rattle.cube_core.specs.declared.aggregate.Agg.TheVariants.{SumOfSquares, VarPop, VarSamp}
+use Rattle.cube_core.specs.declared.aggregate.Agg.TheVariants.{SumOfSquares, VarPop, VarSamp, Values}
 use Rattle.cube_core.specs.declared.aggregate.Answer.{Answer}
 use Rattle.cube_core.specs.declared.aggregate.Answer.TheVariants as answer
 use Rattle.cube_core.specs.declared.fact.Fact.{Fact}
@@ -26,10 +28,13 @@ use Rattle.cube_core.proofs.ListLaws.{AllByRecursion-Contains, Contains-AllByRec
 use Rattle.cube_laws.specs.Cells.{answer_at}
 use Rattle.cube_laws.specs.Merging.{CanBeMadeOf, HasVarianceParts}
 use Rattle.cube_laws.proofs.CountLaws.{AreAnswers-slice_get}
-use Rattle.cube_core.proofs.ReorderedLaws.{Reordered, IsPermutation-Reordered, Reordered-IsPermutation}
+use Rattle.cube_laws.proofs.GroupCountLaws.{flat_map-Reordered, flat_map-each_Reordered}
+use Rattle.cube_laws.proofs.HeldLaws.{AreHeld-order}
+use Rattle.cube_core.proofs.ReorderedLaws.{Reordered, IsPermutation-Reordered, Reordered-IsPermutation, Reordered-sym}
 use Rattle.cube_core.proofs.VarianceLaws.{IsVariance-sums}
 use Rattle.cube_laws.proofs.RowOrderLaws.{filter_map-Reordered, length-Reordered, total_of-Reordered}
-use Rattle.cube_laws.proofs.RowOrderLaws.{IsSum-Reordered, IsBest-Reordered}
+use Rattle.cube_laws.proofs.RowOrderLaws.{IsSum-Reordered, IsBest-Reordered, AreValues-Reordered}
+use Rattle.cube_laws.proofs.RowOrderLaws.{IsDistinctCount-Reordered, IsPercentile-Reordered}
 use Rattle.cube_laws.proofs.RollupBestLaws.{Says, IsSum-Says, numbers_among, numbers_among-none, numbers_among-total_of}
 use Rattle.cube_laws.proofs.RollupBestLaws.{IsBest-numbers_among, IsBest-values_under, IsSum-total_of}
 use Rattle.cube_laws.proofs.StatisticsLaws.{IsVariance-reduced}
@@ -199,6 +204,7 @@ IsVarianceOf-IsVarianceAnswer is_sample values count total squares (answer.Count
 IsVarianceOf-IsVarianceAnswer is_sample values count total squares (answer.Whole z) counts sums squared h = absurd h
 IsVarianceOf-IsVarianceAnswer is_sample values count total squares (answer.Ratio p q) counts sums squared h = absurd h
 IsVarianceOf-IsVarianceAnswer is_sample values count total squares (answer.Squares n) counts sums squared h = absurd h
+IsVarianceOf-IsVarianceAnswer is_sample values count total squares (answer.Values held) counts sums squared h = absurd h
 
 -- and a variance that is made of them is that of the values
 IsVarianceAnswer-IsVarianceOf : (is_sample : Bool) (values : List ℤ) (count : ℕ) (total : ℤ) (squares : ℕ) (a : Answer)
@@ -212,6 +218,24 @@ IsVarianceAnswer-IsVarianceOf is_sample values count total squares (answer.Count
 IsVarianceAnswer-IsVarianceOf is_sample values count total squares (answer.Whole z) counts sums squared h = absurd h
 IsVarianceAnswer-IsVarianceOf is_sample values count total squares (answer.Ratio p q) counts sums squared h = absurd h
 IsVarianceAnswer-IsVarianceOf is_sample values count total squares (answer.Squares n) counts sums squared h = absurd h
+IsVarianceAnswer-IsVarianceOf is_sample values count total squares (answer.Values held) counts sums squared h = absurd h
+
+-- ---- values
+-- the values that the rows of shares answer
+values_answered_in : ℕ → Share → List ℤ
+values_answered_in place share = values_answered (answer_in place share)
+
+values_among-shares : (place : ℕ) (shares : List Share)
+    → values_among (column place (map row_in shares)) ≡ flat_map (values_answered_in place) shares
+unfolding values_answered_in
+values_among-shares place [] = refl
+values_among-shares place (share ∷ shares) =
+    ap (λ values. values_answered_in place share ++ values) (values_among-shares place shares)
+
+-- an answer that is values holds them, in another order
+AreValues-order : (values : List ℤ) (a : Answer) → AreValues values a → Reordered (values_answered a) values
+AreValues-order values a (held, is, are) =
+    subst (λ b. Reordered (values_answered b) values) (sym is) (AreHeld-order values held are)
 
 module _ (given : List Agg) (shares : List Share) (each : AllByRecursion (Answers given) shares) where
   -- all facts, and the rows
@@ -294,6 +318,17 @@ module _ (given : List Agg) (shares : List Share) (each : AllByRecursion (Answer
       (sym (squares_among-shares place shares))
       (squares_in_shares-none place m shares (squares-at place m stands)))
 
+  -- the values that the answers hold are the values, in another order
+  Values-shares : (place m : ℕ) → slice_get given place ≡ Some (Values m)
+      → Reordered (values_among (column place share_rows)) (values_of m all_facts)
+  unfolding values_answered_in
+  Values-shares place m stands =
+      subst (Reordered (values_among (column place share_rows))) (sym (values_of-shares m shares))
+      (subst (λ values. Reordered values (flat_map (values_in m) shares)) (sym (values_among-shares place shares))
+      (flat_map-each_Reordered (values_answered_in place) (values_in m) shares
+      (answers-at (λ share. Reordered (values_answered_in place share) (values_in m share)) place (Values m) stands
+      (λ share is. AreValues-order (values_in m share) (answer_in place share) is))))
+
   Variance-shares : (is_sample : Bool) (m : ℕ) (a : Answer) → IsMadeVariance is_sample given share_rows m a
       → IsVarianceAnswer is_sample (values_of m all_facts) a
   Variance-shares is_sample m a h =
@@ -317,13 +352,19 @@ module _ (given : List Agg) (shares : List Share) (each : AllByRecursion (Answer
       IsMeanOf-IsMean (values_of m all_facts) (total_of (numbers_of (column h.0 share_rows)))
       (sum_of_counts (column h.1 share_rows)) a
       (Sum-total_of h.0 m h.2) (Count-shares h.1 m h.3) h.4
-  IsMerged-shares (CountDistinct m) a h = absurd h
-  IsMerged-shares (PercentileDisc m units places) a h = absurd h
+  IsMerged-shares (CountDistinct m) a h =
+      IsDistinctCount-Reordered (values_among (column h.0 share_rows)) (values_of m all_facts) a
+      (Values-shares h.0 m h.1) h.2
+  IsMerged-shares (PercentileDisc m units places) a h =
+      IsPercentile-Reordered units places (values_among (column h.0 share_rows)) (values_of m all_facts) a
+      (Values-shares h.0 m h.1) h.2
   IsMerged-shares (SumOfSquares m) a h =
       IsSumOfAll-IsSumOfSquares (squares_among (column h.0 share_rows)) (values_of m all_facts) a
       (Squares-none h.0 m h.1) (Squares-sum h.0 m h.1) h.2
   IsMerged-shares (VarPop m) a h = Variance-shares false m a h
   IsMerged-shares (VarSamp m) a h = Variance-shares true m a h
+  IsMerged-shares (Values m) a h =
+      AreValues-Reordered (values_among (column h.0 share_rows)) (values_of m all_facts) a (Values-shares h.0 m h.1) h.2
 
   pub AreMerged-shares : (wanted : List Agg) (answers : List Answer) → AllZip (IsMerged given share_rows) wanted answers
       → AreAnswers all_facts wanted answers
@@ -400,8 +441,18 @@ module _ (given : List Agg) (shares : List Share) (each : AllByRecursion (Answer
         (sum_of_counts (column made.1.0 share_rows)) a
         (Sum-total_of made.0.0 m made.0.1) (Count-shares made.1.0 m made.1.1) h,
   )
-  IsAnswer-shares (CountDistinct m) a made h = absurd made
-  IsAnswer-shares (PercentileDisc m units places) a made h = absurd made
+  IsAnswer-shares (CountDistinct m) a made h = (
+    made.0,
+    made.1,
+    IsDistinctCount-Reordered (values_of m all_facts) (values_among (column made.0 share_rows)) a
+        (Reordered-sym (Values-shares made.0 m made.1)) h,
+  )
+  IsAnswer-shares (PercentileDisc m units places) a made h = (
+    made.0,
+    made.1,
+    IsPercentile-Reordered units places (values_of m all_facts) (values_among (column made.0 share_rows)) a
+        (Reordered-sym (Values-shares made.0 m made.1)) h,
+  )
   IsAnswer-shares (SumOfSquares m) a made h = (
     made.0,
     made.1,
@@ -410,6 +461,12 @@ module _ (given : List Agg) (shares : List Share) (each : AllByRecursion (Answer
   )
   IsAnswer-shares (VarPop m) a made h = Variance-back false m a made h
   IsAnswer-shares (VarSamp m) a made h = Variance-back true m a made h
+  IsAnswer-shares (Values m) a made h = (
+    made.0,
+    made.1,
+    AreValues-Reordered (values_of m all_facts) (values_among (column made.0 share_rows)) a
+        (Reordered-sym (Values-shares made.0 m made.1)) h,
+  )
 
   pub AreAnswers-shares : (wanted : List Agg) (answers : List Answer) → AllByRecursion (CanBeMadeOf given) wanted
       → AreAnswers all_facts wanted answers → AllZip (IsMerged given share_rows) wanted answers
@@ -452,6 +509,12 @@ IsSumOfAll-Reordered (n ∷ ns) [] a r h = absurd (omega (arith, length-Reordere
 IsSumOfAll-Reordered (n ∷ ns) (k ∷ ks) a r h =
     h ∙ ap answer.Squares (sym (sum_by-IsPermutation (λ n. n) (n ∷ ns) (k ∷ ks) (Reordered-IsPermutation r)))
 
+values_among-Reordered : (place : ℕ) (rows rows' : List Row) → IsPermutation rows rows'
+    → Reordered (values_among (column place rows)) (values_among (column place rows'))
+values_among-Reordered place rows rows' h =
+    flat_map-Reordered values_answered (IsPermutation-Reordered (column place rows) (column place rows')
+    (IsPermutation-map (answer_at place) rows rows' h))
+
 IsMadeVariance-IsPermutation : (is_sample : Bool) (given : List Agg) (rows rows' : List Row) (m : ℕ) (a : Answer)
     → IsPermutation rows rows' → IsMadeVariance is_sample given rows m a → IsMadeVariance is_sample given rows' m a
 IsMadeVariance-IsPermutation is_sample given rows rows' m a p h = (
@@ -493,14 +556,18 @@ IsMerged-IsPermutation given rows rows' (Avg m) a p h = (
       (subst (λ count. IsMeanOf (total_of (numbers_of (column h.0 rows))) count a)
       (sym (sum_of_counts-IsPermutation h.1 rows rows' p)) h.4),
 )
-IsMerged-IsPermutation given rows rows' (CountDistinct m) a p h = absurd h
-IsMerged-IsPermutation given rows rows' (PercentileDisc m units places) a p h = absurd h
+IsMerged-IsPermutation given rows rows' (CountDistinct m) a p h =
+    (h.0, h.1, IsDistinctCount-Reordered _ _ a (values_among-Reordered h.0 rows rows' p) h.2)
+IsMerged-IsPermutation given rows rows' (PercentileDisc m units places) a p h =
+    (h.0, h.1, IsPercentile-Reordered units places _ _ a (values_among-Reordered h.0 rows rows' p) h.2)
 IsMerged-IsPermutation given rows rows' (SumOfSquares m) a p h =
     (h.0, h.1, IsSumOfAll-Reordered _ _ a (squares_among-Reordered h.0 rows rows' p) h.2)
 IsMerged-IsPermutation given rows rows' (VarPop m) a p h =
     IsMadeVariance-IsPermutation false given rows rows' m a p h
 IsMerged-IsPermutation given rows rows' (VarSamp m) a p h =
     IsMadeVariance-IsPermutation true given rows rows' m a p h
+IsMerged-IsPermutation given rows rows' (Values m) a p h =
+    (h.0, h.1, AreValues-Reordered _ _ a (values_among-Reordered h.0 rows rows' p) h.2)
 
 pub AreMerged-IsPermutation : (given : List Agg) (rows rows' : List Row) (wanted : List Agg) (answers : List Answer)
     → IsPermutation rows rows'

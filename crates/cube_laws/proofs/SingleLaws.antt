@@ -13,7 +13,7 @@ use Rattle.std.proofs.lemmas.Map.Steps.{le-length_from_below}
 use Rattle.std.proofs.lemmas.Nat.Gcd.{IsGcd-from_mod, IsGcd-from_zero}
 use Rattle.std.proofs.lemmas.Slice.Eq.{bytes_eq-Decides}
 use Rattle.cube_core.specs.Answer.{IsAnswer, IsSum, IsLeast, IsGreatest, IsMean, IsDistinctCount, IsPercentile}
-use Rattle.cube_core.specs.Answer.{AreAnswers, IsSumOfSquares, IsVarianceAnswer}
+use Rattle.cube_core.specs.Answer.{AreAnswers, AreValues, IsSumOfSquares, IsVarianceAnswer}
 use Rattle.cube_core.specs.Covers.{covers, all_stand_for, stands_for}
 use Rattle.cube_core.specs.Cube.{AreRows, HasAnswers, key_of, is_cell, is_total}
 use Rattle.cube_core.specs.Group.{value_of}
@@ -39,7 +39,7 @@ use Rattle.cube_core.proofs.VarianceLaws.{deviations_are_spread}
 use Rattle.cube_laws.specs.Cells.{most_cells}
 use Rattle.cube_laws.specs.Single.{HasValuesOrAll, coord_for, count_of_value, answer_of_value, mean_of_value}
 use Rattle.cube_laws.specs.Single.{answer_of_fact, answer_of_none, all_coords, total_of_none}
-use Rattle.cube_laws.specs.Single.{squares_of_value, variance_of_value}
+use Rattle.cube_laws.specs.Single.{squares_of_value, values_of_value, variance_of_value}
 use Rattle.cube_laws.proofs.CellCountLaws.{AreRows-most_cells}
 use Rattle.cube_laws.proofs.CountLaws.{key_in_set}
 use Rattle.cube_laws.proofs.HolisticLaws.{IsPercentile-Contains}
@@ -239,6 +239,16 @@ IsVarianceAnswer-sample : (value : Option ℤ) → IsVarianceAnswer true (cons_o
 IsVarianceAnswer-sample None = refl
 IsVarianceAnswer-sample (Some value) = refl
 
+-- its values are it alone, held once
+AreValues-one : (value : Option ℤ) → AreValues (cons_option value []) (values_of_value value)
+unfolding IsStrictlySortedBy
+AreValues-one None = ([], refl, record { ascending = tt; some = tt; same = λ x. refl })
+AreValues-one (Some value) = (
+  (value, 1) ∷ [],
+  refl,
+  record { ascending = (tt, tt); some = (omega arith, tt); same = λ x. refl },
+)
+
 IsAnswer-one : (fact : Fact) (aggregate : Agg) (a : Answer) → IsAnswer (fact ∷ []) aggregate a
     → a ≡ answer_of_fact fact aggregate
 IsAnswer-one fact agg.CountAll a h = h
@@ -263,6 +273,8 @@ IsAnswer-one fact (agg.VarPop m) a h =
     (IsVarianceAnswer-one (value_of m fact))
 IsAnswer-one fact (agg.VarSamp m) a h =
     IsAnswer-unique (fact ∷ []) (agg.VarSamp m) a answer.Null h (IsVarianceAnswer-sample (value_of m fact))
+IsAnswer-one fact (agg.Values m) a h =
+    IsAnswer-unique (fact ∷ []) (agg.Values m) a (values_of_value (value_of m fact)) h (AreValues-one (value_of m fact))
 
 AreAnswers-one : (fact : Fact) (aggregates : List Agg) (answers : List Answer)
     → AreAnswers (fact ∷ []) aggregates answers → answers ≡ map (answer_of_fact fact) aggregates
@@ -297,6 +309,7 @@ IsAnswer-none (agg.PercentileDisc m units places) = refl
 IsAnswer-none (agg.SumOfSquares m) = refl
 IsAnswer-none (agg.VarPop m) = refl
 IsAnswer-none (agg.VarSamp m) = refl
+IsAnswer-none (agg.Values m) = AreValues-one None
 
 AreAnswers-none : (aggregates : List Agg) → AreAnswers [] aggregates (map answer_of_none aggregates)
 AreAnswers-none [] = tt

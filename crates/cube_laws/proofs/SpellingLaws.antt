@@ -17,7 +17,7 @@ use Rattle.cube_core.specs.SchemaDocument.{aggregate_spelled, statistic_spelled}
 use Rattle.cube_core.specs.declared.aggregate.Agg.{Agg}
 use Rattle.cube_core.specs.declared.aggregate.Agg.TheVariants.{CountAll, Count, Sum, Min, Max, Avg}
 use Rattle.cube_core.specs.declared.aggregate.Agg.TheVariants.{CountDistinct, PercentileDisc}
-use Rattle.cube_core.specs.declared.aggregate.Agg.TheVariants.{SumOfSquares, VarPop, VarSamp}
+use Rattle.cube_core.specs.declared.aggregate.Agg.TheVariants.{SumOfSquares, VarPop, VarSamp, Values}
 use Rattle.cube_core.proofs.SchemaSpellingLaws.{aggregate_spelled_measure_in, measure_in, position-between}
 use Rattle.cube_core.proofs.SchemaSpellingLaws.{position-between_none, bytes_eq-between, statistic_spelled_measure_in}
 use Rattle.cube_core.proofs.PercentileSpellingLaws.{percentiles_over-one}
@@ -212,6 +212,17 @@ aggregate_spelled-spelling_of measures (VarSamp m) lawful distinct of apart =
     (option_or-None SumOfSquares _ _ _ (measure_in-other measures text (codes "sum_of_squares(") (λ name. refl))
     (option_or-None VarPop _ _ _ (measure_in-other measures text (codes "var_pop(") (λ name. refl))
     (option_or-Some VarSamp _ _ m (measure_in-own measures m (codes "var_samp(") distinct inside)))))
+aggregate_spelled-spelling_of measures (Values m) lawful distinct of apart =
+    let inside : m < length measures = grind (arith, nat_tests) in
+    let text : List ℕ = spelling_of measures (Values m) in
+    statistic-last measures text (Values m) refl (measure_in-other measures text (codes "count(") (λ name. refl))
+    (λ name. refl) (λ name. refl) (λ name. refl) (λ name. refl)
+    (statistic_spelled_measure_in measures text
+    ∙ option_or-None CountDistinct _ _ _ (measure_in-other measures text (codes "count(distinct ") (λ name. refl))
+    (option_or-None SumOfSquares _ _ _ (measure_in-other measures text (codes "sum_of_squares(") (λ name. refl))
+    (option_or-None VarPop _ _ _ (measure_in-other measures text (codes "var_pop(") (λ name. refl))
+    (option_or-None VarSamp _ _ _ (measure_in-other measures text (codes "var_samp(") (λ name. refl))
+    (option_or-Some Values _ _ m (measure_in-own measures m (codes "values(") distinct inside))))))
 aggregate_spelled-spelling_of measures (PercentileDisc m units places) lawful distinct of apart =
     let (below, level) = and_parts (nat_lt m (length measures)) (is_level units places) of in
     let inside : m < length measures = grind (arith, nat_tests, below) in
@@ -225,9 +236,10 @@ aggregate_spelled-spelling_of measures (PercentileDisc m units places) lawful di
     (option_or-None SumOfSquares _ _ _ (measure_in-other measures text (codes "sum_of_squares(") (λ name. refl))
     (option_or-None VarPop _ _ _ (measure_in-other measures text (codes "var_pop(") (λ name. refl))
     (option_or-None VarSamp _ _ _ (measure_in-other measures text (codes "var_samp(") (λ name. refl))
+    (option_or-None Values _ _ _ (measure_in-other measures text (codes "values(") (λ name. refl))
     (percentiles_over-one measures text argument units places (get_or measures m []) level
     (percentile-argument units places (get_or measures m [])) refl
-    ∙ ap (option_map (λ k. PercentileDisc k units places)) (position-own measures m distinct inside))))))
+    ∙ ap (option_map (λ k. PercentileDisc k units places)) (position-own measures m distinct inside)))))))
 
 -- the measures of a schema are lawful and differ, being its last names
 are_distinct-end : (front end : List (List ℕ)) → are_distinct (front ++ end) ≡ true → are_distinct end ≡ true

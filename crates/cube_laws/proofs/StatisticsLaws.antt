@@ -45,6 +45,7 @@ IsVarianceAnswer-cases is_sample values (answer.Count n) h = absurd h
 IsVarianceAnswer-cases is_sample values (answer.Whole z) h = absurd h
 IsVarianceAnswer-cases is_sample values (answer.Ratio p q) h = absurd h
 IsVarianceAnswer-cases is_sample values (answer.Squares n) h = absurd h
+IsVarianceAnswer-cases is_sample values (answer.Values held) h = absurd h
 
 no_freedom : (n f : ℕ) → f ≡ 0 → 0 < n * n * f → ⊥
 no_freedom n f none some = omega (arith, subst (λ k. 0 < n * n * k) none some)

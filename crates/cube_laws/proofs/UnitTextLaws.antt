@@ -64,7 +64,7 @@ pub decimal-unique : (m n : ℕ) → m < 10 ^ 64 → n < 10 ^ 64 → decimal m �
 decimal-unique m n small small' same =
     sym (decimal_is_IsNumeral_wide m small).1 ∙ ap (digits_value 10) same ∙ (decimal_is_IsNumeral_wide n small').1
 
-decimal-IsUnsigned : (n : ℕ) → n < 10 ^ 64 → AllByRecursion IsUnsigned (decimal n)
+pub decimal-IsUnsigned : (n : ℕ) → n < 10 ^ 64 → AllByRecursion IsUnsigned (decimal n)
 decimal-IsUnsigned n small = digits-IsUnsigned (decimal n) (decimal_is_IsNumeral_wide n small).0.1
 
 -- no byte of a number without its sign is a minus sign
@@ -160,7 +160,7 @@ pointed-IsUnsigned k digits unsigned =
     (all-append IsUnsigned (take i more) (codes ".") (all-take IsUnsigned i more all) (point, tt))
     (all-drop IsUnsigned i more all)
 
-units_text-IsUnsigned : (k n : ℕ) → n < 10 ^ 64 → AllByRecursion IsUnsigned (units_text k n)
+pub units_text-IsUnsigned : (k n : ℕ) → n < 10 ^ 64 → AllByRecursion IsUnsigned (units_text k n)
 units_text-IsUnsigned k n small = elim (cases_Bool (k == 0)) [
   | inl none ↦ rw none (decimal-IsUnsigned n small)
   | inr some ↦ rw some (pointed-IsUnsigned k (decimal n) (decimal-IsUnsigned n small))
@@ -209,17 +209,27 @@ signed_decimal-IsPlain (negsuc n) small = (
   unsigned-plain (decimal (suc n)) (decimal-IsUnsigned (suc n) small),
 )
 
--- two texts with a slash after bytes that are none
+-- two texts with a byte after bytes that are another
+pub mark-unique : (mark : ℕ) (xs ys as' bs : List ℕ) → AllByRecursion (λ byte. byte ≢ mark) xs
+    → AllByRecursion (λ byte. byte ≢ mark) ys → xs ++ mark ∷ as' ≡ ys ++ mark ∷ bs → (xs ≡ ys) × (as' ≡ bs)
+mark-unique mark [] [] as' bs apart apart' same = (refl, cc)
+mark-unique mark [] (y ∷ ys) as' bs apart apart' same = let first : mark ≡ y = cc in absurd (apart'.0 (sym first))
+mark-unique mark (x ∷ xs) [] as' bs apart apart' same = let first : x ≡ mark = cc in absurd (apart.0 first)
+mark-unique mark (x ∷ xs) (y ∷ ys) as' bs apart apart' same =
+    let first : x ≡ y = cc in
+    let after : xs ++ mark ∷ as' ≡ ys ++ mark ∷ bs = cc in
+    let rest = mark-unique mark xs ys as' bs apart.1 apart'.1 after in
+    (ap₂ (λ z zs. z ∷ zs) first rest.0, rest.1)
+
+plain-no_slash : (bytes : List ℕ) → AllByRecursion IsPlain bytes → AllByRecursion (λ byte. byte ≢ 47) bytes
+plain-no_slash [] all = tt
+plain-no_slash (byte ∷ bytes) all = (all.0.1, plain-no_slash bytes all.1)
+
+-- so two texts with a slash after bytes that are none
 pub slash-unique : (xs ys as' bs : List ℕ) → AllByRecursion IsPlain xs → AllByRecursion IsPlain ys
     → xs ++ 47 ∷ as' ≡ ys ++ 47 ∷ bs → (xs ≡ ys) × (as' ≡ bs)
-slash-unique [] [] as' bs plain plain' same = (refl, cc)
-slash-unique [] (y ∷ ys) as' bs plain plain' same = let first : 47 ≡ y = cc in absurd (plain'.0.1 (sym first))
-slash-unique (x ∷ xs) [] as' bs plain plain' same = let first : x ≡ 47 = cc in absurd (plain.0.1 first)
-slash-unique (x ∷ xs) (y ∷ ys) as' bs plain plain' same =
-    let first : x ≡ y = cc in
-    let after : xs ++ 47 ∷ as' ≡ ys ++ 47 ∷ bs = cc in
-    let rest = slash-unique xs ys as' bs plain.1 plain'.1 after in
-    (ap₂ (λ z zs. z ∷ zs) first rest.0, rest.1)
+slash-unique xs ys as' bs plain plain' same =
+    mark-unique 47 xs ys as' bs (plain-no_slash xs plain) (plain-no_slash ys plain') same
 
 -- the numerator and the denominator that are printed
 numerator : ℕ → ℤ → ℤ

@@ -1,6 +1,7 @@
 -- What the laws of merging speak of: facts in parts, and the merged rows of their cubes (Gray et al. 1997: COUNT, SUM,
 -- MIN and MAX are distributive, AVG is algebraic, made of SUM and COUNT, as a variance is of these and the sum of the
--- squares; the merging of rows is this project's choice).
+-- squares; distinct counts and percentiles are holistic, made of all values; the merging of rows is this project's
+-- choice).
 use Rattle.std.specs.Prelude.{◌≡◌, ◌<◌, ◌≤◌, ℕ, List, [], ◌∷◌, ◌++◌, length, get_or, slice_get, Some, IsPermutation}
 use Rattle.std.specs.List.{AllByRecursion, flat_map}
 use Rattle.cube_core.specs.Layout.{Layout}
@@ -10,9 +11,10 @@ use Rattle.cube_core.specs.Printed.{IsPrinted}
 use Rattle.cube_core.specs.Sources.{IsPrintedOf}
 use Rattle.cube_core.specs.Text.{text_of_rows}
 use Rattle.cube_merge.specs.Lawful.{IsLawfulRow}
+use Rattle.cube_laws.specs.Told.{HasSmallLists}
 use Rattle.cube_core.specs.declared.aggregate.Agg.{Agg}
 use Rattle.cube_core.specs.declared.aggregate.Agg.TheVariants.{Count, Sum, Avg, CountDistinct, PercentileDisc}
-use Rattle.cube_core.specs.declared.aggregate.Agg.TheVariants.{SumOfSquares, VarPop, VarSamp}
+use Rattle.cube_core.specs.declared.aggregate.Agg.TheVariants.{SumOfSquares, VarPop, VarSamp, Values}
 use Rattle.cube_core.specs.declared.fact.Fact.{Fact}
 use Rattle.cube_core.specs.declared.key.Row.{Row}
 
@@ -35,14 +37,15 @@ Stands given agg = (place : ℕ) × (slice_get given place ≡ Some agg)
 abbrev pub HasVarianceParts : List Agg → ℕ → Type 0
 HasVarianceParts given m = Stands given (Sum m) × Stands given (Count m) × Stands given (SumOfSquares m)
 
--- of answers to the given aggregates an answer to this one is made: it is one of them and neither a distinct count nor
--- a percentile, or a mean whose sum and count are, or a variance whose sum, count and sum of squares are
+-- of answers to the given aggregates an answer to this one is made: it is a mean whose sum and count are among them,
+-- a variance whose sum, count and sum of squares are, a distinct count or a percentile whose values are, or any other
+-- that is one of them
 abbrev pub CanBeMadeOf : List Agg → Agg → Type 0
 CanBeMadeOf given (Avg m) = Stands given (Sum m) × Stands given (Count m)
 CanBeMadeOf given (VarPop m) = HasVarianceParts given m
 CanBeMadeOf given (VarSamp m) = HasVarianceParts given m
-CanBeMadeOf given (CountDistinct m) = ⊥
-CanBeMadeOf given (PercentileDisc m units places) = ⊥
+CanBeMadeOf given (CountDistinct m) = Stands given (Values m)
+CanBeMadeOf given (PercentileDisc m units places) = Stands given (Values m)
 CanBeMadeOf given agg = Stands given agg
 
 mutual
@@ -61,10 +64,11 @@ mutual
         → IsMergeTree s facts rows → AreMergeTrees s parts cubes
         → AreMergeTrees s (facts ∷ parts) (rows ∷ cubes)
 
--- a text is that of rows of a schema
+-- a text is that of rows of a schema, which list values of 64 bits alone
 pub record IsTextOfRows (s : Layout) (text : List ℕ) (rows : List Row) : Type 0 where
   pub text_is : text ≡ text_of_rows s rows
   pub of_schema : AllByRecursion (IsLawfulRow s) rows
+  pub small : AllByRecursion HasSmallLists rows
 
 -- this text is, under the wanted schema,
 -- that of the merged rows of cubes whose texts under the given one these are, each at its place

@@ -34,6 +34,7 @@ gives_numbers (agg.PercentileDisc m units places) = true
 gives_numbers (agg.SumOfSquares m) = false
 gives_numbers (agg.VarPop m) = false
 gives_numbers (agg.VarSamp m) = false
+gives_numbers (agg.Values m) = false
 
 -- this row is one of the cube over these facts, its key is ALL in this dimension,
 -- and the set of the key with the dimension is kept too

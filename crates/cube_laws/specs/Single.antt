@@ -48,6 +48,11 @@ abbrev pub variance_of_value : Option ℤ → Answer
 variance_of_value None = answer.Null
 variance_of_value (Some value) = answer.Variance 0 1
 
+-- the values of one value, which is held once, or of null
+abbrev pub values_of_value : Option ℤ → Answer
+values_of_value None = answer.Values []
+values_of_value (Some value) = answer.Values ((value, 1) ∷ [])
+
 -- what an aggregate answers of one fact
 abbrev pub answer_of_fact : Fact → Agg → Answer
 answer_of_fact fact agg.CountAll = answer.Count 1
@@ -61,6 +66,7 @@ answer_of_fact fact (agg.PercentileDisc m units places) = answer_of_value (get_o
 answer_of_fact fact (agg.SumOfSquares m) = squares_of_value (get_or fact.measures m None)
 answer_of_fact fact (agg.VarPop m) = variance_of_value (get_or fact.measures m None)
 answer_of_fact fact (agg.VarSamp m) = answer.Null
+answer_of_fact fact (agg.Values m) = values_of_value (get_or fact.measures m None)
 
 -- what an aggregate answers of no fact
 abbrev pub answer_of_none : Agg → Answer
@@ -75,6 +81,7 @@ answer_of_none (agg.PercentileDisc m units places) = answer.Null
 answer_of_none (agg.SumOfSquares m) = answer.Null
 answer_of_none (agg.VarPop m) = answer.Null
 answer_of_none (agg.VarSamp m) = answer.Null
+answer_of_none (agg.Values m) = answer.Values []
 
 -- so many coordinates that are all ALL
 abbrev pub all_coords : ℕ → List Coord

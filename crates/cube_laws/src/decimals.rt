@@ -10,7 +10,8 @@ pub fn decimals_are_read_so()
 {}
 
 /// How they are printed: with exactly as many digits as their measure may have, a sum of squares with twice as many, and
-/// a mean and a variance as the fraction of the value itself (this project's choice).
+/// a mean and a variance as the fraction of the value itself; and values each with as many as their measure, a star, and
+/// how often it is held, a space between two (this project's choice).
 pub fn decimals_are_printed_so()
     ensures { ArePrintedSo }
 {}

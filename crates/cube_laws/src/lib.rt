@@ -25,3 +25,4 @@ pub mod single;
 pub mod statistics;
 pub mod survivors;
 pub mod text_back;
+pub mod values;

@@ -1,12 +1,12 @@
 //! How the cubes of parts of the facts make the cube of them all.
-ghost use Rattle.std.specs.Prelude.{◌≡◌, ◌≤◌, ℕ, List, IsPermutation, Some, length, map, false, true};
+ghost use Rattle.std.specs.Prelude.{◌≡◌, ◌≤◌, ℕ, List, IsPermutation, Some, length, map, true};
 ghost use Rattle.std.specs.List.{AllByRecursion, AllZip, list_all};
 ghost use Rattle.cube_core.specs.Cube.{AreRows, AreRowsOver};
-ghost use Rattle.cube_core.specs.Layout.{IsSchema, Layout, has_holistic};
+ghost use Rattle.cube_core.specs.Layout.{IsSchema, Layout};
 ghost use Rattle.cube_core.specs.PartialForm.{partial_aggregates, partial_form};
 ghost use Rattle.cube_core.specs.Printed.{IsPrinted};
 ghost use Rattle.cube_core.specs.Sources.{IsPrintedOf};
-ghost use Rattle.cube_laws.specs.Told.{AreFewSources, CanBePrinted};
+ghost use Rattle.cube_laws.specs.Told.{AreFewSources, CanBePrinted, lists_no_values};
 ghost use Rattle.cube_laws.specs.Merging.{AreMergedOf, AreMergeTrees, IsMergedText, IsMergeTree, PutsPrinted, PutsPrintedOf, joined};
 ghost use Rattle.cube_merge.specs.Merging.{IsMergeOf};
 ghost use Rattle.cube_merge.specs.Source.{can_be_made};
@@ -16,7 +16,8 @@ ghost use Rattle.cube_core.specs.declared.key.Row.{Row};
 
 /// The merged rows of the partial cubes of parts of the facts are the rows of the cube of all facts, and so under the
 /// partial form itself; there is a part at least (Gray et al. 1997: COUNT, SUM, MIN and MAX are distributive, AVG is
-/// algebraic, made of SUM and COUNT, as a variance is of these and the sum of the squares).
+/// algebraic, made of SUM and COUNT, as a variance is of these and the sum of the squares, and distinct counts and
+/// percentiles are holistic, made of all values).
 pub fn cubes_add_up()
     ensures whole { (s : Layout) (parts : List (List Fact)) (cubes : List (List Row)) (rows : List Row) →
         1 ≤ length parts → AllZip (AreRows (partial_form s)) parts cubes →
@@ -28,25 +29,23 @@ pub fn cubes_add_up()
         AreRows (partial_form s) (joined parts) rows }
 {}
 
-/// Under the partial form of a schema without distinct counts and percentiles each aggregate of the schema's can be made, and
-/// each of the partial form's, so that no merge from the one to the other is given up for its aggregates (this project's
-/// choice).
+/// Under the partial form of a schema each aggregate of the schema's can be made, and each of the partial form's, so that
+/// no merge from the one to the other is given up for its aggregates (this project's choice).
 pub fn partial_form_makes_each_aggregate()
-    ensures whole { (s : Layout) → has_holistic s ≡ false →
-        list_all (can_be_made (partial_aggregates s.aggregates)) s.aggregates ≡ true }
-    ensures partial { (s : Layout) → has_holistic s ≡ false → list_all
-        (can_be_made (partial_aggregates s.aggregates)) (partial_aggregates s.aggregates) ≡ true }
+    ensures whole { (s : Layout) → list_all (can_be_made (partial_aggregates s.aggregates)) s.aggregates ≡ true }
+    ensures partial { (s : Layout) →
+        list_all (can_be_made (partial_aggregates s.aggregates)) (partial_aggregates s.aggregates) ≡ true }
 {}
 
-/// And the rows of the cube of all facts are merged rows of those of the parts, where no aggregate is a distinct count or a
-/// percentile, and no others are, since cubes add up (Gray et al. 1997).
+/// And the rows of the cube of all facts are merged rows of those of the parts, and no others are, since cubes add up
+/// (Gray et al. 1997).
 pub fn whole_rows_are_merged_rows()
     ensures whole { (s : Layout) (parts : List (List Fact)) (cubes : List (List Row)) (rows : List Row) →
-        has_holistic s ≡ false → 1 ≤ length parts → AllZip (AreRows (partial_form s)) parts cubes →
+        1 ≤ length parts → AllZip (AreRows (partial_form s)) parts cubes →
         AreRows s (joined parts) rows →
         AreMergedOf (partial_aggregates s.aggregates) s.aggregates cubes rows }
     ensures partial { (s : Layout) (parts : List (List Fact)) (cubes : List (List Row)) (rows : List Row) →
-        has_holistic s ≡ false → 1 ≤ length parts → AllZip (AreRows (partial_form s)) parts cubes →
+        1 ≤ length parts → AllZip (AreRows (partial_form s)) parts cubes →
         AreRows (partial_form s) (joined parts) rows →
         AreMergedOf (partial_aggregates s.aggregates) (partial_aggregates s.aggregates) cubes rows }
 {}
@@ -110,30 +109,31 @@ pub fn merged_text_is_the_printed_cube()
 {}
 
 /// What the call `merge` writes, by its promise, of the printed partial cubes of parts of the facts is the printed cube of
-/// all their facts, and so under the partial form itself; the facts of each part can be printed (this project's choice).
+/// all their facts, and so under the partial form itself, where that lists no values; the facts of each part can be printed
+/// (this project's choice).
 pub fn merge_writes_the_printed_cube()
     ensures whole { (s : Layout) (parts : List (List Fact)) (texts : List (List ℕ)) (old new : List ℕ) →
-        IsSchema s → 1 ≤ length parts → AllByRecursion (CanBePrinted s) parts →
+        IsSchema s → lists_no_values (partial_form s) ≡ true → 1 ≤ length parts → AllByRecursion (CanBePrinted s) parts →
         AllZip (IsPrinted (partial_form s)) parts texts →
         IsMergeOf (partial_form s) s (map Some texts) (Some old) (Some new) →
         PutsPrinted s (joined parts) old new }
     ensures partial { (s : Layout) (parts : List (List Fact)) (texts : List (List ℕ)) (old new : List ℕ) →
-        IsSchema s → 1 ≤ length parts → AllByRecursion (CanBePrinted s) parts →
+        IsSchema s → lists_no_values (partial_form s) ≡ true → 1 ≤ length parts → AllByRecursion (CanBePrinted s) parts →
         AllZip (IsPrinted (partial_form s)) parts texts →
         IsMergeOf (partial_form s) (partial_form s) (map Some texts) (Some old) (Some new) →
         PutsPrinted (partial_form s) (joined parts) old new }
 {}
 
-/// And of the printed partial cubes of groups of sources it writes the printed cube of all sources (this project's choice:
-/// an id belongs to its source).
+/// And of the printed partial cubes of groups of sources it writes the printed cube of all sources, where these list no
+/// values (this project's choice: an id belongs to its source).
 pub fn merge_writes_the_cube_of_all_sources()
     ensures whole { (s : Layout) (groups : List (List (List ℕ))) (texts : List (List ℕ)) (old new : List ℕ) →
-        IsSchema s → 1 ≤ length groups → AllByRecursion AreFewSources groups →
+        IsSchema s → lists_no_values (partial_form s) ≡ true → 1 ≤ length groups → AllByRecursion AreFewSources groups →
         AllZip (IsPrintedOf (partial_form s)) groups texts →
         IsMergeOf (partial_form s) s (map Some texts) (Some old) (Some new) →
         PutsPrintedOf s (joined groups) old new }
     ensures partial { (s : Layout) (groups : List (List (List ℕ))) (texts : List (List ℕ)) (old new : List ℕ) →
-        IsSchema s → 1 ≤ length groups → AllByRecursion AreFewSources groups →
+        IsSchema s → lists_no_values (partial_form s) ≡ true → 1 ≤ length groups → AllByRecursion AreFewSources groups →
         AllZip (IsPrintedOf (partial_form s)) groups texts →
         IsMergeOf (partial_form s) (partial_form s) (map Some texts) (Some old) (Some new) →
         PutsPrintedOf (partial_form s) (joined groups) old new }

@@ -11,9 +11,9 @@ ghost use Rattle.cube_core.specs.declared.key.Row.{Row};
 
 /// The cube of one fact has the keys with the fact's value or ALL in each dimension, of the sets that are kept, 2 to the
 /// power N of them where all are; and in each row `count(*)` is 1, each other count and distinct count 1, each sum, least and
-/// greatest value and percentile the fact's, each mean that by 1, each sum of squares its square, and each variance of
-/// the population 0; where the fact has null the counts are 0 and the others null. A variance of a sample is null (Gray
-/// et al. 1997; SQL:1999: aggregates skip nulls).
+/// greatest value and percentile the fact's, each mean that by 1, each sum of squares its square, each variance of the
+/// population 0, and the values the fact's alone, held once; where the fact has null the counts are 0, there are no
+/// values, and the others are null. A variance of a sample is null (Gray et al. 1997; SQL:1999: aggregates skip nulls).
 pub fn cube_of_one_fact_shows_the_fact()
     ensures keys { (s : Layout) (fact : Fact) (rows : List Row) (key : Key) →
         length fact.dims ≡ length s.dimensions → AreRows s (fact ∷ []) rows →
@@ -26,8 +26,9 @@ pub fn cube_of_one_fact_shows_the_fact()
         AllByRecursion (λ row. row.answers ≡ map (answer_of_fact fact) s.aggregates) rows }
 {}
 
-/// The cube of no fact has the grand total alone, where its set is kept, else no row: its counts are 0, its other answers
-/// null (SQL:1999, aggregate functions; that there is a grand total then is this project's choice).
+/// The cube of no fact has the grand total alone, where its set is kept, else no row: its counts are 0, it has no values,
+/// and its other answers are null (SQL:1999, aggregate functions; that there is a grand total then is this project's
+/// choice).
 pub fn cube_of_no_fact_is_the_total()
     ensures kept { (s : Layout) (rows : List Row) →
         is_among 0 s.grouping_sets ≡ true → AreRows s [] rows → rows ≡ total_of_none s ∷ [] }

@@ -3,6 +3,6 @@ use Rattle.cube_laws.proofs.merging.partial_form_makes_each_aggregate.Goals as g
 
 pub returns : goal.returns
 returns c = record {
-  whole = λ s none. own-makes_each s.aggregates none;
-  partial = λ s none. partial-makes_each s.aggregates none;
+  whole = λ s. own-makes_each s.aggregates;
+  partial = λ s. partial-makes_each s.aggregates;
 }
