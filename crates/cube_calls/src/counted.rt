@@ -1,6 +1,7 @@
 //! Calls of two multisets: `add N`, `remove N`, `holds N`, `shrink`, `show`, `in_order`, `different`, `at_place N`, `merge`
 //! (adds the other's numbers) and `swap` (the other is asked from then on).
 use crate::script::{Printout, words_of};
+use crate::text::push_held;
 use anyhow::{Result, bail, ensure};
 use cube_cells::Counted;
 use std::alloc::{AllocError, Global};
@@ -104,11 +105,7 @@ fn show(values: &Counted, out: &mut Printout) -> Result<(), AllocError> {
 // A line with the numbers in order, each with how often it is held, as `-2*1 5*3`.
 fn show_in_order(values: &Counted, out: &mut Printout) -> Result<(), AllocError> {
     let pairs = values.in_order()?;
-    for place in 0..pairs.len() {
-        let (number, times) = pairs[place];
-        let space = if place > 0 { " " } else { "" };
-        write!(out.text, "{space}{number}*{times}")?;
-    }
+    push_held(&mut out.text, pairs.as_slice())?;
     out.answer("")
 }
 

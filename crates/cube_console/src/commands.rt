@@ -7,7 +7,7 @@ dimensions. Each feed is a CSV file of inserts, updates and deletes; the cube is
 which are present in the end.";
 
 /// The program's version, by the rules of Semantic Versioning 2.0.0. It stands here alone.
-pub(crate) const VERSION: &str = "1.23.0";
+pub(crate) const VERSION: &str = "1.24.0";
 
 /// The forms of a command line.
 pub(crate) const USAGE: &str = "datacube < FEED
@@ -86,8 +86,8 @@ Exit status: 0 done, 1 FILE couldn't be read, 2 wrong words or `no columns`.
 /// What the help of `print` says below its words.
 const AFTER_PRINT: &str = "\
 Each FEED is a source of its own, numbered from 1: the same id in two feeds names two facts.
-With --partial each mean has its sum and count beside it: `datacube merge` makes one cube of
-several that were printed so, each of other facts.
+With --partial each mean, variance, distinct count and percentile has beside it what it is
+made of: `datacube merge` makes one cube of several that were printed so, each of other facts.
 
 With --json each line is one of JSON, and with --aligned the columns are aligned, for people;
 neither goes with the other or with --partial.
@@ -526,7 +526,7 @@ pub(crate) const PRINTS: [Line; 3] = [
                 name: "partial",
                 form: Form::Flag,
                 is_needed: false,
-                help: "With each mean its sum and count too, so that cubes can be merged",
+                help: "With what means, variances, distinct counts and percentiles are made of too, so that cubes can be merged",
             },
             JSON,
             ALIGNED,

@@ -18,8 +18,8 @@ pub use cube_build::{
 pub use cube_cells::{Cell, Cube, KeyedCell, OrderedCells};
 pub use cube_core::{
     Agg, Answer, Change, Comparison, Condition, Coord, CoordRef, Fact, Field, HashKey, Item, Key,
-    LineFault, Partial, Pattern, QueryFault, Refusal, Row, Schema, SchemaFault, Shard, Squares,
-    Test, Text, Wide, hold, push_decimal,
+    LineFault, Partial, Pattern, QueryFault, Refusal, Row, Schema, SchemaFault, Sequence, Shard,
+    Squares, Test, Text, Wide, hold, push_decimal,
 };
 pub use cube_feed::{Feed, FeedFault, read_condition};
 pub use cube_ledger::{BuildFault, Ledger};

@@ -62,9 +62,9 @@ pub const SCHEMA_ADVICE: [Advice; 13] = [
         code: "S7",
         lines: &[
             "wanted: 1 to 16 aggregates, as aggregates = [\"count(*)\", \"sum(cents)\"]",
-            "Each is count(*), or count, sum, min, max, avg, sum_of_squares, var_pop or var_samp of a measure, without spaces",
-            "and in small letters, or as count(distinct cents) or percentile_disc(0.5,cents), of a level from 0 to 1 with up to",
-            "4 digits behind the point.",
+            "Each is count(*), or count, sum, min, max, avg, sum_of_squares, var_pop, var_samp or values of a measure, without",
+            "spaces and in small letters, or as count(distinct cents) or percentile_disc(0.5,cents), of a level from 0 to 1 with",
+            "up to 4 digits behind the point.",
         ],
     },
     Advice {
@@ -273,7 +273,7 @@ pub const CODE_ADVICE: [Advice; 25] = [
         code: "M4",
         lines: &[
             "Its first line isn't that of the schema. Print it by `datacube print --partial`, under the same schema.",
-            "Of a distinct count or a percentile nothing is merged: leave these out of the schema.",
+            "Releases up to 1.23 print no values(m) beside a distinct count or a percentile: print such a cube again.",
         ],
     },
     Advice {
@@ -291,7 +291,8 @@ pub const CODE_ADVICE: [Advice; 25] = [
     Advice {
         code: "M7",
         lines: &[
-            "A count, a sum or a sum of squares is too large. Merge fewer cubes, or leave the aggregate out of the schema.",
+            "A count, a sum or a sum of squares is too large, or too many values are held.",
+            "Merge fewer cubes, or leave the aggregate out of the schema.",
         ],
     },
     Advice {

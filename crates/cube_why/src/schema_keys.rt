@@ -4,7 +4,7 @@ use std::alloc::{AllocError, Global};
 use toml::{Table, Value};
 
 /// The words before a measure in an aggregate.
-const AGGREGATES: [&str; 9] = [
+const AGGREGATES: [&str; 10] = [
     "count(",
     "sum(",
     "min(",
@@ -14,6 +14,7 @@ const AGGREGATES: [&str; 9] = [
     "sum_of_squares(",
     "var_pop(",
     "var_samp(",
+    "values(",
 ];
 
 /// The names that no dimension and no measure has.
@@ -129,17 +130,61 @@ pub(crate) fn aggregate_words(alloc: Global, document: &Table) -> Result<Vec<u8>
     array_words(alloc, document, "aggregates", 16)
 }
 
-// What is said of a text that is no aggregate of measures; of the median of one also how that is spelled.
+// What is said of a text that is no aggregate of measures; of the median, the variance or the standard deviation of one also
+// what there is in its place.
 fn no_aggregate(alloc: Global, text: &str, measures: &[&str]) -> Result<Vec<u8>, AllocError> {
     let mut words = with_value(alloc, text, b" is no aggregate of the measures")?;
-    if let Some(name) = argument_of(text, "median(") {
-        if is_listed(measures, name) {
-            words.extend_from_slice(b"; a median is spelled percentile_disc(0.5,")?;
-            words.extend_from_slice(shown(alloc, name.as_bytes())?.as_slice())?;
-            words.push(b')')?;
-        }
+    if let Some(name) = measure_behind(&["median("], text, measures) {
+        push_spelling(
+            alloc,
+            &mut words,
+            b"; a median is spelled percentile_disc(0.5,",
+            name,
+        )?;
+    }
+    if let Some(name) = measure_behind(&["variance(", "var("], text, measures) {
+        push_spelling(alloc, &mut words, b"; a variance is spelled var_pop(", name)?;
+        push_spelling(alloc, &mut words, b" or var_samp(", name)?;
+    }
+    if let Some(name) = measure_behind(
+        &["stddev(", "stddev_pop(", "stddev_samp("],
+        text,
+        measures,
+    ) {
+        push_spelling(
+            alloc,
+            &mut words,
+            b"; it is the square root of var_pop(",
+            name,
+        )?;
+        push_spelling(alloc, &mut words, b" or var_samp(", name)?;
     }
     Ok(words)
+}
+
+// Adds an opening, the name of a measure, and a bracket.
+fn push_spelling(
+    alloc: Global,
+    words: &mut Vec<u8>,
+    opening: &[u8],
+    name: &str,
+) -> Result<(), AllocError> {
+    words.extend_from_slice(opening)?;
+    words.extend_from_slice(shown(alloc, name.as_bytes())?.as_slice())?;
+    words.push(b')')?;
+    Ok(())
+}
+
+// The measure that stands in a text between one of these openings and a bracket.
+fn measure_behind<'t>(openings: &[&str], text: &'t str, measures: &[&str]) -> Option<&'t str> {
+    for opening in openings {
+        if let Some(name) = argument_of(text, opening) {
+            if is_listed(measures, name) {
+                return Some(name);
+            }
+        }
+    }
+    None
 }
 
 // Whether a text is an aggregate of measures.

@@ -52,7 +52,16 @@ fn push_answer(alloc: Global, text: &mut String, answer: &Answer) -> Result<(), 
             push_long(alloc, text, *p)?;
             write!(text, "/{q}")
         }
+        Answer::Values(held) => push_held(text, held.as_slice()),
     }
+}
+
+// Values, each with how often it is held, as `-2*1 5*3`.
+fn push_held(text: &mut String, held: &[(i64, u64)]) -> Result<(), AllocError> {
+    for (value, times) in held {
+        write!(text, " {value}*{times}")?;
+    }
+    Ok(())
 }
 
 // The digits of a long number.
