@@ -34,7 +34,7 @@ MOST_SHARDS = 65536
 SIZE = re.compile(r"([1-9][0-9]*)([KMGT]?)")
 UNITS = {"": 1, "K": 10**3, "M": 10**6, "G": 10**9, "T": 10**12}
 # (what a second try, perhaps on another worker, doesn't mend)
-FINAL = re.compile(r"G3 \d+ F[34]|M4|M[4-8] .*")
+FINAL = re.compile(r"G3 \d+ F[34]|M[4-8] .*")
 REFUSALS_HEAD = b"source,record,code\n"
 
 

@@ -137,7 +137,8 @@ class Tally(programs.Tally):
 
 
 SCHEMA = oracle.Schema(
-    ["city", "product", "payment"], ["pieces", "cents"], [("avg", 1), ("count", None), ("sum", 0), ("min", 1), ("max", 1), ("avg", 0), ("var_samp", 0)],
+    ["city", "product", "payment"], ["pieces", "cents"],
+    [("avg", 1), ("count", None), ("sum", 0), ("min", 1), ("max", 1), ("avg", 0), ("var_samp", 0), ("count distinct", 1), ("percentile_disc 0.5", 0)],
     version=2,
 )
 
@@ -200,9 +201,6 @@ def faults(cluster, tally, names):
     write(f"{folder}/wrong.toml", b"dimensions = []\n")
     got = cluster.run("wrong.toml", *names)
     tally.note(got == (3, b"", "datacube: S4\n"), "a schema that is refused", got)
-    write(f"{folder}/statistics.toml", oracle.Schema(SCHEMA.dimensions, SCHEMA.measures, [("count distinct", 1)], version=2).toml())
-    got = cluster.run("statistics.toml", *names[:10])
-    tally.note(got == (1, b"", "datacube: M4\n"), "a schema with a distinct count, which isn't tried again", got)
     got = cluster.run("--program", "/nowhere/datacube", "schema.toml", *names)
     named = r"(datacube_dask: worker \w+ at tcp://127\.0\.0\.\d+:\d+ can't run the program /nowhere/datacube: No such file or directory\n)+"
     tally.note(got[:2] == (1, b"") and re.fullmatch(named, got[2]), "workers without the program, by name", got)

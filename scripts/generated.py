@@ -17,7 +17,7 @@ PLACES = [0, 0, 1, 2, 2, 2, 3, 6, 17, 18]
 COLUMNS = ["", "op", "id", "no", "when", "a;b", 'x "y"', "two\nlines", "Größe", "\\N"]
 NULLS = [["\\N"], ["\\N"], [], [""], ["", "NA"], ["a", "12"], ["\\N", "b", "grüße"], ["\\=", "0"]]
 DELIMITERS = [",", ",", ";", "\t", "|", " ", "=", "\\", "a", "0", "."]
-KINDS = ["count", "sum", "min", "max", "avg", "count distinct", "percentile_disc", "sum_of_squares", "var_pop", "var_samp"]
+KINDS = ["count", "sum", "min", "max", "avg", "count distinct", "percentile_disc", "sum_of_squares", "var_pop", "var_samp", "values"]
 LEVELS = ["0.5", "0", "1", "0.95", "0.50", "0.25", "0.07", "0.3333", "0.0001", "0.9999", "0.0", "1.0", "0.0000", "1.0000", "0.6", "0.667"]
 SIGNS = [b"=", b"=", b"!=", b"!=", b"<", b"<=", b">", b">="]
 MOST = 2**32 - 1
@@ -87,12 +87,6 @@ def random_aggregate(rng, measures):
     kind, name = rng.choice(KINDS), rng.choice(measures)
     kind += f" {rng.choice(LEVELS)}" if kind == "percentile_disc" else ""
     return oracle.aggregate_of(oracle.spelling(kind, name), measures)
-
-
-def mergeable(schema):
-    """A schema without the aggregates of which a merge makes nothing."""
-    schema.aggregates = [it for it in schema.aggregates if not oracle.is_of_values(it[0])]
-    return schema
 
 
 def number_of(rng, places):

@@ -121,15 +121,11 @@ class Schema:
     def aggregate_texts(self):
         return [spelling(kind, self.measures[at] if at is not None else "*") for kind, at in self.aggregates]
 
-    def can_be_merged(self):
-        """Whether merged cubes have an answer to each aggregate."""
-        return not any(map(is_of_values, (kind for kind, _ in self.aggregates)))
-
     def partial(self):
-        """The partial form: for each mean and each variance what it is made of too, where that isn't there yet."""
+        """The partial form: for each mean, variance, distinct count and percentile what it is made of too, where that isn't there yet."""
         aggregates = list(self.aggregates)
         for made, at in self.aggregates:
-            aggregates += [(it, at) for it in PARTS.get(made, ()) if (it, at) not in aggregates]
+            aggregates += [(it, at) for it in parts_of(made) if (it, at) not in aggregates]
         rest = self.grouping, self.version, self.max_records, self.feed, self.decimals
         return Schema(self.dimensions, self.measures, aggregates, *rest)
 
@@ -178,13 +174,14 @@ def spelling(kind, name):
     return f"{call}({before}{name})"
 
 
-# (what a mean and variances are made of where cubes are merged)
-PARTS = {"avg": ["sum", "count"], **dict.fromkeys(["var_pop", "var_samp"], ["sum", "count", "sum_of_squares"])}
+# (what a mean and variances, which are fractions, are made of where cubes are merged)
+FRACTIONS = {"avg": ["sum", "count"], **dict.fromkeys(["var_pop", "var_samp"], ["sum", "count", "sum_of_squares"])}
 
 
-def is_of_values(kind):
-    """Whether an aggregate can't be made of those of parts: a distinct count or a percentile, of which a merge makes nothing."""
-    return " " in kind
+def parts_of(kind):
+    """What an aggregate is made of where cubes are merged: a distinct count or a percentile of all values; nothing for one that is merged
+    of its own answers."""
+    return ["values"] if " " in kind else FRACTIONS.get(kind, [])
 
 
 def encode(records, rng=None, delimiter=b","):
@@ -490,6 +487,8 @@ def answer(schema, kind, at, facts):
     values = [measures[at] for _, measures in facts if measures[at] is not None]
     if kind.startswith("count"):
         return str(len(values if kind == "count" else set(values)))
+    if kind == "values":
+        return held_text(sorted(collections.Counter(values).items()), schema.places(at))
     if not values:
         return "\\N"
     if kind == "avg":
@@ -499,6 +498,11 @@ def answer(schema, kind, at, facts):
     level = kind.partition(" ")[2]
     value = percentile(level, values) if level else CALLS[kind](values)
     return decimal(value, schema.digits(kind, at))
+
+
+def held_text(held, places):
+    """Values in ascending order, each with how often it is held."""
+    return " ".join(f"{decimal(value, places)}*{count}" for value, count in held)
 
 
 CALLS = {"sum": sum, "min": min, "max": max, "sum_of_squares": lambda values: sum(it * it for it in values)}
@@ -727,19 +731,19 @@ FRACTION = re.compile(rb"(0|-?[1-9][0-9]*)/([1-9][0-9]*)")
 DECIMAL = re.compile(rb"-?[0-9]+(\.[0-9]+)?")
 MOST_COUNT = 2**64 - 1
 MOST_SUM = 2**127 - 1
-BOUNDS = {"sum": (-MOST_SUM - 1, MOST_SUM), "min": (LEAST, GREATEST), "max": (LEAST, GREATEST), "sum_of_squares": (0, 2**192 - 1)}
+VALUE = LEAST, GREATEST
+BOUNDS = {"sum": (-MOST_SUM - 1, MOST_SUM), "sum_of_squares": (0, 2**192 - 1)}
 
 
 class CubeFault(Exception):
-    """A code of a cube that is merged, with its input and the number of its record, where the header is 1; both are 0 where it is
-    told of no cube."""
+    """A code of a cube that is merged, with its input and the number of its record, where the header is 1."""
 
-    def __init__(self, code, source=0, record=0):
+    def __init__(self, code, source, record):
         super().__init__(code)
         self.code, self.source, self.record = code, source, record
 
     def line(self):
-        return " ".join([self.code, *(str(it) for it in (self.source, self.record) if it)])
+        return f"{self.code} {self.source} {self.record}"
 
 
 class Printed:
@@ -814,18 +818,71 @@ def printed_row(schema, fields):
 
 
 def printed_value(schema, kind, at, field):
-    """The number that an answer spells, in units of its last decimal, a fraction for a mean or a variance, None for null, or "wrong"."""
-    if kind == "count":
+    """The number that an answer spells, in units of its last decimal, a fraction for a mean or a variance, pairs of a value and how often
+    it is held for values, None for null, or "wrong"."""
+    if kind.startswith("count"):
         return int(field) if COUNT.fullmatch(field) and int(field) <= MOST_COUNT else "wrong"
+    if kind == "values":
+        return printed_held(schema.places(at), field)
     if field == NULL:
         return None
-    if kind in PARTS:
+    if kind in FRACTIONS:
         found = FRACTION.fullmatch(field)
         return fractions.Fraction(int(found[1]), int(found[2])) if found and math.gcd(int(found[1]), int(found[2])) == 1 else "wrong"
-    if not DECIMAL.fullmatch(field):
-        return "wrong"
-    units, (least, most) = int(field.replace(b".", b"")), BOUNDS[kind]
-    return units if least <= units <= most and decimal(units, schema.digits(kind, at)).encode() == field else "wrong"
+    units = printed_units(schema.digits(kind, at), field)
+    least, most = BOUNDS.get(kind, VALUE)
+    return units if units != "wrong" and least <= units <= most else "wrong"
+
+
+def printed_units(places, field):
+    """The units that a number of so many decimals spells, or "wrong" where it isn't spelled as it is printed."""
+    units = int(field.replace(b".", b"")) if DECIMAL.fullmatch(field) else 0
+    return units if decimal(units, places).encode() == field else "wrong"
+
+
+def printed_held(places, field):
+    """The values that an answer spells, as pairs of a value and how often it is held, or "wrong"."""
+    held = []
+    for item in field.split(b" ") if field else []:
+        value, _, count = item.partition(b"*")
+        units = printed_units(places, value)
+        if units == "wrong" or not COUNT.fullmatch(count) or count == b"0":
+            return "wrong"
+        held.append((units, int(count)))
+    values = [value for value, _ in held]
+    is_right = values == sorted(set(values)) and all(LEAST <= it <= GREATEST for it in values) and number_held(held) <= MOST_COUNT
+    return held if is_right else "wrong"
+
+
+def number_held(held):
+    """How many values are held."""
+    return sum(count for _, count in held)
+
+
+def value_at(held, place):
+    """The value at a place, counted from 1, of values in ascending order."""
+    until = itertools.accumulate(count for _, count in held)
+    return next(value for (value, _), number in zip(held, until) if number >= place)
+
+
+# (what the other aggregates say of values that are held, one at least for those but counts)
+OF_HELD = {
+    "count": number_held,
+    "count distinct": len,
+    "sum": lambda held: sum(value * count for value, count in held),
+    "min": lambda held: min(value for value, _ in held),
+    "max": lambda held: max(value for value, _ in held),
+    "sum_of_squares": lambda held: sum(value**2 * count for value, count in held),
+}
+
+
+def told_of(kind, held):
+    """What the values that are held tell of an aggregate that is no fraction: a number, or None for null."""
+    if not held and not kind.startswith("count"):
+        return None
+    if kind in OF_HELD:
+        return OF_HELD[kind](held)
+    return value_at(held, fractions.Fraction(kind.partition(" ")[2]) * number_held(held))
 
 
 def are_sound(schema, key, values):
@@ -834,19 +891,27 @@ def are_sound(schema, key, values):
         return False
     for at in {at for _, at in values if at is not None}:
         of = {kind: value for (kind, place), value in values.items() if place == at}
-        nulls = {value is None for kind, value in of.items() if kind not in ("count", "var_samp")}
-        if len(nulls) > 1 or "count" in of and nulls and nulls != {of["count"] == 0}:
+        nones = {not value if kind in NOT_NULL else value is None for kind, value in of.items() if kind != "var_samp"}
+        if len(nones) > 1:
             return False
-        if True not in nulls and "min" in of and "max" in of and of["min"] > of["max"]:
+        if True not in nones and "min" in of and "max" in of and of["min"] > of["max"]:
             return False
-        if any(of[kind] != made_of(schema, kind, at, of) for kind in PARTS if kind in of):
+        if any(of[kind] != made_of(schema, kind, at, of) for kind in FRACTIONS if kind in of):
+            return False
+        if "values" in of and any(of[kind] != told_of(kind, of["values"]) for kind in of if kind not in ("values", *FRACTIONS)):
             return False
     return True
 
 
+# (the aggregates that aren't null over no value, but 0 or without one)
+NOT_NULL = ("count", "count distinct", "values")
+
+
 def made_of(schema, kind, at, of):
     """The mean or the variance of a measure, as a fraction, that its count, its sum and its sum of squares make, None where there is
-    none; 0 where the square of the sum is above what there can be."""
+    none; 0 where the square of the sum is above what there can be. The distinct count or the percentile that its values make."""
+    if kind not in FRACTIONS:
+        return told_of(kind, of["values"])
     count, places = of["count"], schema.places(at)
     over = count - 1 if kind == "var_samp" else count
     if over < 1:
@@ -861,38 +926,49 @@ def merged_answers(partial, used):
     """The answers of a merged row, by the aggregates of a partial form; used has the inputs whose lines have its key."""
     merged = {}
     for kind, at in partial.aggregates:
-        held = [(it, it.row[1][kind, at]) for it in used if it.row[1][kind, at] is not None]
+        answers = [(it, it.row[1][kind, at]) for it in used if it.row[1][kind, at] is not None]
         if kind in ("min", "max"):
-            merged[kind, at] = CALLS[kind](value for _, value in held) if held else None
-        elif kind not in PARTS:
-            merged[kind, at] = added(held, *BOUNDS.get(kind, (0, MOST_COUNT)))
+            merged[kind, at] = CALLS[kind](value for _, value in answers) if answers else None
+        elif kind == "values":
+            added([(it, number_held(held)) for it, held in answers], 0, MOST_COUNT)
+            merged[kind, at] = put_together(held for _, held in answers)
+        elif not parts_of(kind):
+            merged[kind, at] = added(answers, *BOUNDS.get(kind, (0, MOST_COUNT)))
     for kind, at in partial.aggregates:
-        if kind in PARTS:
-            merged[kind, at] = made_of(partial, kind, at, {it: merged[it, at] for it in PARTS[kind]})
+        if parts_of(kind):
+            merged[kind, at] = made_of(partial, kind, at, {it: merged[it, at] for it in parts_of(kind)})
     return {(kind, at): printed_of(partial, kind, at, value) for (kind, at), value in merged.items()}
 
 
 def printed_of(schema, kind, at, value):
-    """A number in units of its last decimal, a fraction, or None, as an answer is printed."""
+    """A number in units of its last decimal, a fraction, values that are held, or None, as an answer is printed."""
     if value is None:
         return "\\N"
-    return f"{value.numerator}/{value.denominator}" if kind in PARTS else decimal(value, schema.digits(kind, at))
+    if kind == "values":
+        return held_text(value, schema.places(at))
+    return f"{value.numerator}/{value.denominator}" if kind in FRACTIONS else decimal(value, schema.digits(kind, at))
 
 
-def added(held, least, most):
-    """The sum of values, None where there is none; one out of bounds is told of the first input with which it is."""
-    sums = list(itertools.accumulate(value for _, value in held))
+def put_together(all_held):
+    """The values that are held by several together."""
+    counts = collections.Counter()
+    for held in all_held:
+        counts.update(dict(held))
+    return sorted(counts.items())
+
+
+def added(answers, least, most):
+    """The sum of answers, None where there is none; one out of bounds is told of the first input with which it is."""
+    sums = list(itertools.accumulate(value for _, value in answers))
     if not sums or least <= sums[-1] <= most:
         return sums[-1] if sums else None
-    raise next(it.fault("M7") for (it, _), value in zip(held, sums) if not least <= value <= most)
+    raise next(it.fault("M7") for (it, _), value in zip(answers, sums) if not least <= value <= most)
 
 
 def merge(schema, datas, is_partial=False):
     """The text of the merged cubes, each the bytes of a printed partial cube or None, and the fault that ends it or None."""
     partial = schema.partial()
     wanted = partial if is_partial else schema
-    if not wanted.can_be_merged():
-        return b"", CubeFault("M4")
     inputs, out = [Printed(partial, data, at) for at, data in enumerate(datas, 1)], []
     try:
         for it in inputs:
@@ -984,7 +1060,7 @@ def column_of(value, is_dimension):
 
 
 # (`count` before `count distinct`: over a measure that is named `distinct m` the first is meant)
-KINDS = ("count", "sum", "min", "max", "avg", "count distinct", "sum_of_squares", "var_pop", "var_samp")
+KINDS = ("count", "sum", "min", "max", "avg", "count distinct", "sum_of_squares", "var_pop", "var_samp", "values")
 PERCENTILE = re.compile(r"percentile_disc\((0|1|0\.[0-9]{1,4}|1\.0{1,4}),(.*)\)", re.DOTALL)
 
 

@@ -68,6 +68,13 @@ IMMUTABLE STRICT LANGUAGE sql AS $$
 $$;
 """
 
+HELD = """
+CREATE FUNCTION values_held(numbers numeric[]) RETURNS text IMMUTABLE LANGUAGE sql AS $$
+    SELECT coalesce(string_agg(number || '*' || times, ' ' ORDER BY number), '')
+    FROM (SELECT number, count(*) AS times FROM unnest(numbers) AS number WHERE number IS NOT NULL GROUP BY number) AS held
+$$;
+"""
+
 IS_DECIMAL = r"""
 CREATE FUNCTION is_decimal(field text, places int) RETURNS boolean IMMUTABLE LANGUAGE sql AS $$
     SELECT CASE
@@ -213,8 +220,9 @@ def type_of(schema, name):
 
 def functions_of(schema):
     """The functions that the SQL of a schema asks."""
-    has_variance = any(kind in VARIANCES for kind, _ in schema.aggregates)
-    return [IS_NUMBER, *([IS_DECIMAL] if schema.decimals else []), FRACTION, *([VARIANCE] if has_variance else [])]
+    kinds = {kind for kind, _ in schema.aggregates}
+    more = [*([VARIANCE] if kinds & set(VARIANCES) else []), *([HELD] if "values" in kinds else [])]
+    return [IS_NUMBER, *([IS_DECIMAL] if schema.decimals else []), FRACTION, *more]
 
 
 def cube(schema, conditions=()):
@@ -246,6 +254,8 @@ def call_of(kind, measure, places=0):
         return f"variance_of(count({measure}), sum({measure}){units}, {squares}{squared}, {VARIANCES[kind].format(measure)}{squared})"
     if kind == "count distinct":
         return f"count(DISTINCT {measure})"
+    if kind == "values":
+        return f"values_held(array_agg({measure}))"
     return f"percentile_disc({level_of(level)}) WITHIN GROUP (ORDER BY {measure})" if level else f"{call}({measure})"
 
 
@@ -319,7 +329,7 @@ class Server:
         if made.returncode:
             sys.exit(f"initdb failed: {made.stderr.decode(errors='replace').strip()}")
         self.begin()
-        self.ask((IS_NUMBER + IS_DECIMAL + FRACTION + VARIANCE).encode())
+        self.ask((IS_NUMBER + IS_DECIMAL + FRACTION + VARIANCE + HELD).encode())
         return self
 
     def __exit__(self, *_):
@@ -471,7 +481,7 @@ def examples(trials):
     for words in (["city=Leeds,York"], ["city!=York", "cents>=400"], ["city=\\N"], ["product<tea", "pieces!=\\N,1"]):
         trials.trial(f"examples/shop, {' and '.join(words)}", f"{shop}/schema.toml", feeds, words=[it.encode() for it in words])
     page = programs.text_at(f"{ROOT}/docs/SQL.md")
-    parts = [IS_NUMBER, IS_DECIMAL, FRACTION, VARIANCE, RECORDS, *statements(read_schema(f"{shop}/schema.toml")).values()]
+    parts = [IS_NUMBER, IS_DECIMAL, FRACTION, VARIANCE, HELD, RECORDS, *statements(read_schema(f"{shop}/schema.toml")).values()]
     missing = [it.strip() for it in parts if it.strip() not in page]
     trials.note("docs/SQL.md shows what is asked of the shop", f"it lacks {missing[0]!r}" if missing else None)
 

@@ -422,9 +422,17 @@ def decimal(text):
     return f"{sign}{front:,}" + (f".{back}" if back else "")
 
 
+# (so many letters of values stand in a cell)
+MOST_SHOWN = 60
+
+
 def shown_answer(text):
     if text == "\\N":
         return "[null]"
+    if text == "":
+        return "[no value]"
+    if "*" in text:
+        return text if len(text) <= MOST_SHOWN else text[:MOST_SHOWN] + "…"
     if "/" in text:
         return decimal(text)
     sign, whole, point, decimals = re.fullmatch(r"(-?)(\d+)(\.?)(\d*)", text).groups()

@@ -330,6 +330,75 @@ def test_changes_of_squares_and_variances(page, tmp_path):
         ["0.00 % 0.0000", "0/1"], ["+2.2500", "[null]"], ["-73.53 % -6.2500", "-1/4"]]
 
 
+# (values with two decimals by the city, and what is made of them)
+HELD = oracle.Schema(["city"], ["m"], [("values", 0), *((it, 0) for it in ("count distinct", "percentile_disc 0.5", "percentile_disc 0.9", "percentile_disc 0"))],
+                     decimals={"m": 2})
+LISTED = {b"Hull": [None], b"Leeds": [-5, 1920, -5], b"Paris": [1920, 123456780, *range(100, 120)], b"Rome": [oracle.GREATEST, oracle.LEAST, 0], b"York": [150, 150, 150, 0, -1]}
+
+
+def held_of(values):
+    """The facts of cities with these values, and the fields of their cube, line by line."""
+    facts = [([city], [it]) for city, each in values.items() for it in each]
+    text = oracle.text_of(HELD, oracle.rows_of(HELD, facts))
+    return facts, text, [it.split(",") for it in text.decode().splitlines()[1:]]
+
+
+def test_values(page, tmp_path):
+    """They are shown and sorted as texts, and put together over several rows, whose distinct counts and percentiles are made of them."""
+    facts, text, lines = held_of(LISTED)
+    (tmp_path / "values.csv").write_bytes(text)
+    page.open(f"{tmp_path}/values.csv", "")
+    rows = {line[0]: [line[0], *map(shown_answer, line[2:])] for line in lines[:-1]}
+    assert page.shown()["body"] == list(rows.values())
+    assert [rows[it][1] for it in ("Hull", "Leeds")] == ["[no value]", "-0.05*2 19.20*1"] and rows["Paris"][1].endswith("…")
+    texts = {line[0]: line[2] for line in lines[:-1]}
+    order = sorted(texts, key=lambda it: texts[it].encode())
+    for wanted in (order[::-1], order):
+        page.click("[data-sort='2']")
+        assert [it[0] for it in page.shown()["body"]] == wanted
+    for text, cities in (("ee", [b"Leeds"]), ("r", [b"Paris", b"Rome", b"York"]), ("l", [b"Hull", b"Leeds"]), ("u", [b"Hull"]), ("e", [b"Leeds", b"Rome"])):
+        page.find(text)
+        some = [it for it in facts if it[0][0] in cities]
+        assert page.shown()["foot"][0] == [f"{len(cities)} found", *(shown_answer(oracle.answer(HELD, *it, some)) for it in HELD.aggregates)]
+    page.find("")
+    page.go("#slice=%3F&top=2")
+    rest = [it for it in facts if it[0][0] not in (b"Hull", b"Leeds")]
+    assert page.shown()["foot"][0] == ["rest (3)", *(shown_answer(oracle.answer(HELD, *it, rest)) for it in HELD.aggregates)]
+
+
+def test_values_are_no_numbers(page, tmp_path):
+    """No form draws them, no bounds are asked of them, and they have no shares; a cube of values alone is a table."""
+    _, text, lines = held_of(LISTED)
+    (tmp_path / "values.csv").write_bytes(text)
+    page.open(f"{tmp_path}/values.csv", "#slice=%3F&form=bars")
+    charts = lambda: page.js("return [...document.querySelectorAll('#chart figcaption')].map((it) => it.textContent)")
+    assert charts() == ["count(distinct m)"]
+    for name in ("measure", "limit"):
+        assert page.js(f"return [...document.getElementById('{name}').options].map((it) => it.disabled)") == [True] + 4 * [False], name
+    page.go("#slice=%3F&form=bars&answers=3,6")
+    assert charts() == [HELD.aggregate_texts()[3]]
+    page.go("#slice=%3F&form=bars&answers=3&colour=3&of=3&least=1&share=total")
+    assert [it[1] for it in page.shown()["body"]] == [shown_answer(it[2]) for it in lines[:-1] if it[3] != "0"], "a table, bounded by the distinct count"
+    (tmp_path / "alone.csv").write_text("a,b,grouping(a),grouping(b),values(m)\nx,y,0,0,1*1\n\\N,\\N,1,1,1*1\n")
+    for form in ("heat", "bars", "lines", "stacked"):
+        page.open(f"{tmp_path}/alone.csv", f"#slice=%3F%2C%3F&form={form}")
+        assert page.shown()["body"] == [["x", "y", "1*1"]], form
+
+
+def test_changes_of_values(page, tmp_path):
+    """Each value that is held more often, or less often, whatever decimals the cubes have."""
+    (tmp_path / "before.csv").write_text("city,grouping(city),values(m)\nHull,0,-1.5*2 2.0*1\nLeeds,0,3.0*1\nYork,0,\nZell,0,1.0*1\n")
+    (tmp_path / "later.csv").write_text("city,grouping(city),values(m)\nBath,0,0.50*4\nHull,0,-1.50*1 1.00*7\nLeeds,0,3.00*1\nYork,0,0.00*1\n")
+    page.open(f"{tmp_path}/later.csv", "")
+    page.open_earlier(f"{tmp_path}/before.csv")
+    page.go("#slice=%3F&compare=1")
+    assert page.shown()["body"] == [
+        ["Bath", "—", "0.50*4", "0.50*4"], ["Hull", "-1.5*2 2.0*1", "-1.50*1 1.00*7", "-1.50*-1 1.00*7 2.00*-1"], ["Leeds", "3.0*1", "3.00*1", "[no value]"],
+        ["York", "[no value]", "0.00*1", "0.00*1"], ["Zell", "1.0*1", "—", "1.00*-1"]]
+    page.go("#slice=%3F&compare=1&changes=1")
+    assert [it[0] for it in page.shown()["body"]] == ["Bath", "Hull", "York", "Zell"]
+
+
 def test_rolled_up(page, tmp_path):
     """A cube that doesn't keep all grouping sets."""
     schema, feed = tmp_path / "up.toml", tmp_path / "up.csv"
@@ -362,6 +431,9 @@ WRONG = {
     "two points": ("a,grouping(a),sum(m)\nx,0,1.2.3\n",
                    "Line 2 of the file has “1.2.3” in the column sum(m), which is no number."),
     "two signs": ("a,grouping(a),sum(m)\nx,0,1.-5\n", "Line 2 of the file has “1.-5” in the column sum(m), which is no number."),
+    "values": ("a,grouping(a),values(m)\nx,0,1*2 3*\n", "Line 2 of the file has “1*2 3*” in the column values(m), which is no list of values."),
+    "values with other decimals": ("a,grouping(a),values(m)\nx,0,1.5*2\ny,0,\nz,0,1.50*2\n",
+                                   "Line 4 of the file has “1.50*2” in the column values(m), which is no list of values."),
     "count": ("a,grouping(a),count(*)\nx,0,1.0\n", "Line 2 of the file has “1.0” in the column count(*), which is no number."),
     "mean": ("a,grouping(a),avg(m)\nx,0,1/0\n",
              "Line 2 of the file has “1/0” in the column avg(m), which is no fraction."),

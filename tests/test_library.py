@@ -17,17 +17,20 @@ except pytest.skip.Exception as why:
 CASES = cases.all_cases("cases/library")
 FIVE = [("count", None), ("sum", 0), ("min", 0), ("max", 0), ("avg", 0)]
 SQUARES = [("sum_of_squares", 0), ("var_pop", 0), ("var_samp", 0)]
-THREE = oracle.Schema(["a", "b", "c"], ["m"], [("count", None), ("count", 0), *FIVE[1:], ("count distinct", 0), ("percentile_disc 0.5", 0), *SQUARES])
+THREE = oracle.Schema(
+    ["a", "b", "c"], ["m"],
+    [("count", None), ("count", 0), *FIVE[1:], ("count distinct", 0), ("percentile_disc 0.5", 0), *SQUARES, ("values", 0)])
 # (cubes by their names: a schema, and which part of how many)
 CUBES = {
     "the sample schema": (SAMPLE,),
     "chosen sets of two measures": (oracle.Schema(
         ["a", "b", "c"], ["m", "n"],
         [("count", None), ("count", 0), ("sum", 0), ("min", 1), ("max", 1), ("avg", 0), ("max", 0), ("percentile_disc 0.95", 1),
-         ("count distinct", 1), ("percentile_disc 0", 0), ("var_samp", 1)],
+         ("count distinct", 1), ("percentile_disc 0", 0), ("var_samp", 1), ("values", 1)],
         [["a", "c"], [], ["b"], ["a", "b", "c"]]),),
     "five dimensions": (oracle.Schema(["a", "b", "c", "d", "e"], ["m"], FIVE),),
     "squares": (oracle.Schema(["a"], ["m", "n"], [*SQUARES, ("var_pop", 1)]),),
+    "values": (oracle.Schema(["a"], ["m", "n"], [("values", 1), ("values", 0)]),),
     "all sets": (THREE, 0),
     "chosen sets without the grand total": (oracle.Schema(["a", "b", "c"], ["m"], FIVE[:4], [["a", "c"], ["b"], ["b", "c"]]), 0),
     "chosen sets with the grand total": (oracle.Schema(

@@ -24,11 +24,19 @@ NUMBERS = [
 ]
 
 
-def case_of(rng, merges=True):
-    """A schema, all of whose aggregates a merge makes unless it needn't, and the data records of feeds, few where there are many
-    grouping sets."""
+# (of values that are held)
+HELD = [
+    lambda it: it + [b"9223372036854775807*1"], lambda it: it[::-1], lambda it: it[1:], lambda it: it[:1] + it, lambda it: it + [b""],
+    lambda it: [part.replace(b"*", b"*1") for part in it], lambda it: [part.replace(b"*", b"*0") for part in it],
+    lambda it: [part.partition(b"*")[0] + b"*0" for part in it], lambda it: [part.partition(b"*")[0] for part in it],
+    lambda it: [part + b"*1" for part in it], lambda it: [part.partition(b"*")[0] + b"*%d" % (2**64 - 1) for part in it],
+    lambda it: [b"-9223372036854775809*1"], lambda it: [b"5*2", *it], lambda it: [part.replace(b"*", b" ") for part in it],
+]
+
+
+def case_of(rng):
+    """A schema, and the data records of feeds, few where there are many grouping sets."""
     schema, feeds = make.random_case(rng, True)
-    schema = make.mergeable(schema) if merges else schema
     most = 400 if len(schema.masks) <= 8 else 60 if len(schema.masks) <= 32 else 10
     schema.max_records = make.MOST
     return schema, [records[:most] for records in feeds][: max(1, most // 6)]
@@ -85,9 +93,8 @@ def test_partial_cubes(room, rng):
 
 @tries(8)
 def test_shards(room, rng):
-    """The shards of feeds: their partial cubes, now and then of facts of interest, which are merged where they can be, and their
-    refusals."""
-    schema, feeds = case_of(rng, rng.random() < 0.7)
+    """The shards of feeds: their partial cubes, now and then of facts of interest, which are merged, and their refusals."""
+    schema, feeds = case_of(rng)
     room.write("schema.toml", schema.toml())
     pairs = [make.written(rng, schema, it) for it in feeds]
     names, feeds = [room.write(f"feed{at}.csv", data) for at, (data, _) in enumerate(pairs)], [it for _, it in pairs]
@@ -104,19 +111,19 @@ def test_shards(room, rng):
         room.expect(["refusals", *words], (run.status, run.refusals(), b""))
     assert sorted(refused) == whole.refused
     wanted = oracle.merge(schema, texts)
-    assert not schema.can_be_merged() or wanted == (whole.print(), None)
+    assert wanted == (whole.print(), None)
     merged(room, schema, texts, rng, wanted)
 
 
 @tries(16)
 def test_counts_and_sums_near_their_bounds(room, rng):
-    """Cubes whose counts and sums are those of facts that stand many times each, near the bounds and past them."""
+    """Cubes whose counts, sums and values are those of facts that stand many times each, near the bounds and past them."""
     schema, partial, facts = facts_of(rng)
     groups = [it for it in parted(facts, rng.choice([2, 2, 1]), rng) if it] or [[]]
     most, largest = 2**64 - 1, max(map(len, groups))
     times = rng.choice([most // max(largest, 1), most // max(largest, 1), most // max(len(facts), 1), most, 2**63, 1])
     squares = max((sum(it * it for it in column if it is not None) for column in zip(*(it for _, it in facts))), default=0)
-    more = {"count": times, "sum": times, "sum_of_squares": rng.choice([times, (2**192 - 1) // max(squares, 1), 2**192 // max(squares, 1) + 1])}
+    more = {"count": times, "sum": times, "values": times, "sum_of_squares": rng.choice([times, (2**192 - 1) // max(squares, 1), 2**192 // max(squares, 1) + 1])}
     texts = []
     for group in groups:
         rows = [(key, times_of(partial, answers, more)) for key, answers in oracle.rows_of(partial, group)]
@@ -125,14 +132,17 @@ def test_counts_and_sums_near_their_bounds(room, rng):
 
 
 def times_of(schema, answers, more):
-    """The answers of a row, those of some kinds so many times, with the means and the variances that these make."""
+    """The answers of a row, those of some kinds so many times, with what is made of them."""
     told = {}
     for (kind, at), answer in zip(schema.aggregates, answers):
-        if kind not in oracle.PARTS:
+        if kind == "values":
+            held = oracle.printed_held(schema.places(at), answer.encode())
+            told[kind, at] = [(value, count * more[kind]) for value, count in held]
+        elif not oracle.parts_of(kind):
             told[kind, at] = None if answer == "\\N" else int(answer.replace(".", "")) * more.get(kind, 1)
     for kind, at in schema.aggregates:
-        if kind in oracle.PARTS:
-            told[kind, at] = oracle.made_of(schema, kind, at, {it: told[it, at] for it in oracle.PARTS[kind]})
+        if oracle.parts_of(kind):
+            told[kind, at] = oracle.made_of(schema, kind, at, {it: told[it, at] for it in oracle.parts_of(kind)})
     return [oracle.printed_of(schema, *it, told[it]) for it in schema.aggregates]
 
 
@@ -150,6 +160,8 @@ def respelled(field, rng):
     if found and rng.random() < 0.5:
         units = rng.choice([1, -1, 10, -10]) + int(found[1] + found[2])
         return oracle.decimal(units, max(len(found[2]) + rng.choice([0, 0, 0, 1, -1]), 0)).encode()
+    if b"*" in field and rng.random() < 0.8:
+        return b" ".join(rng.choice(HELD)(field.split(b" ")))
     if not re.fullmatch(rb"-?[0-9]+(/[0-9]+)?", field) or rng.random() < 0.5:
         return rng.choice(SPELLINGS)(field)
     return b"/".join(b"%d" % it for it in rng.choice(NUMBERS)([int(it) for it in field.split(b"/")]))
@@ -173,8 +185,8 @@ def spoiled(text, rng):
         place = rng.randrange(len(text))
         return text[:place] + rng.choice([b'"', b"\n", b"0", b"9", b",", b"-", b"\xff", b""]) + text[place + 1 :]
     fields = [oracle.line_of([it])[:-1] for it in oracle.printed_line(lines[at], 0)[0]]
-    means = [place for place, it in enumerate(fields) if b"/" in it] if rng.random() < 0.3 else []
-    place = rng.choice(means or range(0 if rng.random() < 0.3 else len(fields) // 2, len(fields)))
+    made = [place for place, it in enumerate(fields) if b"/" in it or b"*" in it] if rng.random() < 0.3 else []
+    place = rng.choice(made or range(0 if rng.random() < 0.3 else len(fields) // 2, len(fields)))
     fields[place] = respelled(fields[place], rng)
     return b"".join(lines[:at] + [b",".join(fields) + b"\n"] + lines[at + 1 :])
 
@@ -192,18 +204,20 @@ def test_spoiled_cubes(room, rng):
 
 
 @tries(6)
-def test_what_a_merge_makes_nothing_of(room, rng):
-    """A distinct count or a percentile is refused whatever the cubes are, and nothing is written."""
+def test_what_aggregates_are_made_of(room, rng):
+    """A cube without what an aggregate is made of isn't one of the schema's partial form, and nothing is written."""
     schema, feeds = case_of(rng)
     if not schema.measures:
         return
-    one = rng.choice(["count distinct", "percentile_disc 0.5"]), rng.randrange(len(schema.measures))
-    schema.aggregates = rng.sample([one, *schema.aggregates[:15]], len(schema.aggregates[:15]) + 1)
+    one = rng.choice(["count distinct", "percentile_disc 0.5", "avg", "var_pop"]), rng.randrange(len(schema.measures))
+    schema.aggregates = [one, *([("count", None)] if rng.random() < 0.5 else [])]
     facts = oracle.Run(schema, feeds).facts
-    texts = [rng.choice([printed(schema.partial(), it), b"", b"x\n"]) for it in parted(facts, rng.choice([1, 2, 3]), rng)]
+    parts = parted(facts, rng.choice([1, 2, 3]), rng)
+    texts, place = [printed(schema.partial(), it) for it in parts], rng.randrange(len(parts))
+    texts[place] = rng.choice([printed(schema, parts[place]), b"", b"x\n"])
     tail = [it for it in ("--check", "--partial") if rng.random() < 0.5]
     wanted = oracle.merge(schema, texts, "--partial" in tail)
-    assert wanted[0] == b"" and wanted[1].line() == "M4"
+    assert wanted[0] == b"" and wanted[1].line() == f"M4 {place + 1} 1"
     merged(room, schema, texts, rng, wanted, tail)
 
 

@@ -64,7 +64,7 @@ def long_session(count, rng):
     schema = oracle.Schema(["region", "kind", "shop"], ["amount", "pieces"],
                            [("count", None), ("sum", 0), ("min", 0), ("max", 0), ("avg", 0), ("min", 1), ("max", 1), ("count", 1),
                             ("count distinct", 0), ("percentile_disc 0.5", 0), ("percentile_disc 0.95", 1), ("sum_of_squares", 1),
-                            ("var_pop", 1), ("var_samp", 0)])
+                            ("var_pop", 1), ("var_samp", 0), ("values", 1)])
     change = lambda: make.random_record(rng, schema, make.TEXTS[1:8], 1000)
     feeds = [[change() for _ in range(2000)] for _ in range(2)]
     records = [question(rng, schema) if rng.random() < 0.01 else [b"%d" % rng.randint(1, 5), *change()] for _ in range(count)]

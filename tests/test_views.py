@@ -21,7 +21,7 @@ def number(rng):
 def case_of(rng):
     """A schema and the records of a feed."""
     names, measure = rng.sample(NAMES, rng.randint(1, 3)), rng.choice(["amount", 'a"b', "日"])
-    kinds = [("count", None), *((it, 0) for it in ("count", "sum", "min", "max", "avg", "sum_of_squares", "var_samp"))]
+    kinds = [("count", None), *((it, 0) for it in ("count", "sum", "min", "max", "avg", "sum_of_squares", "var_samp", "values"))]
     schema = oracle.Schema(names, [measure], [rng.choice(kinds) for _ in range(rng.randint(1, 6))])
     texts = [it.encode() for it in [*TEXTS, views.NULL]]
     facts = make.series(rng, 30, lambda rng: [*(rng.choice(texts) for _ in names), number(rng)])

@@ -181,8 +181,11 @@ def row_like(schema: oracle.Schema, row: Tuple[Any, List[str]]) -> Tuple[Any, ..
 
 
 def number_like(schema: oracle.Schema, kind: str, at: Any) -> Any:
-    """The type of an aggregate's answers."""
-    return Fraction if kind in oracle.PARTS else Decimal if not kind.startswith("count") and schema.places(at) else int
+    """What makes an aggregate's answers of texts."""
+    number = Decimal if not kind.startswith("count") and schema.places(at) else int
+    if kind == "values":
+        return lambda text: {number(it.partition("*")[0]): int(it.partition("*")[2]) for it in text.split()}
+    return Fraction if kind in oracle.FRACTIONS else number
 
 
 def rows_like(schema: oracle.Schema, rows: Sequence[Any]) -> List[Tuple[Any, ...]]:

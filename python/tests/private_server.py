@@ -27,7 +27,7 @@ LONG = bool(os.environ.get("DATACUBE_LONG"))
 SETTINGS = ["listen_addresses=", "fsync=off", "wal_level=logical", "max_wal_senders=20", "max_replication_slots=20", "jit=off", "deadlock_timeout=50ms"]
 DIMENSIONS, MEASURES = ["city", "product", "is_paid"], ["price", "cents"]
 AGGREGATES = ["count(*)", "count(price)", "sum(price)", "min(price)", "max(price)", "avg(price)", "sum(cents)", "min(cents)", "max(cents)", "avg(cents)"]
-AGGREGATES += ["count(distinct price)", "percentile_disc(0.5,price)", "count(distinct cents)", "percentile_disc(0.95,cents)", "sum_of_squares(price)", "var_pop(cents)"]
+AGGREGATES += ["count(distinct price)", "percentile_disc(0.5,price)", "percentile_disc(0.95,cents)", "sum_of_squares(price)", "var_pop(cents)", "values(price)"]
 SCHEMA = jackraisin.Schema(DIMENSIONS, MEASURES, AGGREGATES)
 # the writers' table, and its facts as the schema has them
 CREATE = """

@@ -271,6 +271,28 @@ class Pandas(unittest.TestCase):
             self.assertEqual([tuple(map(null, it)) for it in frame.itertuples(index=False, name=None)], wanted)
             self.assertEqual([type(it) for it in map(null, frame["var_samp(m)"]) if it is not None], [Fraction] * sum(it != NULL for it in variances))
 
+    def test_values(self):
+        """They are dicts, in the order of the values, each of which is its row's own, also beside numbers with and without decimals."""
+        few = f"0.{'0' * 17}1"
+        for held, kind in (
+            (["-3*2 7*1", "", "-3*2 7*1"], int), ([f"{2**63 - 1}*{2**64 - 1}", f"{-(2**63)}*1 0*1"], int), (["-0.05*1 1.50*2 3.00*1", "", "0.00*7"], Decimal), ([f"{few}*1", ""], Decimal),
+        ):
+            lines = "".join(f"{at},0,{it},7,1.50,\\N\n" for at, it in enumerate(held))
+            cube = jackraisin.Cube(f"a,grouping(a),values(m),count(m),sum(n),max(k)\n{lines}")
+            wanted = [({kind(it.partition("*")[0]): int(it.partition("*")[2]) for it in each.split()}, 7, Decimal("1.50"), None) for each in held]
+            self.assertEqual([it.answers for it in cube], wanted)
+            self.assertEqual([list(it["values(m)"]) for it in cube], [list(it[0]) for it in wanted])
+            self.assertEqual({type(it) for row in cube for it in row["values(m)"]}, {kind})
+            null = lambda it: None if self.pandas.isna(it) else it
+            frame = cube.to_pandas()
+            self.assertEqual([tuple(map(null, it)) for it in frame.itertuples(index=False, name=None)], wanted)
+            self.assertEqual(frame["values(m)"].dtype, object)
+            self.assertIsNot(frame["values(m)"].iloc[0], frame["values(m)"].iloc[-1])
+        for wrong in ("5", "5*", "*5", "x*1", "5*1*1", "5*1  6*1", "5*x", "1/2*1"):
+            cube = jackraisin.Cube(f"a,grouping(a),values(m)\nx,0,{wrong}\n")
+            self.assertRaises(jackraisin.Unreadable, list, cube)
+            self.assertRaises(jackraisin.Unreadable, cube.to_pandas)
+
     def test_no_row_is_made_on_the_way(self):
         cube = jackraisin.cube(SCHEMA, FEEDS)
         frame = cube.to_pandas()
@@ -375,12 +397,7 @@ class Generated(unittest.TestCase):
         for rng, schema, paths, run in self.each(30):
             like, count = beside.schema_like(schema), rng.choice([1, 2, 5])
             parts = [jackraisin.cube(like, paths, shard=(at, count), partial=True) for at in range(1, count + 1)]
-            if schema.can_be_merged():
-                self.assertEqual(jackraisin.merge(like, parts).text.encode(), run.print())
-            else:
-                with self.assertRaises(jackraisin.Failure) as caught:
-                    jackraisin.merge(like, parts)
-                self.assertEqual((caught.exception.code, caught.exception.status), ("M4", 1))
+            self.assertEqual(jackraisin.merge(like, parts).text.encode(), run.print())
             self.assertEqual(any(it.refused for it in parts), bool(run.refused))
 
     def test_slices(self):

@@ -32,6 +32,7 @@ class ByHand(unittest.TestCase):
         self.assertEqual([total[f"{it}cents)"] for it in ("count(distinct ", "percentile_disc(0.5,", "percentile_disc(0.51,")], [2, 350, 450])
         total = cube_of(SALES, by=["city"], of={"cents": ["sum_of_squares", "var_pop", "var_samp"]})[-1]
         self.assertEqual(total.answers[1:], (325000, Fraction(2500), Fraction(5000)))
+        self.assertEqual([it["values(cents)"] for it in cube_of([*SALES, SALES[0]], by=["city"], of={"cents": "values"})], [{350: 2, 450: 1}, {}, {350: 2, 450: 1}])
         self.assertEqual(cube_of([{"measure": "a"}], by=["measure"])[0].key, ("a",))
         self.assertEqual(beside.rows_of(cube_of(SALES, by=["city"]).where({})), [((ALL,), (3,))])
 

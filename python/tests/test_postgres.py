@@ -545,7 +545,7 @@ class Verified(Base):
         )
         aggregates = ["count(*)", "count(price)", "sum(price)", "min(price)", "max(price)", "avg(price)", "sum(cents)", "avg(cents)"]
         aggregates += ["count(distinct price)", "percentile_disc(0.5,price)", "count(distinct cents)", "percentile_disc(0.07,cents)", "percentile_disc(1,cents)"]
-        aggregates += ["sum_of_squares(price)", "var_samp(price)"]
+        aggregates += ["sum_of_squares(price)", "values(price)", "var_samp(price)"]
         self.schema = jackraisin.Schema(["city", "product", "is_paid"], ["price", "cents"], aggregates, decimals={"price": 2})
 
     def compared(self, follower, seconds=SECONDS):

@@ -998,6 +998,10 @@ class Metrics(Case):
         self.assertEqual([(it.labels, it.value) for it in found["datacube_avg_x_2"]], [(labels, 1 / 3)])
         self.assertEqual((sorted(found), found["datacube_sum_a_b"]), (["datacube_avg_x", "datacube_avg_x_2", "datacube_count", "datacube_sum_a_b"], []))
 
+    def test_values_are_no_metric(self):
+        families, _ = _metrics.families_of("a,grouping(a),values(x),max(x),values(y)\nq,0,1*2,1,\n", False, "t", 9)
+        self.assertEqual([(it.name, [sample.value for sample in it.samples]) for it in families], [("datacube_max_x", [1.0])])
+
     def test_the_grand_total_by_default(self):
         lines = self.server().get("/metrics").text.splitlines()
         self.assertEqual([it.rpartition(" ")[2] for it in lines if it.startswith("datacube_count{")], ["7.0"])

@@ -60,6 +60,15 @@ class Shown(unittest.TestCase):
                 file.write("a,grouping(a),sum_of_squares(m),avg(m),var_pop(m)\nx,0,8.5000,2/1,1/4\n\\N,1,8.5000,2/1,1/4\n")
             self.assertEqual(show(path)[1].splitlines()[1].split(), ["x", "8.5000", "2.0000", "1/4"])
 
+    def test_values_stand_as_they_are(self):
+        """They tell how many decimals their measure has, too, and have no order."""
+        with tempfile.TemporaryDirectory() as folder:
+            path = f"{folder}/cube.csv"
+            with open(path, "w") as file:
+                file.write("a,grouping(a),values(m),avg(m)\nx,0,,\\N\ny,0,-1.50*1 2.00*3,9/8\n\\N,1,-1.50*1 2.00*3,9/8\n")
+            self.assertEqual([it.split() for it in show(path)[1].splitlines()[1:3]], [["x", "(null)"], ["y", "-1.50*1", "2.00*3", "1.1250"]])
+            self.assertEqual(show(path, "--top", "1")[::2], (1, "jackraisin: only numbers are in an order, and values(m) is none\n"))
+
     def test_what_it_cant_show(self):
         for words, why in (
             ([CUBE, "--by", "town"], "no dimension is named 'town': they are city, product, payment"),

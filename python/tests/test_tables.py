@@ -13,7 +13,8 @@ from unittest import mock
 import beside
 import jackraisin
 from jackraisin import ALL
-from jackraisin._records import FRACTIONS
+from jackraisin._numbers import held_of
+from jackraisin._records import FRACTIONS, VALUES
 
 SHOP = os.path.join(beside.ROOT, "examples", "shop")
 
@@ -53,6 +54,13 @@ def stand_in_for_polars():
     return made
 
 
+def read(aggregate, value):
+    """What a table has of an answer, where that is a text of a fraction or of values, as rows have it."""
+    if value is None or not aggregate.startswith((*FRACTIONS, VALUES)):
+        return value
+    return Fraction(value) if aggregate.startswith(FRACTIONS) else held_of(value)
+
+
 class Stand(unittest.TestCase):
     def setUp(self):
         given = mock.patch.dict(sys.modules, {"pyarrow": stand_in_for_arrow(), "polars": stand_in_for_polars()})
@@ -63,9 +71,7 @@ class Stand(unittest.TestCase):
         """The rows that a table says, as those of a cube."""
         count, values = len(cube.dimensions), [each for _, (_, each) in table]
         keys = [[ALL if mark else value for value, mark in zip(*both)] for both in zip(values[:count], values[count:])]
-        answers = [
-            [Fraction(it) if it is not None and name.startswith(FRACTIONS) else it for it in each] for name, each in zip(cube.aggregates, values[2 * count :])
-        ]
+        answers = [[read(name, it) for it in each] for name, each in zip(cube.aggregates, values[2 * count :])]
         return [(tuple(key), tuple(each)) for key, each in zip(zip(*keys), zip(*answers))]
 
     def same(self, cube):
@@ -109,6 +115,13 @@ class Stand(unittest.TestCase):
         table, frame = self.same(cube)
         self.assertEqual((table.kinds()["sum_of_squares(m)"], frame.kinds()["sum_of_squares(m)"]), (("decimal256", 76, 36), "string"))
         self.assertEqual((table.kinds()["var_pop(m)"], frame.kinds()["var_pop(m)"]), ("string", "string"))
+
+    def test_values(self):
+        """They are as they are printed, the empty text where there is none."""
+        cube = jackraisin.Cube("a,grouping(a),values(m),count(m)\nx,0,-0.05*1 1.50*2,3\ny,0,,0\n\\N,1,-0.05*1 1.50*2,3\n")
+        for table in (cube.to_arrow(), cube.to_polars()):
+            self.assertEqual(dict(table)["values(m)"], ("string", ["-0.05*1 1.50*2", "", "-0.05*1 1.50*2"]))
+            self.assertEqual(table.kinds()["count(m)"], "int64")
 
     def test_names(self):
         """A dimension may have the name of an aggregate; polars has no two columns of one name."""

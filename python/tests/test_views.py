@@ -46,6 +46,8 @@ class Shop(unittest.TestCase):
         self.assertEqual(found(cities.top(0, "sum(cents)")), [])
         for words in ((1, "sum(pence)"), (-1, "count(*)")):
             self.assertRaises(jackraisin.Unsayable, cities.top, *words)
+        with self.assertRaisesRegex(jackraisin.Unsayable, r"only numbers are in an order, and values\(m\) is none"):
+            jackraisin.Cube("a,grouping(a),values(m)\nx,0,5*1\n").top(1, "values(m)")
 
     def test_top_of_long_numbers(self):
         """Fractions whose parts are longer than any float has digits are in the order of their values."""
@@ -105,6 +107,17 @@ class Shop(unittest.TestCase):
         self.assertEqual([it.change("var_samp(m)") for it in found], [None, 2**190 - Fraction(2**190 + 1, 2**64), None])
         self.assertRaises(jackraisin.Unsayable, before.diff, shop())
 
+    def test_changes_of_values(self):
+        """Each value that is held more often, or less often; in a cube without the cell none is held."""
+        head = "a,grouping(a),values(m),count(m)\n"
+        before = jackraisin.Cube(f"{head}x,0,-1.50*2 2.00*1,3\ny,0,3.00*1,1\nz,0,,0\n")
+        found = before.diff(jackraisin.Cube(f"{head}w,0,0.50*4,4\nx,0,-1.50*1 1.00*7,8\nz,0,0.00*1,1\n"))
+        self.assertEqual([it.key for it in found], [("w",), ("x",), ("y",), ("z",)])
+        self.assertEqual([it.change("values(m)") for it in found], [
+            {Decimal("0.50"): 4}, {Decimal("-1.50"): -1, Decimal("1.00"): 7, Decimal("2.00"): -1}, {Decimal("3.00"): -1}, {Decimal("0.00"): 1}])
+        self.assertEqual(list(found[1].change("values(m)")), sorted(found[1].change("values(m)")))
+        self.assertRaises(jackraisin.Unsayable, before.percent, "values(m)")
+
 
 class Generated(unittest.TestCase):
     """Beside the oracle's rows of generated feeds."""
@@ -128,6 +141,9 @@ class Generated(unittest.TestCase):
         for rng, schema, paths, _, run in self.each(30):
             cube, rows = jackraisin.cube(beside.schema_like(schema), paths), rows_like(schema, run.rows)
             at, count = rng.randrange(len(cube.aggregates)), rng.randrange(8)
+            if schema.aggregates[at][0] == "values":
+                self.assertRaises(jackraisin.Unsayable, cube.top, count, cube.aggregates[at])
+                continue
             # (by taking the best one away again and again)
             wanted = []
             while rows and len(wanted) < count:

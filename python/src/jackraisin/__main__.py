@@ -9,6 +9,7 @@ import argparse
 import os
 import sys
 from decimal import Decimal
+from fractions import Fraction
 from typing import Callable, Dict, List, Optional, Sequence
 
 from ._aligned import ROUNDED, aligned, coordinate_shown, rounded
@@ -92,15 +93,17 @@ def show_of(cube: Cube, aggregate: str) -> Show:
     if not is_mean(aggregate):
         return shown
     digits = 2 + decimals_of(cube, aggregate[len("avg(") : -1])
-    return lambda it: rounded("/".join(map(str, it.as_integer_ratio())), digits) if it is not None else ""
+    return lambda it: rounded(f"{it.numerator}/{it.denominator}", digits) if isinstance(it, (int, Fraction)) else shown(it)
 
 
 def decimals_of(cube: Cube, measure: str) -> int:
-    """How many decimals the numbers of a measure have, as another aggregate of it shows them: a sum of squares has twice as many."""
+    """How many decimals the numbers of a measure have, as another aggregate of it shows them: a sum of squares has twice as many, and of
+    values each is one."""
     percentiles = [it for it in cube.aggregates if it.startswith("percentile_disc(") and it.partition(",")[2] == f"{measure})"]
-    for aggregate in [*(f"{kind}({measure})" for kind in ("sum", "min", "max", "sum_of_squares")), *percentiles]:
+    for aggregate in [*(f"{kind}({measure})" for kind in ("sum", "min", "max", "sum_of_squares", "values")), *percentiles]:
         if aggregate in cube.aggregates:
-            found = next((it for it in (row[aggregate] for row in cube) if it is not None), None)
+            numbers = (next(iter(it), None) if isinstance(it, dict) else it for it in (row[aggregate] for row in cube))
+            found = next((it for it in numbers if it is not None), None)
             exponent = found.as_tuple().exponent if isinstance(found, Decimal) else 0
             digits = -exponent if isinstance(exponent, int) else 0
             return digits // 2 if aggregate.startswith("sum_of_squares(") else digits

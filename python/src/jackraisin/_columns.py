@@ -14,8 +14,8 @@ from operator import is_not
 from typing import TYPE_CHECKING, Any, Callable, Dict, Iterator, List, Optional, Sequence, TypeVar, Union
 
 from ._cells import ALL
-from ._numbers import EXACT, Number, number_of, whole_of
-from ._records import FRACTIONS, GREATEST, LEAST, NULL, Columns, head_of, lines_behind, long_fields, records_of, unescaped, unreadable
+from ._numbers import EXACT, Exact, Held, Number, held_of, number_of, whole_of
+from ._records import FRACTIONS, GREATEST, LEAST, NULL, VALUES, Columns, head_of, lines_behind, long_fields, records_of, unescaped, unreadable
 
 if TYPE_CHECKING:
     import pandas
@@ -47,7 +47,7 @@ def texts_of(text: str, columns: Columns) -> List[Sequence[str]]:
 
 
 def numbers_of(aggregate: str, texts: Sequence[str]) -> List[Optional[Number]]:
-    """The numbers that fields say, of an aggregate other than a mean and a variance."""
+    """The numbers that fields say, of an aggregate other than a mean, a variance and values."""
     read = whole_of if is_count(aggregate) else number_of
     try:
         return each_once(texts, lambda some: list(map(read, some)))
@@ -60,6 +60,14 @@ def fractions_of(texts: Sequence[str]) -> List[Optional[Fraction]]:
     try:
         return each_once(texts, each_fraction)
     except (ValueError, TypeError, ZeroDivisionError) as why:
+        raise unreadable(why) from None
+
+
+def all_held(texts: Sequence[str]) -> List[Optional[Held]]:
+    """The values that fields say, as a dict for each that is nobody else's."""
+    try:
+        return [None if it == NULL else held_of(it) for it in texts]
+    except (ValueError, ArithmeticError) as why:
         raise unreadable(why) from None
 
 
@@ -154,10 +162,17 @@ def is_count(aggregate: str) -> bool:
     return aggregate.startswith("count(")
 
 
-def reader_of(aggregate: str) -> Callable[[str], Union[Number, Fraction]]:
-    """What reads an aggregate's answers: fractions, whole numbers, or those that may have decimals."""
+def is_of_texts(aggregate: str) -> bool:
+    """Whether its answers are no numbers in a printed cube: fractions, or values."""
+    return aggregate.startswith((*FRACTIONS, VALUES))
+
+
+def reader_of(aggregate: str) -> Callable[[str], Union[Exact, Held]]:
+    """What reads an aggregate's answers: fractions, values, whole numbers, or those that may have decimals."""
     if is_fraction(aggregate):
         return Fraction
+    if is_of_texts(aggregate):
+        return held_of
     return whole_of if is_count(aggregate) else number_of
 
 
@@ -168,7 +183,7 @@ def fit(answers: Sequence[Optional[Number]]) -> bool:
 
 def places_of(text: str, columns: Columns) -> List[int]:
     """How many digits each aggregate is printed with behind the point: as many as its first number that isn't null has there."""
-    found: List[Optional[int]] = [0 if is_fraction(it) or is_count(it) else None for it in columns.aggregates]
+    found: List[Optional[int]] = [0 if is_of_texts(it) or is_count(it) else None for it in columns.aggregates]
     if "." not in text:
         return [0] * len(found)
     with long_fields():
@@ -201,7 +216,7 @@ def fields_of(text: str, columns: Columns) -> List[Any]:
 
     count = 2 * len(columns.dimensions)
     kinds: List[Any] = ["category"] * count
-    kinds += [str if is_fraction(it) else places or None for it, places in zip(columns.aggregates, places_of(text, columns))]
+    kinds += [str if is_of_texts(it) else places or None for it, places in zip(columns.aggregates, places_of(text, columns))]
     # (what UTF-8 can't say is refused by pandas)
     head, all_of = (it.encode("utf-8", "surrogatepass") for it in (text[: head_of(text)[1]], text))
     body = all_of[len(head) :]
@@ -243,7 +258,7 @@ def read_by_pandas(body: bytes, kinds: Sequence[Any]) -> List[Any]:
 
 def see_points(body: bytes, columns: Sequence[Any], kinds: Sequence[Any]) -> None:
     """Sees that each number with decimals has one point with as many digits behind it as the others, and that no other number has a
-    point; else it is a `ValueError`."""
+    point, but in texts; else it is a `ValueError`."""
     import numpy
 
     if b"." not in body:
@@ -263,6 +278,7 @@ def see_points(body: bytes, columns: Sequence[Any], kinds: Sequence[Any]) -> Non
         if int(found.sum()) != theirs + sum_over(columns, kinds, lambda it: ends_in(mark, it)):
             raise ValueError(f"not numbers with {places} decimals alone")
         wanted -= theirs
+    wanted -= sum(sum(map(str.count, it.tolist(), repeat("."))) for it, kind in zip(columns, kinds) if kind is str)
     # (pandas takes a NaN among them for missing, too)
     wanted -= sum(sum(map(is_not, it.tolist(), repeat(None))) for it, kind in zip(columns, kinds) if kind is Decimal)
     if wanted != sum_over(columns, kinds, lambda it: it.count(".")):
@@ -356,13 +372,16 @@ def level_of(texts: Any, marks: Any, is_escaped: bool) -> Any:
 
 
 def answers_of(aggregate: str, column: Any) -> Any:
-    """The answers of an aggregate: whole numbers of 64 bits where they fit, else objects, as fractions and numbers with decimals are."""
+    """The answers of an aggregate: whole numbers of 64 bits where they fit, else objects, as fractions, numbers with decimals, and dicts of
+    values are."""
     import pandas
 
     if not isinstance(column, pandas.Series):
         return column
     if is_fraction(aggregate):
         return objects(fractions_of(column.tolist()))
+    if is_of_texts(aggregate):
+        return objects(all_held(column.tolist()))
     answers = numbers_of(aggregate, column.tolist())
     return pandas.array(answers, dtype="Int64") if fit(answers) else objects(answers)
 

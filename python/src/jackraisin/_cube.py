@@ -20,7 +20,8 @@ from ._records import NULL, Columns, head_of, lines_of, records_of, unescaped, u
 if TYPE_CHECKING:
     import pandas
 
-Answer = Union[int, Decimal, Fraction, None]
+# (values are a dict, by each the number of times that it is held)
+Answer = Union[int, Decimal, Fraction, _numbers.Held, None]
 
 SHOWN = 10
 
@@ -122,7 +123,7 @@ class Cube(Sequence[Row]):
         return self._part(_views.matching(self, self.dimensions, pattern))
 
     def top(self, count: int, by: str, *, totals: bool = False) -> "Cube":
-        """The rows with the greatest answers of an aggregate, the greatest first, null behind all numbers, and equal ones in
+        """The rows with the greatest answers of an aggregate of numbers, the greatest first, null behind all numbers, and equal ones in
         their order. Rows with ALL in a dimension in which another row has a value are left out, as totals of others; with
         `totals` they take part."""
         return self._part(_views.greatest(self, count, by, totals))
@@ -168,13 +169,14 @@ class Cube(Sequence[Row]):
     def to_pandas(self) -> "pandas.DataFrame":
         """A frame with the answers, over the cells as its index: each level is ordered, ALL is its last category, and null
         is missing. Whole numbers are `Int64` where they fit, else objects; a number with decimals is a `Decimal`, a mean
-        and a variance a `Fraction`."""
+        and a variance a `Fraction`, and values are a `dict`."""
         return _columns.frame_of(self.text, self._columns)
 
     def to_arrow(self) -> Any:
         """A table of pyarrow, with the columns of the printed cube under their names: ALL and null are both null in a dimension, and
         its GROUPING column (`int8`) tells them apart. Whole numbers are `int64` where all of a column fit, else `decimal128`, as
-        numbers with decimals are, with `decimal256` beyond 38 digits; a mean and a variance are the text of their fraction."""
+        numbers with decimals are, with `decimal256` beyond 38 digits; a mean and a variance are the text of their fraction, and
+        values are as they are printed."""
         return _tables.arrow_table(self.text, self._columns)
 
     def to_polars(self) -> Any:

@@ -4,12 +4,15 @@ from __future__ import annotations
 import operator
 from decimal import Context, Decimal, Inexact, InvalidOperation
 from fractions import Fraction
-from typing import Final, SupportsIndex, Union
+from typing import Dict, Final, Optional, SupportsIndex, Union
 
 from ._errors import Unsayable
 from ._records import GREATEST, LEAST
 
 Number = Union[int, Decimal]
+Exact = Union[Number, Fraction]
+# (values, each with how often it is held)
+Held = Dict[Number, int]
 # (more digits than a sum of squares has, which has 58 at most; what would be rounded is refused)
 EXACT: Final = Context(prec=60, traps=[Inexact, InvalidOperation])
 
@@ -23,6 +26,12 @@ def number_of(text: str) -> Number:
     """The number that a printed sum, also of squares, least or greatest value or percentile says: one with decimals where the measure has
     such, which are all printed, else a whole one."""
     return Decimal(text) if "." in text else int(text)
+
+
+def held_of(text: str) -> Held:
+    """The values that a field says, in ascending order, each with how often it is held."""
+    pairs = [it.split("*") for it in text.split(" ")] if text else []
+    return {number_of(value): int(times) for value, times in pairs}
 
 
 def spelled(units: int, places: int) -> str:
@@ -54,7 +63,12 @@ def units_of(name: str, value: Decimal, places: int) -> int:
         raise Unsayable(f"measure {name}: {value} can't be said with {places} decimals in 64 bits") from None
 
 
-def difference(after: Union[Number, Fraction], before: Union[Number, Fraction]) -> Union[Number, Fraction]:
+def number_in(answer: Union[Exact, Held, None]) -> Optional[Exact]:
+    """The number that an answer is; None for null, and for values."""
+    return None if isinstance(answer, dict) else answer
+
+
+def difference(after: Exact, before: Exact) -> Exact:
     """One answer less another of the same aggregate, exactly."""
     if isinstance(after, Fraction) or isinstance(before, Fraction):
         return Fraction(after) - Fraction(before)
@@ -63,6 +77,14 @@ def difference(after: Union[Number, Fraction], before: Union[Number, Fraction]) 
     return after - before
 
 
+def held_difference(after: Held, before: Held) -> Held:
+    """How much more often each value is held after than before; negative where it is less."""
+    changes = {it: after.get(it, 0) - before.get(it, 0) for it in sorted({**before, **after})}
+    return {it: times for it, times in changes.items() if times}
+
+
 def shown(answer: object) -> str:
-    """An answer as people read it: a number with all its decimals, and no exponent."""
+    """An answer as people read it: a number with all its decimals, and no exponent; values as the program prints them."""
+    if isinstance(answer, dict):
+        return " ".join(f"{shown(value)}*{times}" for value, times in answer.items())
     return f"{answer:f}" if isinstance(answer, Decimal) else str(answer)

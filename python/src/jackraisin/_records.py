@@ -13,11 +13,12 @@ from ._errors import Unreadable
 NULL = "\\N"
 # (what a measure holds, and a column of a frame)
 LEAST, GREATEST = -(2**63), 2**63 - 1
-PLAIN = "count|sum|min|max|avg|sum_of_squares|var_pop|var_samp"
+PLAIN = "count|sum|min|max|avg|sum_of_squares|var_pop|var_samp|values"
 AGGREGATE = re.compile(rf"(({PLAIN})\(|percentile_disc\((0|1|0\.[0-9]{{1,4}}|1\.0{{1,4}}),).*\)", re.DOTALL)
-# (those that say fractions, and those that can be added up over cells)
+# (those that say fractions, those that can be added up over cells, and the one that is no number)
 FRACTIONS = "avg(", "var_pop(", "var_samp("
 ADDED = "count(", "sum(", "sum_of_squares("
+VALUES = "values("
 # (texts may be longer than what csv takes at first, whose limit is one for the whole process)
 LONGEST = 2**31 - 1
 LIMIT = threading.RLock()

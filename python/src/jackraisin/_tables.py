@@ -33,7 +33,7 @@ class Column(NamedTuple):
 
 def columns_of(text: str, columns: Columns) -> Iterator[Column]:
     """The columns of a printed cube, under its names. ALL and null are both null in a dimension; its GROUPING column tells them apart. A
-    mean and a variance are the text of their fraction."""
+    mean and a variance are the text of their fraction, and values are as they are printed."""
     fields, count = _columns.texts_of(text, columns), len(columns.dimensions)
     read = unescaped if columns.is_escaped else lambda text: text
     for name, texts, marks in zip(columns.dimensions, fields, fields[count:]):
@@ -41,7 +41,7 @@ def columns_of(text: str, columns: Columns) -> Iterator[Column]:
     for name, marks in zip(columns.dimensions, fields[count:]):
         yield Column(f"grouping({name})", Kind.MARK, [int(it) for it in marks])
     for name, texts in zip(columns.aggregates, fields[2 * count :]):
-        if _columns.is_fraction(name):
+        if _columns.is_of_texts(name):
             yield Column(name, Kind.TEXT, [None if it == NULL else it for it in texts])
         else:
             yield column_of_numbers(name, _columns.numbers_of(name, texts))

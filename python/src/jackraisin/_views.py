@@ -7,8 +7,8 @@ from typing import TYPE_CHECKING, Dict, Iterable, List, NamedTuple, Optional, Se
 
 from ._cells import ALL, Cell, Coordinate, Key, Pattern, field_of, fields_of, in_order
 from ._errors import Unsayable
-from ._numbers import difference
-from ._records import ADDED
+from ._numbers import difference, held_difference, number_in
+from ._records import ADDED, VALUES
 
 if TYPE_CHECKING:
     from ._cube import Answer, Cube, Row
@@ -37,12 +37,14 @@ def values_in(rows: Sequence["Row"]) -> List[int]:
 def greatest(cube: "Cube", count: int, by: str, totals: bool) -> List[int]:
     """The places of the rows with the greatest answers, null behind all numbers, and equal ones in their order."""
     at = place_of(cube.aggregates, by, "aggregate")
+    if by.startswith(VALUES):
+        raise Unsayable(f"only numbers are in an order, and {by} is none")
     if operator.index(count) < 0:
         raise Unsayable(f"{count} rows can't be had")
     rows = list(cube)
     finest = values_in(rows)
     places = [it for it, row in enumerate(rows) if totals or all(row.key[each] is not ALL for each in finest)]
-    answers = [(it, rows[it].answers[at]) for it in places]
+    answers = [(it, number_in(rows[it].answers[at])) for it in places]
     known = sorted(((it, answer) for it, answer in answers if answer is not None), key=lambda it: it[1], reverse=True)
     return [it for it, _ in [*known, *((it, answer) for it, answer in answers if answer is None)]][:count]
 
@@ -54,7 +56,7 @@ def shares(cube: "Cube", aggregate: str, of: Optional[Cell]) -> Dict[Key, Option
         raise Unsayable(f"only counts and sums have shares, and {aggregate} is neither")
     others: List[Coordinate] = [ALL]
     key = whole_of(list(cube)) if of is None else tuple(in_order(cube.dimensions, of, others, "dimension"))
-    found = {row.key: row.answers[at] for row in cube}
+    found = {row.key: number_in(row.answers[at]) for row in cube}
     whole = found.get(key)
     return {it: Fraction(answer) / Fraction(whole) if answer is not None and whole else None for it, answer in found.items()}
 
@@ -87,15 +89,19 @@ class Difference(NamedTuple):
     after: Optional["Row"]
 
     def change(self, aggregate: str) -> "Answer":
-        """What came to an answer: that after less that before. In a cube that doesn't have the cell a count or a sum is 0;
-        None where either is null, or a least, a greatest, a mean, a variance or a percentile that isn't there."""
+        """What came to an answer: that after less that before; of values how much more often each is held, negative where it is less.
+        In a cube that doesn't have the cell a count or a sum is 0, and no value is held; None where either is null, or a least, a greatest,
+        a mean, a variance or a percentile that isn't there."""
         before, after = (answer_in(it, aggregate) for it in (self.before, self.after))
-        return None if before is None or after is None else difference(after, before)
+        if isinstance(before, dict) and isinstance(after, dict):
+            return held_difference(after, before)
+        was, now = number_in(before), number_in(after)
+        return None if was is None or now is None else difference(now, was)
 
 
 def answer_in(row: Optional["Row"], aggregate: str) -> "Answer":
     if row is None:
-        return 0 if aggregate.startswith(ADDED) else None
+        return {} if aggregate.startswith(VALUES) else 0 if aggregate.startswith(ADDED) else None
     return row.answers[place_of(row.columns.aggregates, aggregate, "aggregate")]
 
 

@@ -2,14 +2,15 @@
 from __future__ import annotations
 
 import io
+from collections import Counter
 from fractions import Fraction
-from typing import TYPE_CHECKING, Dict, Final, List, Optional, Sequence, Set, Tuple
+from typing import TYPE_CHECKING, Dict, Final, List, Optional, Sequence, Set, Tuple, Union
 
 from psycopg2 import sql
 
 from .._cells import ALL, ANY, MARKS, Mark
-from .._cube import Cube, Row
-from .._records import GREATEST, LEAST
+from .._cube import Answer, Cube, Row
+from .._records import GREATEST, LEAST, VALUES
 from .._schema import Schema
 from ._mirror import Mirror
 from ._slot import snapshot_of
@@ -21,8 +22,9 @@ if TYPE_CHECKING:
     from psycopg2.extensions import connection as Connection
     from psycopg2.extensions import cursor as Cursor
 
-# (a dimension with more values isn't compared by them)
+# (a dimension with more values isn't compared by them; of a measure so many are named in what is told)
 MOST_VALUES: Final = 10_000
+NAMED: Final = 20
 PER_MEASURE: Final = ("count", "sum", "min", "max")
 DISTINCT: Final = "count(distinct "
 PERCENTILE: Final = "percentile_disc("
@@ -30,7 +32,9 @@ PERCENTILE: Final = "percentile_disc("
 SQUARES: Final = "sum_of_squares("
 VARIANCES: Final = ("var_pop(", "var_samp(")
 
-Answers = Tuple[Optional[Fraction], ...]
+# (a number, or values with how often each is held)
+Exact = Union[Fraction, Dict[Fraction, int], None]
+Answers = Tuple[Exact, ...]
 # (the answers of the values of a dimension; those of the grand total are under null)
 Totals = Dict[Optional[str], Answers]
 
@@ -72,7 +76,7 @@ class Comparison(InSnapshot):
         return "in all" if at is None else f"{self._schema.dimensions[at]} {shown(self._rows.dimensions[at], value)}"
 
     def _said(self, answers: Optional[Answers]) -> str:
-        return "nothing" if answers is None else ", ".join(f"{name} {it}" for name, it in zip(self._schema.aggregates, answers))
+        return "nothing" if answers is None else ", ".join(f"{name} {said(it)}" for name, it in zip(self._schema.aggregates, answers))
 
     def _sets(self) -> List[Optional[int]]:
         """The dimensions that are compared by their values, and none for the grand total, where the cube has them."""
@@ -124,15 +128,16 @@ class Comparison(InSnapshot):
 
     def _answers(self, record: Sequence[Optional[str]]) -> Answers:
         """The answers to the schema's aggregates that a record of the database says."""
-        numbers = [None if it is None else Fraction(it) for it in record[1:]]
-        return tuple(self._answer(it, numbers) for it in self._schema.aggregates)
+        texts = record[1:]
+        numbers = [None if it is None or it.startswith("{") else Fraction(it) for it in texts]
+        return tuple(self._held(it, texts) if it.startswith(VALUES) else self._answer(it, numbers) for it in self._schema.aggregates)
 
     def _of_values(self) -> Dict[str, int]:
-        """The aggregates of the schema that are asked one by one, each with the place of its measure: distinct counts, percentiles, sums
-        of squares, and variances, for which such a sum is asked."""
+        """The aggregates of the schema that are asked one by one, each with the place of its measure: distinct counts, percentiles, values,
+        sums of squares, and variances, for which such a sum is asked."""
         names, found = self._schema.measures, {}
         for it in self._schema.aggregates:
-            if it.startswith((SQUARES, *VARIANCES)):
+            if it.startswith((SQUARES, VALUES, *VARIANCES)):
                 found[it] = names.index(it.partition("(")[2][:-1])
             elif it.startswith(PERCENTILE):
                 found[it] = names.index(it.partition(",")[2][:-1])
@@ -147,7 +152,7 @@ class Comparison(InSnapshot):
         of_values = self._of_values()
         if aggregate in of_values:
             at = of_values[aggregate]
-            number = numbers[1 + len(PER_MEASURE) * len(self._schema.measures) + list(of_values).index(aggregate)]
+            number = numbers[self._place_of(aggregate)]
             if number is None or aggregate.startswith(DISTINCT):
                 return number
             if aggregate.startswith(PERCENTILE):
@@ -163,6 +168,15 @@ class Comparison(InSnapshot):
         if number is None or not count:
             return None
         return number * self._rows.factors[at] / (count if kind == "avg" else 1)
+
+    def _place_of(self, aggregate: str) -> int:
+        """The place of an aggregate that is asked by itself, behind the count of all and what is asked of each measure."""
+        return 1 + len(PER_MEASURE) * len(self._schema.measures) + list(self._of_values()).index(aggregate)
+
+    def _held(self, aggregate: str, texts: Sequence[Optional[str]]) -> Dict[Fraction, int]:
+        """The values of a measure, of the array of all of them that the database says, which is null where there is none."""
+        factor, listed = self._rows.factors[self._of_values()[aggregate]], texts[self._place_of(aggregate)]
+        return dict(Counter(Fraction(it) * factor for it in listed[1:-1].split(","))) if listed else {}
 
     def _found(self, at: int, numbers: Sequence[Optional[Fraction]]) -> Dict[str, Optional[Fraction]]:
         """What is asked of each measure, of the one at a place."""
@@ -184,6 +198,8 @@ def call_of(aggregate: str) -> sql.SQL:
         return sql.SQL("count(DISTINCT {})")
     if aggregate.startswith((SQUARES, *VARIANCES)):
         return sql.SQL("sum({0}::numeric * {0})")
+    if aggregate.startswith(VALUES):
+        return sql.SQL("array_agg({0}) FILTER (WHERE {0} IS NOT NULL)")
     level = aggregate[len(PERCENTILE) :].partition(",")[0]
     less = "" if Fraction(float(level)) == Fraction(level) else " - 2e-15"
     return sql.SQL(f"percentile_disc({level}{less}) WITHIN GROUP (ORDER BY {{}})")
@@ -193,7 +209,22 @@ def total_of(row: Row, at: Optional[int]) -> Tuple[Optional[str], Answers]:
     """A row of the cube as a value of a dimension and its answers."""
     value = None if at is None else row.key[at]
     assert not isinstance(value, Mark)
-    return value, tuple(None if it is None else Fraction(it) for it in row.answers)
+    return value, tuple(map(exact_of, row.answers))
+
+
+def exact_of(answer: Answer) -> Exact:
+    """An answer of the cube as the database's are."""
+    if isinstance(answer, dict):
+        return {Fraction(value): times for value, times in answer.items()}
+    return None if answer is None else Fraction(answer)
+
+
+def said(answer: Exact) -> str:
+    """An answer as it is told, of values the least ones alone where they are many."""
+    if not isinstance(answer, dict):
+        return str(answer)
+    named = " ".join(f"{value}*{answer[value]}" for value in sorted(answer)[:NAMED])
+    return f"{named} .." if len(answer) > NAMED else named
 
 
 # (a row with a measure that can't be said isn't in the cube; NaN is more than any number)

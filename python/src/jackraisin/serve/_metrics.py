@@ -10,7 +10,8 @@ from prometheus_client.exposition import choose_encoder
 
 from .._cube import Answer, Row, row_of
 from .._metric_names import label_names, label_values, metric_names
-from .._records import NULL, Columns, head_of, records_of
+from .._numbers import number_in
+from .._records import NULL, VALUES, Columns, head_of, records_of
 from ._served import ServedCube
 
 SECONDS = (0.001, 0.0025, 0.005, 0.01, 0.025, 0.05, 0.1, 0.25, 0.5, 1, 2.5, 5, 10)
@@ -53,7 +54,8 @@ class Together:
 
 
 def families_of(text: str, is_escaped: bool, subject: str, most: int) -> Tuple[List[Any], int]:
-    """A metric for each aggregate of a printed cube, over its first so many rows, and how many more rows it has."""
+    """A metric for each aggregate of a printed cube but values, which are no number, over its first so many rows, and how many more rows it
+    has."""
     columns = Columns(head_of(text)[0], is_escaped)
     with records_of(text) as records:
         next(records, None)
@@ -61,8 +63,9 @@ def families_of(text: str, is_escaped: bool, subject: str, most: int) -> Tuple[L
         left_out = sum(1 for _ in records)
     labels = label_names(columns.dimensions, KINDS)
     samples = [(labels_of(labels, row), row.answers) for row in rows]
-    names = zip(metric_names(columns.aggregates), columns.aggregates)
-    families = [family_of(name, f"{it} of {subject}.", [(its, answers[at]) for its, answers in samples]) for at, (name, it) in enumerate(names)]
+    named = enumerate(zip(metric_names(columns.aggregates), columns.aggregates))
+    shown = [(at, name, it) for at, (name, it) in named if not it.startswith(VALUES)]
+    families = [family_of(name, f"{it} of {subject}.", [(its, answers[at]) for its, answers in samples]) for at, name, it in shown]
     return families, left_out
 
 
@@ -71,8 +74,9 @@ def family_of(name: str, text: str, samples: Iterable[Tuple[Dict[str, str], Answ
     where GROUPING is 1, or it is that text where IS_TEXT is 1, which nothing else has."""
     family = GaugeMetricFamily(name, text)
     for labels, answer in samples:
-        if answer is not None:
-            family.add_sample(name, labels, float(answer))
+        number = number_in(answer)
+        if number is not None:
+            family.add_sample(name, labels, float(number))
     return family
 
 

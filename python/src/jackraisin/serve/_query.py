@@ -7,7 +7,7 @@ from urllib.parse import parse_qsl
 
 from .._cells import text_of
 from .._errors import Unsayable
-from .._records import ADDED, NULL, escaped
+from .._records import ADDED, NULL, VALUES, escaped
 from .._schema import Schema
 from ._errors import BadQuery
 
@@ -97,6 +97,8 @@ def view_of(own: Mapping[str, str], schema: Schema) -> Optional[View]:
     for name, value in (("_by", by), ("_percent", percent)):
         if value is not None and value not in schema.aggregates:
             raise BadQuery(f"{name}: no aggregate is named {value}: they are {', '.join(schema.aggregates)}")
+    if by is not None and by.startswith(VALUES):
+        raise BadQuery(f"_by: only numbers are in an order, and {by} is none")
     if percent is not None and not percent.startswith(ADDED):
         raise BadQuery(f"_percent: only counts and sums have shares, and {percent} is neither")
     return View(None if top is None else int(top), by, percent)
