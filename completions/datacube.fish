@@ -45,7 +45,7 @@ complete -c datacube -n '__fish_seen_subcommand_from print' -l quiet -d 'Shows n
 complete -c datacube -n '__fish_seen_subcommand_from print' -l why -d 'Says more where it fails: the file, the line, the column, the value, what was wanted and how to mend it; on a terminal it does so anyway'
 complete -c datacube -n '__fish_seen_subcommand_from print' -l store -r -F -d 'Takes the changes that this file keeps of `datacube live` after the feeds, and changes none'
 complete -c datacube -n '__fish_seen_subcommand_from print' -l wary -d 'Supposes nothing of what a torn write leaves of the store, and syncs twice a commit; does nothing without --store'
-complete -c datacube -n '__fish_seen_subcommand_from print' -l partial -d 'With each mean its sum and count too, so that cubes can be merged'
+complete -c datacube -n '__fish_seen_subcommand_from print' -l partial -d 'With what means, variances, distinct counts and percentiles are made of too, so that cubes can be merged'
 complete -c datacube -n '__fish_seen_subcommand_from print' -l json -d 'Writes a line of JSON for each line of the cube'
 complete -c datacube -n '__fish_seen_subcommand_from print' -l aligned -d 'Writes columns that are aligned, to be read by people; means are rounded'
 complete -c datacube -n '__fish_seen_subcommand_from print' -l width -x -d 'How many columns a line takes at most, 20 to 10000; where left out as many as COLUMNS says, on a terminal; does nothing without --aligned'
