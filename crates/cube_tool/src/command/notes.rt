@@ -474,8 +474,8 @@ pub const LATER_NOTES: [Note; 14] = [
     Note {
         code: "M4",
         about: "cube to merge",
-        means: "The first line isn't that of the schema's partial form; or, where the message names no cube, the schema has a distinct count or a percentile, of which nothing is merged.",
-        mend: "Print each cube to merge by `print --partial` or `merge --partial`, all under one schema without distinct counts and percentiles.",
+        means: "The first line isn't that of the schema's partial form, in which `values(m)` stands beside each distinct count and each percentile of m.",
+        mend: "Print each cube to merge by `print --partial` or `merge --partial`, all under one schema. One that a release up to 1.23 printed under a schema with a distinct count or a percentile has no values: print it again.",
         example: "",
     },
     Note {
@@ -495,7 +495,7 @@ pub const LATER_NOTES: [Note; 14] = [
     Note {
         code: "M7",
         about: "cube to merge",
-        means: "A count, a sum or a sum of squares of the merged row is too large: above 18446744073709551615, outside 128 bits, or of more than 192.",
+        means: "A count, a sum or a sum of squares of the merged row is too large: above 18446744073709551615, outside 128 bits, or of more than 192; or more values are held together than such a count tells.",
         mend: "Merge fewer cubes, or leave the aggregate out of the schema.",
         example: "",
     },
