@@ -6,12 +6,17 @@ use Rattle.std.specs.Bool.{OnTrue, OnFalse}
 use Rattle.std.specs.Int.{int_min, int_max}
 use Rattle.std.specs.List.{swap_remove, HoldsAt}
 use Rattle.std.specs.Map.{keys_of}
-use Rattle.std.specs.Ordering.{int_eq}
+use Rattle.std.specs.List.Sorted.{IsPermutation, IsSorted}
+use Rattle.std.specs.Ordering.{int_cmp, int_eq, is_lt}
+use Rattle.std.proofs.lemmas.Cmp.{int_cmp_total}
+use Rattle.std.proofs.lemmas.Int.{ints}
+use Rattle.std.proofs.lemmas.List.Sorted.{ranks_by, sorted_far, sum_by-IsPermutation}
 use Rattle.std.proofs.lemmas.List.{map_more, take_all, length-map, get_or-map}
 use Rattle.std.proofs.lemmas.List.Elements.{All-map}
 use Rattle.std.proofs.lemmas.List.Sums.{sum_by-cons, sum_by-append, sum_by_push, sum_by-swap_remove, sum_by-le}
 use Rattle.std.proofs.lemmas.List.Sums.{get_or-le-sum_by}
 use Rattle.cube_values.specs.Bag.{Bag, weight_of, one_at, held_of, size_of, SameHeld, AddsBag, AddsTimes, AddsOne, HasEnds}
+use Rattle.cube_values.specs.Log.{Rises}
 use Rattle.cube_values.specs.Narrow.{times_in, once_each}
 use Rattle.cube_values.proofs.BagLaws.{weight_of-cons, one_at-refl, one_at-distinct, int_eq-same}
 use Rattle.cube_values.proofs.BagLaws.{IsSplit, IsSplit-room}
@@ -223,3 +228,26 @@ IsMerging-AddsBag_once old numbers now i past is =
 -- nothing is added
 pub SameHeld-AddsBag_nothing : (old new : Bag) → AddsBag old new [] → SameHeld old new
 SameHeld-AddsBag_nothing old new adds = record { held = λ x. omega (arith, adds.held x) }
+
+-- in another order the numbers are the same
+pub SameHeld-permuted : (old new : List ℤ) → IsPermutation old new → SameHeld (once_each old) (once_each new)
+SameHeld-permuted old new moved = record {
+  held = λ x. omega (
+    arith,
+    held_of-once_each old x,
+    held_of-once_each new x,
+    sum_by-IsPermutation (one_at x) old new moved,
+  );
+}
+
+-- those of a sorted list rise
+pub IsSorted-Rises : (numbers : List ℤ) → IsSorted int_cmp numbers → Rises (once_each numbers)
+IsSorted-Rises numbers sorted i j d before within =
+    let inside : j < length numbers = omega (arith, within, length-once_each numbers) in
+    let far : is_lt (int_cmp (get_or numbers j d.0) (get_or numbers i d.0)) ≡ false =
+    sorted_far (λ (a b : ℤ). is_lt (int_cmp a b)) (ranks_by int_cmp_total (λ (x : ℤ). x)) numbers sorted i j d.0 before
+    inside in
+    rw (
+      get_or-map (λ (x : ℤ). (x, 1)) numbers i d.0 d (omega (arith, before, inside)),
+      get_or-map (λ (x : ℤ). (x, 1)) numbers j d.0 d inside,
+    ) (grind (arith, ints, far))

@@ -273,7 +273,7 @@ pub AddsOne-paid : (old paid new : Bag) (v : ℤ) → SameHeld old paid → Adds
 AddsOne-paid old paid new v same adds = record { held = λ x. omega (arith, same.held x, adds.held x) }
 
 -- a list that is written back over another of its length
-pub written_back : (new old : Bag) (n : ℕ) → n ≡ length old → length new ≡ n
+pub written_back : {X : Type 0} (new old : List X) (n : ℕ) → n ≡ length old → length new ≡ n
     → take n (new ++ drop (length new) old) ≡ new
 written_back new old n of long =
     take-append-le n new (drop (length new) old) (omega (arith, long)) ∙ take_all n new (omega (arith, long))

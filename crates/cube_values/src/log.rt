@@ -351,8 +351,8 @@ impl Log {
     }
 }
 
-/// The pairs of numbers that are each held once, with room for more.
-pub fn pairs_of(alloc: Global, numbers: &[i32]) -> Result<Vec<(i64, u64)>, AllocError>
+// The pairs of numbers that are each held once, with room for more.
+fn pairs_of(alloc: Global, numbers: &[i32]) -> Result<Vec<(i64, u64)>, AllocError>
     ensures { IfOk result (λ pairs. pairs.items ≡ once_each numbers.now) }
 {
     let mut pairs = Vec::with_capacity(alloc, numbers.len().saturating_add(ROOM))?;
@@ -554,6 +554,27 @@ pub fn put_in_order(mut pairs: Vec<(i64, u64)>) -> Vec<(i64, u64)>
     bring_in_order(&mut pairs);
     drop_uncounted(&mut pairs);
     pairs
+}
+
+/// Numbers that are each held once, in order, each different one with how often it is held. They are sorted before their
+/// pairs are made.
+pub fn numbers_in_order(alloc: Global, numbers: &[i32]) -> Result<Vec<(i64, u64)>, AllocError>
+    requires { size_of (once_each numbers.now) < 2 ^ 64 }
+    ensures { IfOk result (λ pairs. AreInOrder (once_each numbers.now) pairs.items) }
+{
+    let mut sorted = Vec::from_slice(alloc, numbers)?;
+    sort(&mut sorted);
+    let mut pairs = pairs_of(alloc, &sorted)?;
+    join_counts(&mut pairs);
+    drop_uncounted(&mut pairs);
+    Ok(pairs)
+}
+
+fn sort(numbers: &mut [i32])
+    ensures same { SameHeld (once_each numbers.old) (once_each numbers.new) }
+    ensures rises { Rises (once_each numbers.new) }
+{
+    numbers.sort_unstable();
 }
 
 // Sorts the pairs by number, and counts each number in the last of its pairs.

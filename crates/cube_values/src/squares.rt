@@ -44,14 +44,23 @@ pub fn numbers_squares(numbers: &[i64]) -> Wide
     sum
 }
 
-/// The sum of the squares of the numbers of a list of 32 bits.
+// The square of a number of 32 bits.
+fn short_square(number: i32) -> u64
+    ensures value { result ≡ square number }
+    ensures bound { result ≤ 2 ^ 62 }
+{
+    let size = u64::from(number.unsigned_abs());
+    size * size
+}
+
+/// The sum of the squares of the numbers of a list of 32 bits, which 128 bits take.
 pub fn narrow_squares(numbers: &[i32]) -> Wide
     ensures value { result ≡ squares_held (once_each numbers.now) }
     ensures bound { result ≤ 2 ^ 126 * size_of (once_each numbers.now) }
 {
-    let mut sum = Wide::of(0);
+    let mut sum: u128 = 0;
     for number in numbers {
-        sum = sum.plus(pair_squares((i64::from(*number), 1)));
+        sum += u128::from(short_square(*number));
     }
-    sum
+    Wide::of(sum)
 }

@@ -6,7 +6,7 @@ ghost use Rattle.cube_values.specs.Statistics.{AreInOrder, HasDifferent, IsAtPla
 ghost use Rattle.cube_values.specs.Values.{bag_of};
 
 use super::{Counted, Values};
-use crate::log::{pairs_of, put_in_order};
+use crate::log::{numbers_in_order, put_in_order};
 use crate::squares::{narrow_squares, pair_squares, pairs_squares};
 use crate::up_to::{narrow_up_to, pair_up_to, pairs_up_to};
 use cube_core::{Squares, Wide};
@@ -67,7 +67,7 @@ fn in_order(alloc: Global, values: &Values) -> Result<Vec<(i64, u64)>, AllocErro
     let pairs = match values {
         Values::One(single) => Vec::from_slice(alloc, &[single.pair()])?,
         Values::Few(short) => Vec::from_slice(alloc, short.pairs())?,
-        Values::Narrow(narrow) => pairs_of(alloc, narrow.numbers())?,
+        Values::Narrow(narrow) => return numbers_in_order(alloc, narrow.numbers()),
         Values::Logged(log) => return log.in_order(alloc),
         Values::Many(table) => table.pairs(alloc)?,
     };
