@@ -221,9 +221,7 @@ def parts_of_proved(program):
 
 def prove(tally, is_anew):
     """Proves everything from nothing, tries each must-fail edit, and records what was built."""
-    ci = ["rt", "ci"]
-    if is_anew and "--anew" in subprocess.run(["rt", "help"], stdout=subprocess.PIPE, stderr=subprocess.STDOUT, text=True).stdout:
-        ci.append("--anew")
+    ci = [sys.executable, "-B", f"{ROOT}/scripts/proofs.py", *(["--anew"] if is_anew else [])]
     print("== proofs and tests of all crates, and must-fail edits; this takes the better part of an hour on four processors", flush=True)
     os.environ.setdefault("RT_JOBS", shell("checks_side_by_side"))
     with temporary_files() as room:

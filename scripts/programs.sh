@@ -179,7 +179,7 @@ prove_copy() {
     trap 'rm -rf "$work"' EXIT
     trap 'exit 1' HUP INT TERM
     copy_crates "$1" "$work" "$2"
-    if ! (cd "$work" && rt ci </dev/null >"$work/log" 2>&1); then
+    if ! (cd "$work" && python3 -B "$1/scripts/proofs.py" </dev/null >"$work/log" 2>&1); then
         tail -n 20 "$work/log"
         echo "$3"
         exit 1

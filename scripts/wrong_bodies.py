@@ -18,7 +18,7 @@ def main():
     with tempfile.TemporaryDirectory(prefix="wrong-bodies-") as copy:
         edits.copy_sources(copy)
         trials, tally = edits.Trials(copy, "wrong-bodies", names=sys.argv[1:]), programs.Tally()
-        proofs = subprocess.Popen(["rt", "ci"], cwd=copy, stdin=subprocess.DEVNULL, stdout=subprocess.PIPE, stderr=subprocess.STDOUT, text=True)
+        proofs = subprocess.Popen([sys.executable, "-B", f"{programs.ROOT}/scripts/proofs.py"], cwd=copy, stdin=subprocess.DEVNULL, stdout=subprocess.PIPE, stderr=subprocess.STDOUT, text=True)
         for line in proofs.stdout:
             trials.see(line)
         for it in trials.results():
