@@ -31,6 +31,7 @@ OPTIONS = {
     "--most": {"type": float, "default": plots.SCALES[-1], "help": "the most times the records of a workload"},
     "--lines": {"type": int, "default": 1_080_000, "help": "of the file"},
     "--facts": {"type": int, "default": 300_000, "help": "of the feed"},
+    "--values": {"type": int, "default": 100_000, "help": "of the cell"},
     "--batches": {"type": int, "default": 20, "help": "of a thousand changes and a question"},
     "--many": {"type": int, "default": 0, "help": "so many changes more at the end, and what memory they add"},
     "--changes": {"type": int, "default": 1_000_000, "help": "in bulk"},
@@ -49,6 +50,7 @@ COMMANDS = {
     "shards": (runs.shards, "--scale", "--threads", None),
     "own-file": (own_file.measure, "--runs", "--lines", "--threads"),
     "live": (sessions.live, "--facts", "--batches", "--many", "--threads"),
+    "cell": (sessions.cell, "--values", "--beside"),
     "store": (sessions.store, "--changes", "--answers", "--folder"),
     "frames": (frames.measure, "--runs", "--rows", "--times"),
 }

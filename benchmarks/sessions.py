@@ -18,13 +18,16 @@ from processes import say_times as said
 RECORDS, CARDS, MEASURES = workloads.WORKLOADS["tall"][:3]
 DIMENSIONS = [f"d{at + 1}" for at in range(len(CARDS))]
 TOTAL = ",".join(["\\A"] * len(CARDS))
+# What a cell with many values is asked.
+AGGREGATES = ("count(*)", "min(m)", "count(distinct m)", "percentile_disc(0.5,m)", "sum_of_squares(m)", "var_samp(m)", "values(m)")
 
 
 class Session:
     """A running `live`, asked by bytes."""
 
-    def __init__(self, schema, feeds, options):
-        self.process = subprocess.Popen([DATACUBE, "live", *options, schema, *feeds], stdin=subprocess.PIPE, stdout=subprocess.PIPE)
+    def __init__(self, schema, feeds, options, program=None):
+        words = [*(program or [DATACUBE]), "live", *options, schema, *feeds]
+        self.process = subprocess.Popen(words, stdin=subprocess.PIPE, stdout=subprocess.PIPE)
 
     def ask(self, records):
         """Sends records of which the last alone is a question; gives its answer, and the seconds until it was there."""
@@ -102,6 +105,35 @@ def measure(schema, feeds, batches, many, options):
         seconds = sum(session.ask((changes.batch(10_000) + asks).encode())[1] for _ in range(many // 10_000))
         print(f"{many} changes more: {seconds:.2f} s, {session.most_memory() - before:.0f} MiB")
     session.end()
+
+
+def measure_cell(program, schema, feed, count):
+    """Measures a question of one cell with so many values, at first and after changes of some."""
+    session, pick = Session(schema, [feed], [], program), random.Random("updates")
+    ask = b"slice,\\A\n"
+    update = lambda: b"1,U,%d,,%d\n" % (pick.randrange(count), pick.randrange(-(2**31), 2**31))
+    session.ask(ask)
+    said("  at first", [session.ask(ask)[1] for _ in range(25)])
+    session.ask(b"".join(update() for _ in range(1000)) + ask)
+    said("  an update and the question, after 1,000", [session.ask(update() + ask)[1] for _ in range(25)])
+    session.end()
+
+
+def cell(asked):
+    """Measures a question of one cell that has many different values of 32 bits, by each aggregate.
+
+    It is timed through the pipe, of a session over a feed of so many facts: before any change, and each time after an update."""
+    numbers = random.Random("cell").sample(range(-(2**31), 2**31), asked.values)
+    beside = [asked.beside.split()] if asked.beside else []
+    with tempfile.TemporaryDirectory() as folder:
+        schema, feed = f"{folder}/schema.toml", f"{folder}/feed.csv"
+        programs.write(feed, "op,id,k,m\n" + "".join(f"I,{at},,{it}\n" for at, it in enumerate(numbers)))
+        for aggregate in AGGREGATES:
+            programs.write(schema, f'dimensions = ["k"]\nmeasures = ["m"]\naggregates = ["{aggregate}"]\n')
+            for program in [[DATACUBE], *beside]:
+                print(aggregate, "of", os.path.relpath(program[0]))
+                measure_cell(program, schema, feed, asked.values)
+    return 0
 
 
 def measure_postgres(feeds, runs):

@@ -222,7 +222,7 @@ def parts_of_proved(program):
 def prove(tally, is_anew):
     """Proves everything from nothing, tries each must-fail edit, and records what was built."""
     ci = [sys.executable, "-B", f"{ROOT}/scripts/proofs.py", *(["--anew"] if is_anew else [])]
-    print("== proofs and tests of all crates, and must-fail edits; this takes the better part of an hour on four processors", flush=True)
+    print("== proofs and tests of all crates, and must-fail edits; where none is kept from an earlier run this takes more than an hour on four processors", flush=True)
     os.environ.setdefault("RT_JOBS", shell("checks_side_by_side"))
     with temporary_files() as room:
         with mock.patch.dict(os.environ, TMPDIR=room), mock.patch.object(tempfile, "tempdir", room):
