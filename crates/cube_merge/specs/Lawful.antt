@@ -3,7 +3,7 @@
 use Rattle.std.specs.Prelude.{◌≡◌, ◌<◌, ◌≤ℤ◌, ◌+◌, ◌*◌, ◌%◌, ◌^◌, ⊤, ℕ, ℤ, pos, Bool, true, false, not, IsTrue, List, length}
 use Rattle.std.specs.Prelude.{◌==◌, Option, Some, None, IfSome, FitsSigned, get_or, slice_get, unsigned_abs}
 use Rattle.std.specs.Int.{w64, w128, IsGcd}
-use Rattle.std.specs.List.{AllZip, list_all}
+use Rattle.std.specs.List.{AllByRecursion, AllZip, list_all}
 use Rattle.std.specs.Str.{bytes_eq}
 use Rattle.cube_core.specs.Answer.{AreHeld, IsAnswer, values_held}
 use Rattle.cube_core.specs.Group.{values_of}
@@ -98,9 +98,9 @@ pub record AreListed (held : List (ℤ × ℕ)) : Type 0 where
   pub in_order : AreHeld (values_held held) held
   pub few : length (values_held held) < 2 ^ 64
 
--- an answer lists values
+-- an answer lists values, each a number of 64 bits
 abbrev pub ListsValues : Answer → Type 0
-ListsValues (answer.Values held) = AreListed held
+ListsValues (answer.Values held) = AreListed held × AllByRecursion (λ pair. FitsSigned w64 pair.0) held
 ListsValues answer.Null = ⊥
 ListsValues (answer.Count n) = ⊥
 ListsValues (answer.Whole z) = ⊥

@@ -1,7 +1,7 @@
 //! Whether answers are of the kinds of their aggregates.
-ghost use Rattle.std.specs.Prelude.{◌≡◌, ◌<◌, true, unsigned_abs};
-ghost use Rattle.std.specs.Int.{IsGcd};
-ghost use Rattle.std.specs.List.{AllZip};
+ghost use Rattle.std.specs.Prelude.{◌≡◌, ◌<◌, FitsSigned, true, unsigned_abs};
+ghost use Rattle.std.specs.Int.{IsGcd, w64};
+ghost use Rattle.std.specs.List.{AllByRecursion, AllZip};
 ghost use Rattle.cube_merge.specs.Lawful.{AreListed, IsCount, IsFraction, IsNumber, IsOfKind, IsSquares, IsValue, IsVarianceFraction, ListsValues};
 
 use cube_core::{Agg, Answer, is_reduced, reduced};
@@ -142,7 +142,7 @@ fn is_variance_fraction(answer: &Answer) -> bool
     }
 }
 
-// Whether an answer lists values: ascending, each held once at least, and no more than 64 bits can count.
+// Whether an answer lists values: of 64 bits, ascending, each held once at least, and no more than 64 bits can count.
 fn lists_values(answer: &Answer) -> bool
     ensures { result ≡ true → ListsValues answer.now }
 {
@@ -158,7 +158,18 @@ fn lists_values(answer: &Answer) -> bool
 }
 
 fn are_listed(pairs: &[(i64, u64)]) -> bool
-    ensures { result ≡ true → AreListed pairs.now }
+    ensures listed { result ≡ true → AreListed pairs.now }
+    ensures small { result ≡ true → AllByRecursion (λ pair. FitsSigned w64 pair.0) pairs.now }
 {
-    held::are_in_order(pairs) && held::count_of(pairs).is_some()
+    held::are_in_order(pairs) && held::count_of(pairs).is_some() && have_64_bits(pairs)
+}
+
+// Whether each value has 64 bits, as its type says.
+fn have_64_bits(pairs: &[(i64, u64)]) -> bool
+    ensures { result ≡ true → AllByRecursion (λ pair. FitsSigned w64 pair.0) pairs.now }
+{
+    for pair in pairs {
+        let _value = pair.0;
+    }
+    true
 }
