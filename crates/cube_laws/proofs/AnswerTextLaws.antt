@@ -1,10 +1,10 @@
 -- The text of an answer tells the answer, among those of its kind.
 use Rattle.std.proofs.Common.{◌≡◌, ℕ, ◌<◌, ◌≤◌, ◌*◌, ◌^◌, ℤ, pos, negsuc, List, [], ◌∷◌, Option, Some, None, FitsSigned, refl}
-use Rattle.std.proofs.Common.{true, sym, ap, ap₂, arith, get_or, inl, inr, length, map, unwrap_or}
+use Rattle.std.proofs.Common.{sym, ap, ap₂, arith, get_or, inl, inr, length, map, unwrap_or}
 use Rattle.std.specs.Int.{w64, w128}
-use Rattle.std.specs.List.{AllByRecursion, AllZip, list_all}
+use Rattle.std.specs.List.{AllByRecursion, AllZip}
 use Rattle.std.specs.Prelude.{All, IfSome}
-use Rattle.std.proofs.lemmas.Bool.{cases_lt, and_parts, false≢true}
+use Rattle.std.proofs.lemmas.Bool.{cases_lt}
 use Rattle.std.proofs.lemmas.List.{get_or_past}
 use Rattle.std.proofs.lemmas.List.Elements.{All-get_or}
 use Rattle.cube_core.specs.Layout.{Layout}
@@ -15,10 +15,8 @@ use Rattle.cube_core.specs.declared.aggregate.Agg.TheVariants.{CountDistinct, Pe
 use Rattle.cube_core.specs.declared.aggregate.Agg.TheVariants.{SumOfSquares, VarPop, VarSamp, Values}
 use Rattle.cube_core.specs.declared.aggregate.Answer.{Answer}
 use Rattle.cube_core.specs.declared.aggregate.Answer.TheVariants as answer
-use Rattle.cube_core.specs.declared.key.Row.{Row}
-use Rattle.cube_merge.specs.Lawful.{AreListed, IsCount, IsNumber, IsValue, IsFraction, IsOfKind, IsSquares}
-use Rattle.cube_merge.specs.Lawful.{IsLawfulRow, IsVarianceFraction, ListsValues}
-use Rattle.cube_laws.specs.Told.{HasSmallLists, ListsSmallValues, lists_no_values, lists_nothing}
+use Rattle.cube_merge.specs.Lawful.{IsCount, IsNumber, IsValue, IsFraction, IsOfKind, IsSquares}
+use Rattle.cube_merge.specs.Lawful.{IsVarianceFraction, ListsValues}
 use Rattle.cube_laws.proofs.HeldLaws.{held-times}
 use Rattle.cube_laws.proofs.HeldTextLaws.{IsToldPair, values_text-unique}
 use Rattle.cube_laws.proofs.LongTextLaws.{long_fraction_text-unique, long_units_text-unique, null_text-long_fraction}
@@ -182,9 +180,8 @@ IsVarianceFraction-told k (answer.Squares n) b h h' same = absurd h
 IsVarianceFraction-told k (answer.Values held) b h h' same = absurd h
 
 -- pairs that list values can be told
-AreListed-told : (held : List (ℤ × ℕ)) → AreListed held → AllByRecursion (λ pair. FitsSigned w64 pair.0) held
-    → AllByRecursion IsToldPair held
-AreListed-told held are small = each held small (held-times held (2 ^ 64) are.few) where
+pairs-told : (held : List (ℤ × ℕ)) → ListsValues (answer.Values held) → AllByRecursion IsToldPair held
+pairs-told held h = each held h.1 (held-times held (2 ^ 64) h.0.few) where
   each : (pairs : List (ℤ × ℕ)) → AllByRecursion (λ pair. FitsSigned w64 pair.0) pairs
       → AllByRecursion (λ pair. pair.1 < 2 ^ 64) pairs → AllByRecursion IsToldPair pairs
   each [] small few = tt
@@ -193,92 +190,51 @@ AreListed-told held are small = each held small (held-times held (2 ^ 64) are.fe
     each pairs small.1 few.1,
   )
 
-ListsValues-told : (k : ℕ) (a b : Answer) → ListsValues a → ListsValues b → ListsSmallValues a → ListsSmallValues b
-    → answer_text k a ≡ answer_text k b → a ≡ b
-ListsValues-told k (answer.Values held) (answer.Values others) h h' small small' same =
-    ap answer.Values (values_text-unique k held others (AreListed-told held h small)
-    (AreListed-told others h' small') same)
-ListsValues-told k (answer.Values held) answer.Null h h' small small' same = absurd h'
-ListsValues-told k (answer.Values held) (answer.Count n) h h' small small' same = absurd h'
-ListsValues-told k (answer.Values held) (answer.Whole z) h h' small small' same = absurd h'
-ListsValues-told k (answer.Values held) (answer.Ratio p q) h h' small small' same = absurd h'
-ListsValues-told k (answer.Values held) (answer.Squares n) h h' small small' same = absurd h'
-ListsValues-told k (answer.Values held) (answer.Variance p q) h h' small small' same = absurd h'
-ListsValues-told k answer.Null b h h' small small' same = absurd h
-ListsValues-told k (answer.Count m) b h h' small small' same = absurd h
-ListsValues-told k (answer.Whole y) b h h' small small' same = absurd h
-ListsValues-told k (answer.Ratio p q) b h h' small small' same = absurd h
-ListsValues-told k (answer.Squares n) b h h' small small' same = absurd h
-ListsValues-told k (answer.Variance p q) b h h' small small' same = absurd h
+ListsValues-told : (k : ℕ) (a b : Answer) → ListsValues a → ListsValues b → answer_text k a ≡ answer_text k b → a ≡ b
+ListsValues-told k (answer.Values held) (answer.Values others) h h' same =
+    ap answer.Values (values_text-unique k held others (pairs-told held h) (pairs-told others h') same)
+ListsValues-told k (answer.Values held) answer.Null h h' same = absurd h'
+ListsValues-told k (answer.Values held) (answer.Count n) h h' same = absurd h'
+ListsValues-told k (answer.Values held) (answer.Whole z) h h' same = absurd h'
+ListsValues-told k (answer.Values held) (answer.Ratio p q) h h' same = absurd h'
+ListsValues-told k (answer.Values held) (answer.Squares n) h h' same = absurd h'
+ListsValues-told k (answer.Values held) (answer.Variance p q) h h' same = absurd h'
+ListsValues-told k answer.Null b h h' same = absurd h
+ListsValues-told k (answer.Count m) b h h' same = absurd h
+ListsValues-told k (answer.Whole y) b h h' same = absurd h
+ListsValues-told k (answer.Ratio p q) b h h' same = absurd h
+ListsValues-told k (answer.Squares n) b h h' same = absurd h
+ListsValues-told k (answer.Variance p q) b h h' same = absurd h
 
 IsOfKind-told : (k : ℕ) (agg : Agg) (a b : Answer) → k ≤ 18 → IsOfKind agg a → IsOfKind agg b
-    → ListsSmallValues a → ListsSmallValues b → answer_text k a ≡ answer_text k b → a ≡ b
-IsOfKind-told k CountAll a b few h h' small small' same = IsCount-told k a b h h' same
-IsOfKind-told k (Count m) a b few h h' small small' same = IsCount-told k a b h h' same
-IsOfKind-told k (Sum m) a b few h h' small small' same = IsNumber-told k a b h h' same
-IsOfKind-told k (Min m) a b few h h' small small' same = IsNumber-told k a b (IsValue-IsNumber a h) (IsValue-IsNumber b h') same
-IsOfKind-told k (Max m) a b few h h' small small' same = IsNumber-told k a b (IsValue-IsNumber a h) (IsValue-IsNumber b h') same
-IsOfKind-told k (Avg m) a b few h h' small small' same = IsFraction-told k a b few h h' same
-IsOfKind-told k (CountDistinct m) a b few h h' small small' same = IsCount-told k a b h h' same
-IsOfKind-told k (PercentileDisc m units places) a b few h h' small small' same =
+    → answer_text k a ≡ answer_text k b → a ≡ b
+IsOfKind-told k CountAll a b few h h' same = IsCount-told k a b h h' same
+IsOfKind-told k (Count m) a b few h h' same = IsCount-told k a b h h' same
+IsOfKind-told k (Sum m) a b few h h' same = IsNumber-told k a b h h' same
+IsOfKind-told k (Min m) a b few h h' same = IsNumber-told k a b (IsValue-IsNumber a h) (IsValue-IsNumber b h') same
+IsOfKind-told k (Max m) a b few h h' same = IsNumber-told k a b (IsValue-IsNumber a h) (IsValue-IsNumber b h') same
+IsOfKind-told k (Avg m) a b few h h' same = IsFraction-told k a b few h h' same
+IsOfKind-told k (CountDistinct m) a b few h h' same = IsCount-told k a b h h' same
+IsOfKind-told k (PercentileDisc m units places) a b few h h' same =
     IsNumber-told k a b (IsValue-IsNumber a h) (IsValue-IsNumber b h') same
-IsOfKind-told k (SumOfSquares m) a b few h h' small small' same = IsSquares-told k a b h h' same
-IsOfKind-told k (VarPop m) a b few h h' small small' same = IsVarianceFraction-told k a b h h' same
-IsOfKind-told k (VarSamp m) a b few h h' small small' same = IsVarianceFraction-told k a b h h' same
-IsOfKind-told k (Values m) a b few h h' small small' same = ListsValues-told k a b h h' small small' same
+IsOfKind-told k (SumOfSquares m) a b few h h' same = IsSquares-told k a b h h' same
+IsOfKind-told k (VarPop m) a b few h h' same = IsVarianceFraction-told k a b h h' same
+IsOfKind-told k (VarSamp m) a b few h h' same = IsVarianceFraction-told k a b h h' same
+IsOfKind-told k (Values m) a b few h h' same = ListsValues-told k a b h h' same
 
 -- answers to the same aggregates of a schema that show the same are the same
 pub AreOfKind-told : (s : Layout) (aggregates : List Agg) (as' bs : List Answer) → HasFewDigits s
     → AllZip IsOfKind aggregates as' → AllZip IsOfKind aggregates bs
-    → AllByRecursion ListsSmallValues as' → AllByRecursion ListsSmallValues bs
     → answer_texts (map (digits_of s) aggregates) as' ≡ answer_texts (map (digits_of s) aggregates) bs → as' ≡ bs
-AreOfKind-told s [] [] [] few h h' small small' same = refl
-AreOfKind-told s [] [] (b ∷ bs) few h h' small small' same = absurd h'
-AreOfKind-told s [] (a ∷ as') bs few h h' small small' same = absurd h
-AreOfKind-told s (agg ∷ aggregates) [] bs few h h' small small' same = absurd h
-AreOfKind-told s (agg ∷ aggregates) (a ∷ as') [] few h h' small small' same = absurd h'
-AreOfKind-told s (agg ∷ aggregates) (a ∷ as') (b ∷ bs) few h h' small small' same =
+AreOfKind-told s [] [] [] few h h' same = refl
+AreOfKind-told s [] [] (b ∷ bs) few h h' same = absurd h'
+AreOfKind-told s [] (a ∷ as') bs few h h' same = absurd h
+AreOfKind-told s (agg ∷ aggregates) [] bs few h h' same = absurd h
+AreOfKind-told s (agg ∷ aggregates) (a ∷ as') [] few h h' same = absurd h'
+AreOfKind-told s (agg ∷ aggregates) (a ∷ as') (b ∷ bs) few h h' same =
     let first : answer_text (digits_of s agg) a ≡ answer_text (digits_of s agg) b = cc same in
     let after : answer_texts (map (digits_of s) aggregates) as' ≡ answer_texts (map (digits_of s) aggregates) bs =
     cc same in
     ap₂ (λ x xs. x ∷ xs)
-    (IsOfKind-told (digits_of s agg) agg a b (digits_of-few s agg few) h.0 h'.0 small.0 small'.0 first)
-    (AreOfKind-told s aggregates as' bs few h.1 h'.1 small.1 small'.1 after)
-
--- ---- answers that list nothing
--- one of a kind that lists no values lists none
-pub IsOfKind-small : (agg : Agg) (a : Answer) → lists_nothing agg ≡ true → IsOfKind agg a → ListsSmallValues a
-IsOfKind-small agg answer.Null none h = tt
-IsOfKind-small agg (answer.Count n) none h = tt
-IsOfKind-small agg (answer.Whole z) none h = tt
-IsOfKind-small agg (answer.Ratio p q) none h = tt
-IsOfKind-small agg (answer.Squares n) none h = tt
-IsOfKind-small agg (answer.Variance p q) none h = tt
-IsOfKind-small CountAll (answer.Values held) none h = absurd h
-IsOfKind-small (Count m) (answer.Values held) none h = absurd h
-IsOfKind-small (Sum m) (answer.Values held) none h = absurd h
-IsOfKind-small (Min m) (answer.Values held) none h = absurd h
-IsOfKind-small (Max m) (answer.Values held) none h = absurd h
-IsOfKind-small (Avg m) (answer.Values held) none h = absurd h
-IsOfKind-small (CountDistinct m) (answer.Values held) none h = absurd h
-IsOfKind-small (PercentileDisc m units places) (answer.Values held) none h = absurd h
-IsOfKind-small (SumOfSquares m) (answer.Values held) none h = absurd h
-IsOfKind-small (VarPop m) (answer.Values held) none h = absurd h
-IsOfKind-small (VarSamp m) (answer.Values held) none h = absurd h
-IsOfKind-small (Values m) (answer.Values held) none h = absurd (false≢true none)
-
-AreOfKind-small : (aggregates : List Agg) (answers : List Answer) → list_all lists_nothing aggregates ≡ true
-    → AllZip IsOfKind aggregates answers → AllByRecursion ListsSmallValues answers
-AreOfKind-small [] [] none h = tt
-AreOfKind-small [] (a ∷ answers) none h = absurd h
-AreOfKind-small (agg ∷ aggregates) [] none h = tt
-AreOfKind-small (agg ∷ aggregates) (a ∷ answers) none h =
-    let (one, others) = and_parts (lists_nothing agg) (list_all lists_nothing aggregates) none in
-    (IsOfKind-small agg a one h.0, AreOfKind-small aggregates answers others h.1)
-
--- so do rows of a schema without such an aggregate
-pub IsLawfulRow-small : (s : Layout) (rows : List Row) → lists_no_values s ≡ true → AllByRecursion (IsLawfulRow s) rows
-    → AllByRecursion HasSmallLists rows
-IsLawfulRow-small s [] none all = tt
-IsLawfulRow-small s (row ∷ rows) none all =
-    (AreOfKind-small s.aggregates row.answers none all.0.answers, IsLawfulRow-small s rows none all.1)
+    (IsOfKind-told (digits_of s agg) agg a b (digits_of-few s agg few) h.0 h'.0 first)
+    (AreOfKind-told s aggregates as' bs few h.1 h'.1 after)

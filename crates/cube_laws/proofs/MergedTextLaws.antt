@@ -1,6 +1,6 @@
 -- The text of merged rows is the printed cube.
 use Rattle.std.proofs.Common.{◌≡◌, ℕ, zero, suc, ◌<◌, ◌≤◌, List, [], ◌∷◌, ◌++◌, length, map, get_or, IsPermutation}
-use Rattle.std.proofs.Common.{true, Some, None, IfSome, refl, sym, ◌∙◌, subst, arith}
+use Rattle.std.proofs.Common.{Some, None, IfSome, refl, sym, ◌∙◌, subst, arith}
 use Rattle.std.proofs.lemmas.List.{length-map}
 use Rattle.std.specs.List.{AllByRecursion, AllZip}
 use Rattle.cube_core.specs.Cube.{AreRows}
@@ -12,10 +12,10 @@ use Rattle.cube_core.specs.declared.key.Row.{Row}
 use Rattle.cube_core.specs.Text.{text_of_rows}
 use Rattle.cube_merge.specs.Merging.{IsMergeOf}
 use Rattle.cube_laws.specs.Merging.{joined, IsTextOfRows, IsMergedText, PutsPrinted}
-use Rattle.cube_laws.specs.Told.{CanBePrinted, lists_no_values}
-use Rattle.cube_laws.proofs.AnswerTextLaws.{HasFewDigits, IsLawfulRow-small}
+use Rattle.cube_laws.specs.Told.{CanBePrinted}
+use Rattle.cube_laws.proofs.AnswerTextLaws.{HasFewDigits}
 use Rattle.cube_laws.proofs.MergedLaws.{AreRowsOver-AreMergedOf}
-use Rattle.cube_laws.proofs.RangeLaws.{AreRows-HasSmallLists, AreRows-IsLawfulRow}
+use Rattle.cube_laws.proofs.RangeLaws.{AreRows-IsLawfulRow}
 use Rattle.cube_laws.proofs.RowLaws.{IsPrinted-unique}
 use Rattle.cube_laws.proofs.RowOrderLaws.{IsPrinted-IsPermutation}
 use Rattle.cube_laws.proofs.RowTextLaws.{text_of_rows-told}
@@ -39,7 +39,7 @@ AreRows-IsTextOfRows s facts text rows some few printable printed read =
     subst (AreRows s facts)
     (text_of_rows-told s printed.rows rows some few
     (AreRows-IsLawfulRow s facts printed.rows printable printed.are_rows) read.of_schema
-    (AreRows-HasSmallLists s facts printed.rows printable printed.are_rows) read.small (sym printed.text_is ∙ read.text_is))
+    (sym printed.text_is ∙ read.text_is))
     printed.are_rows
 
 -- facts that a schema can print, its partial form can
@@ -110,9 +110,9 @@ IsMergedText-unique s parts others texts other_texts text other_text schema some
 
 -- what a merge of texts wrote is the text of their merged rows
 pub IsMergeOf-IsMergedText : (given wanted : Layout) (texts : List (List ℕ)) (old new : List ℕ)
-    → lists_no_values given ≡ true → IsMergeOf given wanted (map Some texts) (Some old) (Some new)
+    → IsMergeOf given wanted (map Some texts) (Some old) (Some new)
     → (text : List ℕ) × (new ≡ old ++ text) × IsMergedText given wanted texts text
-IsMergeOf-IsMergedText given wanted texts old new none merge = (
+IsMergeOf-IsMergedText given wanted texts old new merge = (
   text_of_rows wanted merge.rows,
   merge.written,
   record {
@@ -123,7 +123,6 @@ IsMergeOf-IsMergedText given wanted texts old new none merge = (
       text_is = subst (λ o. IfSome o (λ known. known ≡ text_of_rows given (get_or merge.cubes k [])))
           (map-Some texts k below) (merge.read k);
       of_schema = merge.of_schema k;
-      small = IsLawfulRow-small given (get_or merge.cubes k []) none (merge.of_schema k);
     };
     merged = record { parts = merge.parts; drawn = merge.drawn; merged = merge.merged };
     text_is = refl;
@@ -136,18 +135,18 @@ IsMergeOf-IsMergedText given wanted texts old new none merge = (
 
 -- so a merge of printed partial cubes writes the printed cube
 pub IsMergeOf-PutsPrinted : (s : Layout) (parts : List (List Fact)) (texts : List (List ℕ)) (old new : List ℕ)
-    → IsSchema s → lists_no_values (partial_form s) ≡ true → 1 ≤ length parts → AllByRecursion (CanBePrinted s) parts
+    → IsSchema s → 1 ≤ length parts → AllByRecursion (CanBePrinted s) parts
     → AllZip (IsPrinted (partial_form s)) parts texts
     → IsMergeOf (partial_form s) s (map Some texts) (Some old) (Some new) → PutsPrinted s (joined parts) old new
-IsMergeOf-PutsPrinted s parts texts old new schema none some printable printed merge =
-    let wrote = IsMergeOf-IsMergedText (partial_form s) s texts old new none merge in
+IsMergeOf-PutsPrinted s parts texts old new schema some printable printed merge =
+    let wrote = IsMergeOf-IsMergedText (partial_form s) s texts old new merge in
     (wrote.0, wrote.1, IsMergedText-IsPrinted s parts texts wrote.0 schema some printable printed wrote.2)
 
 pub IsMergeOf-PutsPrinted_partial : (s : Layout) (parts : List (List Fact)) (texts : List (List ℕ)) (old new : List ℕ)
-    → IsSchema s → lists_no_values (partial_form s) ≡ true → 1 ≤ length parts → AllByRecursion (CanBePrinted s) parts
+    → IsSchema s → 1 ≤ length parts → AllByRecursion (CanBePrinted s) parts
     → AllZip (IsPrinted (partial_form s)) parts texts
     → IsMergeOf (partial_form s) (partial_form s) (map Some texts) (Some old) (Some new)
     → PutsPrinted (partial_form s) (joined parts) old new
-IsMergeOf-PutsPrinted_partial s parts texts old new schema none some printable printed merge =
-    let wrote = IsMergeOf-IsMergedText (partial_form s) (partial_form s) texts old new none merge in
+IsMergeOf-PutsPrinted_partial s parts texts old new schema some printable printed merge =
+    let wrote = IsMergeOf-IsMergedText (partial_form s) (partial_form s) texts old new merge in
     (wrote.0, wrote.1, IsMergedText-partial s parts texts wrote.0 schema some printable printed wrote.2)

@@ -41,8 +41,6 @@ use Rattle.cube_merge.specs.Lawful.{IsVarianceFraction, ListsValues}
 use Rattle.cube_merge.specs.Lawful.{IsNoZero, CountsFacts, IsInOrder, IsAtLeast, IsWithin}
 use Rattle.cube_merge.specs.Lawful.{IsNoneAmong, TellsNone, measure_of, tells_no_value, tells_none}
 use Rattle.cube_laws.specs.Told.{HasSmallValues, AreCountable, CanBePrinted}
-use Rattle.cube_laws.specs.Told.{HasSmallLists, ListsSmallValues, lists_nothing}
-use Rattle.cube_laws.proofs.AnswerTextLaws.{IsOfKind-small}
 use Rattle.cube_laws.proofs.HeldLaws.{AreHeld-each, AreHeld-itself, AreHeld-none, AreHeld-order}
 use Rattle.cube_laws.proofs.HolisticLaws.{IsDistinct-length, IsPercentile-Contains}
 use Rattle.cube_laws.proofs.KeyLaws.{IsTold-is_cell}
@@ -212,17 +210,16 @@ IsVarianceAnswer-IsVarianceFraction is_sample values (Ratio p q) few small h = a
 IsVarianceAnswer-IsVarianceFraction is_sample values (Squares n) few small h = absurd h
 IsVarianceAnswer-IsVarianceFraction is_sample values (ValuesOf held) few small h = absurd h
 
-AreValues-ListsValues : (values : List ℤ) (a : Answer) → length values < 2 ^ 64 → AreValues values a → ListsValues a
-AreValues-ListsValues values a few (held, is, are) =
-    subst ListsValues (sym is) (record {
-      in_order = AreHeld-itself values held are;
-      few = omega (arith, few, length-Reordered (AreHeld-order values held are));
-    })
-
-AreValues-ListsSmallValues : (values : List ℤ) (a : Answer) → AllByRecursion (FitsSigned w64) values
-    → AreValues values a → ListsSmallValues a
-AreValues-ListsSmallValues values a small (held, is, are) =
-    subst ListsSmallValues (sym is) (AreHeld-each (FitsSigned w64) values held are small)
+AreValues-ListsValues : (values : List ℤ) (a : Answer) → length values < 2 ^ 64 → AllByRecursion (FitsSigned w64) values
+    → AreValues values a → ListsValues a
+AreValues-ListsValues values a few small (held, is, are) =
+    subst ListsValues (sym is) (
+      record {
+        in_order = AreHeld-itself values held are;
+        few = omega (arith, few, length-Reordered (AreHeld-order values held are));
+      },
+      AreHeld-each (FitsSigned w64) values held are small,
+    )
 
 -- ---- groups
 length-filter-le : {X : Type 0} (p : X → Bool) (xs : List X) → length (filter p xs) ≤ length xs
@@ -313,11 +310,7 @@ IsAnswer-IsOfKind group (Values m) a countable h =
       arith,
       length-values_of-le m group,
       countable.few,
-    )) h
-
-of_kind : (group : List Fact) (agg : Agg) (a : Answer) → AreCountable group → IsAnswer group agg a
-    → lists_nothing agg ≡ true → ListsSmallValues a
-of_kind group agg a countable h none = IsOfKind-small agg a none (IsAnswer-IsOfKind group agg a countable h)
+    )) (values_of-small m group countable.small) h
 
 AreAnswers-AreOfKind : (group : List Fact) (aggregates : List Agg) (answers : List Answer) → AreCountable group
     → AreAnswers group aggregates answers → AllZip IsOfKind aggregates answers
@@ -326,32 +319,6 @@ AreAnswers-AreOfKind group [] (a ∷ answers) countable h = h
 AreAnswers-AreOfKind group (agg ∷ aggregates) [] countable h = h
 AreAnswers-AreOfKind group (agg ∷ aggregates) (a ∷ answers) countable h =
     (IsAnswer-IsOfKind group agg a countable h.0, AreAnswers-AreOfKind group aggregates answers countable h.1)
-
--- the values that they list are of 64 bits
-IsAnswer-small : (group : List Fact) (agg : Agg) (a : Answer) → AreCountable group → IsAnswer group agg a
-    → ListsSmallValues a
-IsAnswer-small group (Values m) a countable h =
-    AreValues-ListsSmallValues (values_of m group) a (values_of-small m group countable.small) h
-IsAnswer-small group CountAll a countable h = of_kind group CountAll a countable h refl
-IsAnswer-small group (Count m) a countable h = of_kind group (Count m) a countable h refl
-IsAnswer-small group (Sum m) a countable h = of_kind group (Sum m) a countable h refl
-IsAnswer-small group (Min m) a countable h = of_kind group (Min m) a countable h refl
-IsAnswer-small group (Max m) a countable h = of_kind group (Max m) a countable h refl
-IsAnswer-small group (Avg m) a countable h = of_kind group (Avg m) a countable h refl
-IsAnswer-small group (CountDistinct m) a countable h = of_kind group (CountDistinct m) a countable h refl
-IsAnswer-small group (PercentileDisc m units places) a countable h =
-    of_kind group (PercentileDisc m units places) a countable h refl
-IsAnswer-small group (SumOfSquares m) a countable h = of_kind group (SumOfSquares m) a countable h refl
-IsAnswer-small group (VarPop m) a countable h = of_kind group (VarPop m) a countable h refl
-IsAnswer-small group (VarSamp m) a countable h = of_kind group (VarSamp m) a countable h refl
-
-AreAnswers-small : (group : List Fact) (aggregates : List Agg) (answers : List Answer) → AreCountable group
-    → AreAnswers group aggregates answers → AllByRecursion ListsSmallValues answers
-AreAnswers-small group [] [] countable h = tt
-AreAnswers-small group [] (a ∷ answers) countable h = absurd h
-AreAnswers-small group (agg ∷ aggregates) [] countable h = tt
-AreAnswers-small group (agg ∷ aggregates) (a ∷ answers) countable h =
-    (IsAnswer-small group agg a countable h.0, AreAnswers-small group aggregates answers countable h.1)
 
 -- a group of facts that can be counted can be
 group_of-AreCountable : (facts : List Fact) (row : Row) → AreCountable facts → AreCountable (group_of row.key facts)
@@ -652,12 +619,3 @@ AreRows-IsLawfulRow s facts rows printable are =
       counted = λ part. AreAnswers-CountFacts (group_of row.key facts) s.aggregates row.answers
           (group_of-some (length s.dimensions) facts row.key parts.1 part) answers;
     })
-
--- and the values that they list are of 64 bits
-pub AreRows-HasSmallLists : (s : Layout) (facts : List Fact) (rows : List Row) → CanBePrinted s facts
-    → AreRows s facts rows → AllByRecursion HasSmallLists rows
-AreRows-HasSmallLists s facts rows printable are =
-    Contains-AllByRecursion HasSmallLists rows (λ row among.
-    AreAnswers-small (group_of row.key facts) s.aggregates row.answers
-    (group_of-AreCountable facts row printable.countable)
-    (AllByRecursion-Contains (HasAnswers s.aggregates facts) rows row are.answers among))

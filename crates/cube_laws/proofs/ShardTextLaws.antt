@@ -1,7 +1,6 @@
 -- The printed partial cubes of all shards of feeds, merged, are the printed cube of the feeds.
 use Rattle.std.proofs.Common.{◌≡◌, ℕ, zero, suc, ◌+◌, ◌<◌, ◌≤◌, List, [], ◌∷◌, ◌++◌, length, map, IsPermutation, Some}
-use Rattle.std.proofs.Common.{true, refl}
-use Rattle.std.proofs.Common.{sym, ap, subst, arith, append_assoc}
+use Rattle.std.proofs.Common.{refl, sym, ap, subst, arith, append_assoc}
 use Rattle.std.specs.List.{AllByRecursion, AllZip, range_with_len}
 use Rattle.std.proofs.lemmas.List.Sorted.{IsPermutation-refl, IsPermutation-trans, IsPermutation-append}
 use Rattle.std.proofs.lemmas.List.Sorted.{IsPermutation-append_comm}
@@ -16,7 +15,7 @@ use Rattle.cube_core.specs.declared.fact.Fact.{Fact}
 use Rattle.cube_merge.specs.Merging.{IsMergeOf}
 use Rattle.cube_laws.specs.Merging.{joined, IsMergedText, PutsPrintedOf}
 use Rattle.cube_laws.specs.Shards.{of_shard, places}
-use Rattle.cube_laws.specs.Told.{AreFewSources, CanBePrinted, lists_no_values}
+use Rattle.cube_laws.specs.Told.{AreFewSources, CanBePrinted}
 use Rattle.cube_laws.proofs.MergedTextLaws.{IsMergeOf-IsMergedText, IsMergedText-IsPrinted, IsMergedText-partial}
 use Rattle.cube_laws.proofs.RowOrderLaws.{IsPrinted-IsPermutation}
 use Rattle.cube_laws.proofs.ShardLaws.{AreSurviving-parts}
@@ -225,18 +224,18 @@ IsMergedText-shards_partial s count sources texts text schema whole some most fe
 
 -- so a merge of the printed partial cubes of all shards writes the printed cube of the sources
 pub IsMergeOf-shards : (s : Layout) (count : ℕ) (sources texts : List (List ℕ)) (old new : List ℕ) → IsSchema s
-    → lists_no_values (partial_form s) ≡ true → s.shard ≡ whole_feed → 1 ≤ count → count ≤ 65536 → AreFewSources sources
+    → s.shard ≡ whole_feed → 1 ≤ count → count ≤ 65536 → AreFewSources sources
     → AllZip (λ place part. IsPrintedOf (partial_form (of_shard count s place)) sources part) (places count) texts
     → IsMergeOf (partial_form s) s (map Some texts) (Some old) (Some new) → PutsPrintedOf s sources old new
-IsMergeOf-shards s count sources texts old new schema none whole some most few all merge =
-    let wrote = IsMergeOf-IsMergedText (partial_form s) s texts old new none merge in
+IsMergeOf-shards s count sources texts old new schema whole some most few all merge =
+    let wrote = IsMergeOf-IsMergedText (partial_form s) s texts old new merge in
     (wrote.0, wrote.1, IsMergedText-shards s count sources texts wrote.0 schema whole some most few all wrote.2)
 
 pub IsMergeOf-shards_partial : (s : Layout) (count : ℕ) (sources texts : List (List ℕ)) (old new : List ℕ)
-    → IsSchema s → lists_no_values (partial_form s) ≡ true → s.shard ≡ whole_feed → 1 ≤ count → count ≤ 65536 → AreFewSources sources
+    → IsSchema s → s.shard ≡ whole_feed → 1 ≤ count → count ≤ 65536 → AreFewSources sources
     → AllZip (λ place part. IsPrintedOf (partial_form (of_shard count s place)) sources part) (places count) texts
     → IsMergeOf (partial_form s) (partial_form s) (map Some texts) (Some old) (Some new)
     → PutsPrintedOf (partial_form s) sources old new
-IsMergeOf-shards_partial s count sources texts old new schema none whole some most few all merge =
-    let wrote = IsMergeOf-IsMergedText (partial_form s) (partial_form s) texts old new none merge in
+IsMergeOf-shards_partial s count sources texts old new schema whole some most few all merge =
+    let wrote = IsMergeOf-IsMergedText (partial_form s) (partial_form s) texts old new merge in
     (wrote.0, wrote.1, IsMergedText-shards_partial s count sources texts wrote.0 schema whole some most few all wrote.2)

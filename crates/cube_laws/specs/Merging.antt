@@ -11,7 +11,6 @@ use Rattle.cube_core.specs.Printed.{IsPrinted}
 use Rattle.cube_core.specs.Sources.{IsPrintedOf}
 use Rattle.cube_core.specs.Text.{text_of_rows}
 use Rattle.cube_merge.specs.Lawful.{IsLawfulRow}
-use Rattle.cube_laws.specs.Told.{HasSmallLists}
 use Rattle.cube_core.specs.declared.aggregate.Agg.{Agg}
 use Rattle.cube_core.specs.declared.aggregate.Agg.TheVariants.{Count, Sum, Avg, CountDistinct, PercentileDisc}
 use Rattle.cube_core.specs.declared.aggregate.Agg.TheVariants.{SumOfSquares, VarPop, VarSamp, Values}
@@ -64,11 +63,10 @@ mutual
         → IsMergeTree s facts rows → AreMergeTrees s parts cubes
         → AreMergeTrees s (facts ∷ parts) (rows ∷ cubes)
 
--- a text is that of rows of a schema, which list values of 64 bits alone
+-- a text is that of rows of a schema
 pub record IsTextOfRows (s : Layout) (text : List ℕ) (rows : List Row) : Type 0 where
   pub text_is : text ≡ text_of_rows s rows
   pub of_schema : AllByRecursion (IsLawfulRow s) rows
-  pub small : AllByRecursion HasSmallLists rows
 
 -- this text is, under the wanted schema,
 -- that of the merged rows of cubes whose texts under the given one these are, each at its place

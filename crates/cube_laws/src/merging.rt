@@ -6,7 +6,7 @@ ghost use Rattle.cube_core.specs.Layout.{IsSchema, Layout};
 ghost use Rattle.cube_core.specs.PartialForm.{partial_aggregates, partial_form};
 ghost use Rattle.cube_core.specs.Printed.{IsPrinted};
 ghost use Rattle.cube_core.specs.Sources.{IsPrintedOf};
-ghost use Rattle.cube_laws.specs.Told.{AreFewSources, CanBePrinted, lists_no_values};
+ghost use Rattle.cube_laws.specs.Told.{AreFewSources, CanBePrinted};
 ghost use Rattle.cube_laws.specs.Merging.{AreMergedOf, AreMergeTrees, IsMergedText, IsMergeTree, PutsPrinted, PutsPrintedOf, joined};
 ghost use Rattle.cube_merge.specs.Merging.{IsMergeOf};
 ghost use Rattle.cube_merge.specs.Source.{can_be_made};
@@ -109,31 +109,30 @@ pub fn merged_text_is_the_printed_cube()
 {}
 
 /// What the call `merge` writes, by its promise, of the printed partial cubes of parts of the facts is the printed cube of
-/// all their facts, and so under the partial form itself, where that lists no values; the facts of each part can be printed
-/// (this project's choice).
+/// all their facts, and so under the partial form itself; the facts of each part can be printed (this project's choice).
 pub fn merge_writes_the_printed_cube()
     ensures whole { (s : Layout) (parts : List (List Fact)) (texts : List (List ℕ)) (old new : List ℕ) →
-        IsSchema s → lists_no_values (partial_form s) ≡ true → 1 ≤ length parts → AllByRecursion (CanBePrinted s) parts →
+        IsSchema s → 1 ≤ length parts → AllByRecursion (CanBePrinted s) parts →
         AllZip (IsPrinted (partial_form s)) parts texts →
         IsMergeOf (partial_form s) s (map Some texts) (Some old) (Some new) →
         PutsPrinted s (joined parts) old new }
     ensures partial { (s : Layout) (parts : List (List Fact)) (texts : List (List ℕ)) (old new : List ℕ) →
-        IsSchema s → lists_no_values (partial_form s) ≡ true → 1 ≤ length parts → AllByRecursion (CanBePrinted s) parts →
+        IsSchema s → 1 ≤ length parts → AllByRecursion (CanBePrinted s) parts →
         AllZip (IsPrinted (partial_form s)) parts texts →
         IsMergeOf (partial_form s) (partial_form s) (map Some texts) (Some old) (Some new) →
         PutsPrinted (partial_form s) (joined parts) old new }
 {}
 
-/// And of the printed partial cubes of groups of sources it writes the printed cube of all sources, where these list no
-/// values (this project's choice: an id belongs to its source).
+/// And of the printed partial cubes of groups of sources it writes the printed cube of all sources (this project's choice:
+/// an id belongs to its source).
 pub fn merge_writes_the_cube_of_all_sources()
     ensures whole { (s : Layout) (groups : List (List (List ℕ))) (texts : List (List ℕ)) (old new : List ℕ) →
-        IsSchema s → lists_no_values (partial_form s) ≡ true → 1 ≤ length groups → AllByRecursion AreFewSources groups →
+        IsSchema s → 1 ≤ length groups → AllByRecursion AreFewSources groups →
         AllZip (IsPrintedOf (partial_form s)) groups texts →
         IsMergeOf (partial_form s) s (map Some texts) (Some old) (Some new) →
         PutsPrintedOf s (joined groups) old new }
     ensures partial { (s : Layout) (groups : List (List (List ℕ))) (texts : List (List ℕ)) (old new : List ℕ) →
-        IsSchema s → lists_no_values (partial_form s) ≡ true → 1 ≤ length groups → AllByRecursion AreFewSources groups →
+        IsSchema s → 1 ≤ length groups → AllByRecursion AreFewSources groups →
         AllZip (IsPrintedOf (partial_form s)) groups texts →
         IsMergeOf (partial_form s) (partial_form s) (map Some texts) (Some old) (Some new) →
         PutsPrintedOf (partial_form s) (joined groups) old new }

@@ -1,5 +1,5 @@
 //! Shards part a feed, and their printed cubes add up.
-ghost use Rattle.std.specs.Prelude.{◌≡◌, ◌≤◌, ℕ, List, Some, codes, filter, map, true};
+ghost use Rattle.std.specs.Prelude.{◌≡◌, ◌≤◌, ℕ, List, Some, codes, filter, map};
 ghost use Rattle.std.specs.List.{AllZip};
 ghost use Rattle.cube_core.specs.FeedRecords.{items_of};
 ghost use Rattle.cube_core.specs.Layout.{IsSchema, Layout};
@@ -11,7 +11,7 @@ ghost use Rattle.cube_core.specs.Surviving.{AreSurviving};
 ghost use Rattle.cube_merge.specs.Merging.{IsMergeOf};
 ghost use Rattle.cube_laws.specs.Merging.{IsMergedText, PutsPrintedOf, joined};
 ghost use Rattle.cube_laws.specs.Shards.{has_record, of_shard, places};
-ghost use Rattle.cube_laws.specs.Told.{AreFewSources, lists_no_values};
+ghost use Rattle.cube_laws.specs.Told.{AreFewSources};
 ghost use Rattle.cube_core.specs.declared.fact.Fact.{Fact};
 
 /// The hash that tells a shard has the values that RFC 9923 gives: of no byte, of `a` and of `foobar` (FNV-1a of 64 bits).
@@ -63,15 +63,15 @@ pub fn shards_of_sources_add_up()
         IsMergedText (partial_form s) (partial_form s) texts text → IsPrintedOf (partial_form s) sources text }
 {}
 
-/// What the call `merge` writes, by its promise, of the printed partial cubes of all shards of feeds is the printed cube of the
-/// feeds, and so under the partial form itself, where that lists no values (this project's choice).
+/// What the call `merge` writes, by its promise, of the printed partial cubes of all shards of feeds is the printed cube
+/// of the feeds, and so under the partial form itself (this project's choice).
 pub fn merge_writes_the_cube_of_all_shards()
     ensures whole { (s : Layout) (count : ℕ) (sources texts : List (List ℕ)) (old new : List ℕ) →
-        IsSchema s → lists_no_values (partial_form s) ≡ true → s.shard ≡ whole_feed → 1 ≤ count → count ≤ 65536 → AreFewSources sources →
+        IsSchema s → s.shard ≡ whole_feed → 1 ≤ count → count ≤ 65536 → AreFewSources sources →
         AllZip (λ place part. IsPrintedOf (partial_form (of_shard count s place)) sources part) (places count) texts →
         IsMergeOf (partial_form s) s (map Some texts) (Some old) (Some new) → PutsPrintedOf s sources old new }
     ensures partial { (s : Layout) (count : ℕ) (sources texts : List (List ℕ)) (old new : List ℕ) →
-        IsSchema s → lists_no_values (partial_form s) ≡ true → s.shard ≡ whole_feed → 1 ≤ count → count ≤ 65536 → AreFewSources sources →
+        IsSchema s → s.shard ≡ whole_feed → 1 ≤ count → count ≤ 65536 → AreFewSources sources →
         AllZip (λ place part. IsPrintedOf (partial_form (of_shard count s place)) sources part) (places count) texts →
         IsMergeOf (partial_form s) (partial_form s) (map Some texts) (Some old) (Some new) →
         PutsPrintedOf (partial_form s) sources old new }

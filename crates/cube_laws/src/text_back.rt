@@ -5,7 +5,7 @@ ghost use Rattle.csv.specs.Reading.{records, default_config};
 ghost use Rattle.cube_core.specs.Layout.{Layout, IsSchema, sample_layout};
 ghost use Rattle.cube_core.specs.Cube.{AreRows};
 ghost use Rattle.cube_laws.specs.Lines.{sample_row};
-ghost use Rattle.cube_laws.specs.Told.{CanBePrinted, HasSmallLists};
+ghost use Rattle.cube_laws.specs.Told.{CanBePrinted};
 ghost use Rattle.cube_merge.specs.Lawful.{IsLawfulRow};
 ghost use Rattle.std.specs.Str.Parse.{digits_value};
 ghost use Rattle.cube_core.specs.Text.{line, header_fields, row_fields, text_of_rows, units_text};
@@ -41,14 +41,12 @@ pub fn rows_of_a_cube_are_of_its_schema()
         AllByRecursion (IsLawfulRow s) rows }
 {}
 
-/// Rows of a schema, which list values of 64 bits alone, are told by their text: two lists of them that are printed alike are
-/// one list (RFC 4180; SQL:1999:
+/// Rows of a schema are told by their text: two lists of them that are printed alike are one list (RFC 4180; SQL:1999:
 /// GROUPING tells ALL from null; the spellings of numbers are this project's choice).
 pub fn rows_are_told_by_their_text()
     ensures { (s : Layout) (rows others : List Row) →
         IsSchema s → AllByRecursion (IsLawfulRow s) rows →
-        AllByRecursion (IsLawfulRow s) others →
-        AllByRecursion HasSmallLists rows → AllByRecursion HasSmallLists others → text_of_rows s rows ≡ text_of_rows s others →
+        AllByRecursion (IsLawfulRow s) others → text_of_rows s rows ≡ text_of_rows s others →
         rows ≡ others }
 {}
 
