@@ -64,10 +64,7 @@ ServingFails s records fault before old new =
 abbrev pub WritesPart : List ℕ → ℕ → SessionFault → Option (List ℕ) → Option (List ℕ) → Type 0
 WritesPart bytes sent (Write total) old new =
     (part : ℕ) × (part ≤ length bytes) × (total ≡ sent + part) × Appends old new (take part bytes)
-WritesPart bytes sent Read old new = ⊥
-WritesPart bytes sent (TooMany source) old new = ⊥
-WritesPart bytes sent Full old new = ⊥
-WritesPart bytes sent (Journal fault) old new = ⊥
+WritesPart bytes sent _ old new = ⊥
 
 -- the same, or nothing went out since they would be too many to count
 abbrev pub WritesNone : List ℕ → ℕ → SessionFault → Option (List ℕ) → Option (List ℕ) → Type 0
@@ -84,12 +81,11 @@ pub record WritesReply (s : Layout) (arrivals : Arrivals) (asks : Request) (sent
 
 -- no reply went out, but for a failed write a part of one
 abbrev pub BreaksReply : Layout → Arrivals → Request → ℕ → SessionFault → Option (List ℕ) → Option (List ℕ) → Type 0
-BreaksReply s arrivals asks sent Read old new = ⊥
-BreaksReply s arrivals asks sent (TooMany source) old new = ⊥
 BreaksReply s arrivals asks sent Full old new = new ≡ old
 BreaksReply s arrivals asks sent (Write total) old new =
     (reply : List ℕ) × IsReply s arrivals asks reply × WritesPart reply sent (Write total) old new
 BreaksReply s arrivals asks sent (Journal fault) old new = new ≡ old
+BreaksReply s arrivals asks sent _ old new = ⊥
 
 -- a record was taken at an arrival list, and its reply went out
 pub record Replied (s : Layout) (arrivals : Arrivals) (fields : List (List ℕ)) (after : LiveView) (sent total : ℕ)
@@ -113,18 +109,13 @@ ReplyFails s arrivals fields sent fault old new = BreaksReply s arrivals (reques
 -- the input couldn't be read, or memory ran out
 abbrev pub IsInputFault : SessionFault → Type 0
 IsInputFault Read = ⊤
-IsInputFault (TooMany source) = ⊥
 IsInputFault Full = ⊤
-IsInputFault (Write sent) = ⊥
-IsInputFault (Journal fault) = ⊥
+IsInputFault _ = ⊥
 
 -- the journal doesn't keep a change
 abbrev pub IsJournalFault : SessionFault → Type 0
-IsJournalFault Read = ⊥
-IsJournalFault (TooMany source) = ⊥
-IsJournalFault Full = ⊥
-IsJournalFault (Write sent) = ⊥
 IsJournalFault (Journal fault) = ⊤
+IsJournalFault _ = ⊥
 
 -- a cube that is kept right took a change of a source, a data record of these fields
 abbrev pub TakesChange : ℕ → List (List ℕ) → LiveView → LiveView → Type 0
@@ -134,9 +125,8 @@ TakesChange source fields old new = (arrivals : Arrivals) → LiveStandsAt old a
 -- why a change of a source wasn't taken: it is in the schema's shard,
 -- and the source has the last record that the schema takes; memory or the journal may be wanting at any time
 abbrev pub ExplainsChange : Bool → ℕ → LiveView → SessionFault → Type 0
-ExplainsChange read source live Read = ⊥
 ExplainsChange read source live (TooMany of) =
     (of ≡ source) × (read ≡ true) × (get_or live.numbers (source - 1) 0 ≡ live.schema.max_records)
 ExplainsChange read source live Full = ⊤
-ExplainsChange read source live (Write sent) = ⊥
 ExplainsChange read source live (Journal fault) = ⊤
+ExplainsChange read source live _ = ⊥

@@ -42,13 +42,10 @@ is_key above key = eq_by_cmp key_cmp above key
 
 -- a question is one of the rows whose keys pass a test: a slice, a drill-down or a roll-up
 abbrev pub AsksRows : Question → Type 0
-AsksRows Print = ⊥
 AsksRows (Slice pattern) = ⊤
 AsksRows (Drill key dimension) = ⊤
 AsksRows (RollUp key dimension) = ⊤
-AsksRows Refusals = ⊥
-AsksRows (RefusalsAfter source number) = ⊥
-AsksRows Sync = ⊥
+AsksRows _ = ⊥
 
 -- whether a question of rows asks for that of a key; any other question asks for none
 abbrev pub asks_for : Question → Key → Bool

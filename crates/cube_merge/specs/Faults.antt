@@ -28,10 +28,9 @@ use Rattle.cube_merge.specs.declared.fault.MergeFault.TheVariants.{Memory, Aggre
 -- out of memory is told of no input
 abbrev pub IsFaultAt : InputFault → ℕ → ℕ → MergeFault → Type 0
 IsFaultAt fault place number Memory = ⊤
-IsFaultAt fault place number Aggregates = ⊥
 IsFaultAt fault place number (Input told input at) =
     (told ≡ fault) × (input ≡ place + 1) × (at ≡ number) × (fault ≢ why.Memory)
-IsFaultAt fault place number (Write sent) = ⊥
+IsFaultAt fault place number _ = ⊥
 
 -- reading failed, or memory ran out
 abbrev pub IsReadFault : InputFault → Type 0
@@ -59,13 +58,11 @@ HasMore input = IfSome input.left (λ left. left ≢ [])
 
 -- an input can't take its next line, which is this one, for this fault
 abbrev pub HasFault : Layout → InputView → InputFault → ℕ → Type 0
-HasFault s input why.Memory number = ⊥
 HasFault s input why.Read number = number ≡ input.lines + 1
-HasFault s input why.Header number = ⊥
 HasFault s input why.Line number = (number ≡ input.lines + 1) × HasMore input
 HasFault s input why.Order number = (number ≡ input.lines + 1) × HasRowBelow s input
-HasFault s input why.Overflow number = ⊥
 HasFault s input why.Incomplete number = (number ≡ input.lines + 1) × LacksTotal s input
+HasFault s input _ number = ⊥
 
 -- the same, or memory ran out
 abbrev pub FailsToMove : Layout → InputView → InputFault → ℕ → Type 0
@@ -89,9 +86,8 @@ pub record HasFaultAt (s : Layout) (used : List Bool) (inputs : List InputView) 
 -- the same, or memory ran out
 abbrev pub FailsToMoveAll : Layout → List Bool → List InputView → MergeFault → Type 0
 FailsToMoveAll s used inputs Memory = ⊤
-FailsToMoveAll s used inputs Aggregates = ⊥
 FailsToMoveAll s used inputs (Input fault input number) = HasFaultAt s used inputs fault input number
-FailsToMoveAll s used inputs (Write sent) = ⊥
+FailsToMoveAll s used inputs _ = ⊥
 
 -- the input of this number, counted from 1, has one of the rows with which a count, a sum or a sum of squares is
 -- too large
@@ -109,17 +105,15 @@ pub record IsTooLargeAt (inputs : List InputView) (rows : List Row) (fault : Inp
 -- the same, or memory ran out
 abbrev pub TellsOverflow : List InputView → List Row → MergeFault → Type 0
 TellsOverflow inputs rows Memory = ⊤
-TellsOverflow inputs rows Aggregates = ⊥
 TellsOverflow inputs rows (Input fault input number) = IsTooLargeAt inputs rows fault input number
-TellsOverflow inputs rows (Write sent) = ⊥
+TellsOverflow inputs rows _ = ⊥
 
 -- a count, a sum or a sum of squares of the rows of the inputs at these places is too large, or memory ran out
 abbrev pub FailsToMake : List Agg → List InputView → List ℕ → MergeFault → Type 0
 FailsToMake given inputs places Memory = ⊤
-FailsToMake given inputs places Aggregates = ⊥
 FailsToMake given inputs places (Input fault input number) =
     IsTooLargeAt inputs (rows_of inputs places) fault input number × AreTooLarge given (rows_of inputs places)
-FailsToMake given inputs places (Write sent) = ⊥
+FailsToMake given inputs places _ = ⊥
 
 -- of the rows of inputs those with the least key are too large together, and the input of this number has one of them
 pub record JoinTooLarge (given : List Agg) (inputs : List InputView) (fault : InputFault) (input number : ℕ)
@@ -134,9 +128,8 @@ pub record JoinTooLarge (given : List Agg) (inputs : List InputView) (fault : In
 -- the same, or memory ran out
 abbrev pub FailsToJoin : List Agg → List InputView → MergeFault → Type 0
 FailsToJoin given inputs Memory = ⊤
-FailsToJoin given inputs Aggregates = ⊥
 FailsToJoin given inputs (Input fault input number) = JoinTooLarge given inputs fault input number
-FailsToJoin given inputs (Write sent) = ⊥
+FailsToJoin given inputs _ = ⊥
 
 -- an input with a row can't go on: a count, a sum or a sum of squares of that row's key is too large, or the next line
 -- can't be taken
@@ -171,9 +164,8 @@ pub record FailsWithRow (s : Layout) (inputs : List InputView) (fault : InputFau
 -- the next merged row couldn't be put, or an input that had a row couldn't take its next line
 abbrev pub StepFails : Layout → List InputView → MergeFault → Type 0
 StepFails s inputs Memory = ⊤
-StepFails s inputs Aggregates = ⊥
 StepFails s inputs (Input fault input number) = FailsWithRow s inputs fault input number
-StepFails s inputs (Write sent) = ⊥
+StepFails s inputs _ = ⊥
 
 -- a text is the header line, the lines of these rows of the schema in key order, and this rest,
 -- whose first line is the record of this number, the header being the first
@@ -343,10 +335,9 @@ FailsToMerge given wanted texts (Write sent) old new = WroteFirstRows given want
 -- the first of them went out, or none since they would be too many to count
 abbrev pub FailsToSend : List ℕ → ℕ → MergeFault → Option (List ℕ) → Option (List ℕ) → Type 0
 FailsToSend bytes sent Memory old new = new ≡ old
-FailsToSend bytes sent Aggregates old new = ⊥
-FailsToSend bytes sent (Input fault input number) old new = ⊥
 FailsToSend bytes sent (Write total) old new =
     (part : ℕ) × (part ≤ length bytes) × (total ≡ sent + part) × Appends old new (take part bytes)
+FailsToSend bytes sent _ old new = ⊥
 
 -- why a merge stopped that had sent so many bytes, where its inputs stood so
 abbrev pub StopsAt : Layout → List InputView → ℕ → MergeFault → Type 0
@@ -382,9 +373,8 @@ pub record FirstLineFails (s : Layout) (inputs : List InputView) (fault : InputF
 -- the same, or memory ran out
 abbrev pub FailsAtFirstLine : Layout → List InputView → MergeFault → Type 0
 FailsAtFirstLine s inputs Memory = ⊤
-FailsAtFirstLine s inputs Aggregates = ⊥
 FailsAtFirstLine s inputs (Input fault input number) = FirstLineFails s inputs fault input number
-FailsAtFirstLine s inputs (Write sent) = ⊥
+FailsAtFirstLine s inputs _ = ⊥
 
 -- the same, from inputs that took the header alone; where the first lines couldn't be taken, nothing was written
 abbrev pub InputsFail : Layout → Layout → List InputView → MergeFault → Option (List ℕ) → Option (List ℕ) → Type 0
@@ -406,9 +396,8 @@ FailsToTakeHeader header text fault = HasNoHeader header text fault 1
 -- the same of the text at a place
 abbrev pub FailsToOpen : List ℕ → ℕ → Option (List ℕ) → MergeFault → Type 0
 FailsToOpen header place text Memory = ⊤
-FailsToOpen header place text Aggregates = ⊥
 FailsToOpen header place text (Input fault input number) = (input ≡ place + 1) × HasNoHeader header text fault number
-FailsToOpen header place text (Write sent) = ⊥
+FailsToOpen header place text _ = ⊥
 
 -- one of many texts has a header line that couldn't be taken, and those before it begin with theirs
 pub record IsNotOpened (header : List ℕ) (texts : List (Option (List ℕ))) (fault : InputFault) (input number : ℕ)
@@ -422,6 +411,5 @@ pub record IsNotOpened (header : List ℕ) (texts : List (Option (List ℕ))) (f
 -- the same, or memory ran out
 abbrev pub FailsToOpenAll : List ℕ → List (Option (List ℕ)) → MergeFault → Type 0
 FailsToOpenAll header texts Memory = ⊤
-FailsToOpenAll header texts Aggregates = ⊥
 FailsToOpenAll header texts (Input fault input number) = IsNotOpened header texts fault input number
-FailsToOpenAll header texts (Write sent) = ⊥
+FailsToOpenAll header texts _ = ⊥

@@ -36,62 +36,37 @@ has_no_null_text key = list_all is_no_null_text key.coords
 -- an answer is a count of 64 bits
 abbrev pub IsCount : Answer → Type 0
 IsCount (answer.Count n) = n < 2 ^ 64
-IsCount answer.Null = ⊥
-IsCount (answer.Whole z) = ⊥
-IsCount (answer.Ratio p q) = ⊥
-IsCount (answer.Squares n) = ⊥
-IsCount (answer.Variance p q) = ⊥
-IsCount (answer.Values held) = ⊥
+IsCount _ = ⊥
 
 -- an answer is a sum, a number of 128 bits, or null
 abbrev pub IsNumber : Answer → Type 0
 IsNumber answer.Null = ⊤
 IsNumber (answer.Whole z) = FitsSigned w128 z
-IsNumber (answer.Count n) = ⊥
-IsNumber (answer.Ratio p q) = ⊥
-IsNumber (answer.Squares n) = ⊥
-IsNumber (answer.Variance p q) = ⊥
-IsNumber (answer.Values held) = ⊥
+IsNumber _ = ⊥
 
 -- an answer is a value of a measure, a number of 64 bits, or null
 abbrev pub IsValue : Answer → Type 0
 IsValue answer.Null = ⊤
 IsValue (answer.Whole z) = FitsSigned w64 z
-IsValue (answer.Count n) = ⊥
-IsValue (answer.Ratio p q) = ⊥
-IsValue (answer.Squares n) = ⊥
-IsValue (answer.Variance p q) = ⊥
-IsValue (answer.Values held) = ⊥
+IsValue _ = ⊥
 
 -- an answer is a fraction in lowest terms of a number of 128 bits by a count of 64, at least 1, or null
 abbrev pub IsFraction : Answer → Type 0
 IsFraction answer.Null = ⊤
 IsFraction (answer.Ratio p q) = FitsSigned w128 p × (q < 2 ^ 64) × (0 < q) × IsGcd (unsigned_abs p) q 1
-IsFraction (answer.Count n) = ⊥
-IsFraction (answer.Whole z) = ⊥
-IsFraction (answer.Squares n) = ⊥
-IsFraction (answer.Variance p q) = ⊥
-IsFraction (answer.Values held) = ⊥
+IsFraction _ = ⊥
 
 -- an answer is a sum of squares, a number of 192 bits, or null
 abbrev pub IsSquares : Answer → Type 0
 IsSquares answer.Null = ⊤
 IsSquares (answer.Squares n) = n < 2 ^ 192
-IsSquares (answer.Count n) = ⊥
-IsSquares (answer.Whole z) = ⊥
-IsSquares (answer.Ratio p q) = ⊥
-IsSquares (answer.Variance p q) = ⊥
-IsSquares (answer.Values held) = ⊥
+IsSquares _ = ⊥
 
 -- an answer is a fraction in lowest terms of a number of 256 bits by one of 128, at least 1, or null
 abbrev pub IsVarianceFraction : Answer → Type 0
 IsVarianceFraction answer.Null = ⊤
 IsVarianceFraction (answer.Variance p q) = (p < 2 ^ 256) × (q < 2 ^ 128) × (0 < q) × IsGcd p q 1
-IsVarianceFraction (answer.Count n) = ⊥
-IsVarianceFraction (answer.Whole z) = ⊥
-IsVarianceFraction (answer.Ratio p q) = ⊥
-IsVarianceFraction (answer.Squares n) = ⊥
-IsVarianceFraction (answer.Values held) = ⊥
+IsVarianceFraction _ = ⊥
 
 -- pairs list values: each is above the one before it and held once at least, and they are fewer than 2^64 together
 pub record AreListed (held : List (ℤ × ℕ)) : Type 0 where
@@ -101,12 +76,7 @@ pub record AreListed (held : List (ℤ × ℕ)) : Type 0 where
 -- an answer lists values, each a number of 64 bits
 abbrev pub ListsValues : Answer → Type 0
 ListsValues (answer.Values held) = AreListed held × AllByRecursion (λ pair. FitsSigned w64 pair.0) held
-ListsValues answer.Null = ⊥
-ListsValues (answer.Count n) = ⊥
-ListsValues (answer.Whole z) = ⊥
-ListsValues (answer.Ratio p q) = ⊥
-ListsValues (answer.Squares n) = ⊥
-ListsValues (answer.Variance p q) = ⊥
+ListsValues _ = ⊥
 
 -- an answer is of the kind of this aggregate's
 abbrev pub IsOfKind : Agg → Answer → Type 0

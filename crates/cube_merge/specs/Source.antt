@@ -19,47 +19,32 @@ HasLevel _ = ⊤
 -- the answer to an aggregate is made of its own answers
 abbrev pub IsMadeSource : List Agg → Agg → Source → Type 0
 IsMadeSource given agg (Made place) = slice_get given place ≡ Some agg
-IsMadeSource given agg (Mean sums counts) = ⊥
-IsMadeSource given agg (Variance is_sample counts sums squares) = ⊥
-IsMadeSource given agg (Distinct values) = ⊥
-IsMadeSource given agg (Percentile units places values) = ⊥
+IsMadeSource given agg _ = ⊥
 
 -- a mean of a measure comes from here
 abbrev pub IsMeanSource : List Agg → ℕ → Source → Type 0
 IsMeanSource given m (Mean sums counts) =
     (slice_get given sums ≡ Some (Sum m)) × (slice_get given counts ≡ Some (Count m))
-IsMeanSource given m (Made place) = ⊥
-IsMeanSource given m (Variance is_sample counts sums squares) = ⊥
-IsMeanSource given m (Distinct values) = ⊥
-IsMeanSource given m (Percentile units places values) = ⊥
+IsMeanSource given m _ = ⊥
 
 -- a variance of a measure, of a sample or not, comes from here
 abbrev pub IsVarianceSource : Bool → List Agg → ℕ → Source → Type 0
 IsVarianceSource of_sample given m (Variance is_sample counts sums squares) =
     (is_sample ≡ of_sample) × (slice_get given counts ≡ Some (Count m)) × (slice_get given sums ≡ Some (Sum m))
     × (slice_get given squares ≡ Some (SumOfSquares m))
-IsVarianceSource of_sample given m (Made place) = ⊥
-IsVarianceSource of_sample given m (Mean sums counts) = ⊥
-IsVarianceSource of_sample given m (Distinct values) = ⊥
-IsVarianceSource of_sample given m (Percentile units places values) = ⊥
+IsVarianceSource of_sample given m _ = ⊥
 
 -- a distinct count of a measure comes from here
 abbrev pub IsDistinctSource : List Agg → ℕ → Source → Type 0
 IsDistinctSource given m (Distinct values) = slice_get given values ≡ Some (Values m)
-IsDistinctSource given m (Made place) = ⊥
-IsDistinctSource given m (Mean sums counts) = ⊥
-IsDistinctSource given m (Variance is_sample counts sums squares) = ⊥
-IsDistinctSource given m (Percentile units places values) = ⊥
+IsDistinctSource given m _ = ⊥
 
 -- a percentile of a measure, at this level, comes from here
 abbrev pub IsPercentileSource : ℕ → ℕ → List Agg → ℕ → Source → Type 0
 IsPercentileSource of_units of_places given m (Percentile units places values) =
     (units ≡ of_units) × (places ≡ of_places) × (is_level units places ≡ true)
     × (slice_get given values ≡ Some (Values m))
-IsPercentileSource of_units of_places given m (Made place) = ⊥
-IsPercentileSource of_units of_places given m (Mean sums counts) = ⊥
-IsPercentileSource of_units of_places given m (Variance is_sample counts sums squares) = ⊥
-IsPercentileSource of_units of_places given m (Distinct values) = ⊥
+IsPercentileSource of_units of_places given m _ = ⊥
 
 -- the answer to an aggregate comes from here, among the given aggregates
 abbrev pub IsSourceOf : List Agg → Agg → Source → Type 0
