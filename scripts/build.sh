@@ -1,5 +1,5 @@
 #!/bin/sh
-# Proves the program and what it stands on from nothing, builds it, and says whether its bytes are the released ones.
+# Proves the program and what it stands on, builds it, and says whether its bytes are the released ones.
 #
 #   scripts/build.sh [--jobs N]    N checks side by side; as many as there are processors, and memory for, where left out
 #

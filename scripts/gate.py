@@ -220,7 +220,7 @@ def parts_of_proved(program):
 
 
 def prove(tally, is_anew):
-    """Proves everything from nothing, tries each must-fail edit, and records what was built."""
+    """Proves everything, tries each must-fail edit, and records what was built."""
     ci = [sys.executable, "-B", f"{ROOT}/scripts/proofs.py", *(["--anew"] if is_anew else [])]
     print("== proofs and tests of all crates, and must-fail edits; where none is kept from an earlier run this takes more than an hour on four processors", flush=True)
     os.environ.setdefault("RT_JOBS", shell("checks_side_by_side"))
