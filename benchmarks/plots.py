@@ -8,7 +8,7 @@ from peers import PEERS, installed
 from runs import by_threads
 from workloads import WORKLOADS, make_of
 
-SCALES = (1, 2, 4, 8)
+SCALES = (1, 2, 4, 8, 16)
 DIMENSIONS = range(2, 9)
 THREADS = (1, 2, 3, 4)
 
@@ -39,7 +39,7 @@ def drawn(name, width, height, count, draw):
 def growth(asked):
     """Measures `datacube print` over more and more records and over 2 to 8 dimensions, and draws docs/growth.svg.
 
-    The first table has each workload with 1, 2, 4 and 8 times its records, with the defaults over one feed, the second 100,000 inserts
+    The first table has each workload with 1 to 16 times its records, with the defaults over one feed, the second 100,000 inserts
     with 2 to 8 dimensions of 4 values each, so 4 to 256 grouping sets. The plot has a line for each workload, processor seconds against
     records, both by powers of ten: where time grows with the records, the line rises by one power for each."""
     scales = [scale for scale in SCALES if scale <= asked.most]
