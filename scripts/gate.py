@@ -44,6 +44,7 @@ BY_PYTEST = {
     "a session over a store, the short form": ["store_trials"],
     "hostile use, the short form": ["hostile"],
     "the progress line in a terminal": ["progress"],
+    "what is kept of proofs": ["proofs"],
 }
 
 # What came of a part: its status, the lines that it said, its seconds of the clock and of processors, and the names that it

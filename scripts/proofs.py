@@ -96,7 +96,7 @@ def keep(folder, paths, place):
         for path in filter(lambda it: os.path.exists(f"{folder}/{it}"), paths):
             os.makedirs(os.path.dirname(f"{room}/all/{path}"), exist_ok=True)
             if os.path.isdir(f"{folder}/{path}"):
-                shutil.copytree(f"{folder}/{path}", f"{room}/all/{path}", copy_function=link)
+                shutil.copytree(f"{folder}/{path}", f"{room}/all/{path}")
             else:
                 shutil.copy2(f"{folder}/{path}", f"{room}/all/{path}")
         os.makedirs(f"{room}/all", exist_ok=True)
@@ -109,18 +109,10 @@ def copy_all(place, folder):
     """Puts what was kept into a crate's folder."""
     if os.path.isdir(f"{place}/out/rlib"):
         shutil.rmtree(f"{folder}/out/rlib", ignore_errors=True)
-        shutil.copytree(f"{place}/out/rlib", f"{folder}/out/rlib", copy_function=link)
+        shutil.copytree(f"{place}/out/rlib", f"{folder}/out/rlib")
     for it in os.listdir(f"{place}/out") if os.path.isdir(f"{place}/out") else ():
         if os.path.isfile(f"{place}/out/{it}"):
             shutil.copy2(f"{place}/out/{it}", f"{folder}/out/{it}")
-
-
-def link(old, new):
-    """Gives a file of a library, which nobody changes, a second name, or copies it."""
-    try:
-        os.link(old, new)
-    except OSError:
-        shutil.copy2(old, new)
 
 
 def files_in(folder):
@@ -134,7 +126,7 @@ def sum_of_file(path):
 
 
 def text_at(path):
-    with open(path, encoding="utf-8") as it:
+    with open(path, encoding="utf-8", errors="replace") as it:
         return it.read()
 
 
