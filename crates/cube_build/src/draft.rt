@@ -136,14 +136,16 @@ impl Draft<Counted> {
 }
 
 impl<N: Numbers + Send + Sync> Draft<N> {
-    /// The counts of the ledger over the finest grouping set alone, made by so many threads. The only error is that memory
-    /// ran out.
+    /// The counts of the ledger over the finest grouping set alone, made by so many threads; the books are let go of. The only
+    /// error is that memory ran out.
     pub fn finest<T: Threads + Sync>(self, rt: &T, threads: usize) -> Result<Counts<N>, AllocError>
         ensures { IfOk result (AreFinestCounts self.ledger) }
     {
         let cube = finest_with(rt, threads.max(1), &self.cube, &self.ledger)?;
         let trace = LedgerTrace::of(&self.ledger);
-        Ok(Counts::new(self.ledger, cube, trace))
+        let mut refused = self.ledger;
+        refused.forget();
+        Ok(Counts::new(refused, cube, trace))
     }
 }
 

@@ -2,13 +2,13 @@
 use Rattle.std.proofs.Common.{◌≡◌, ◌<◌, ◌≤◌, ◌+◌, ◌-◌, ℕ, zero, suc, Bool, true, false, List, []}
 use Rattle.std.proofs.Common.{◌∷◌, ◌++◌, length, get_or, replicate, refl}
 use Rattle.std.proofs.Common.{sym, ap, ◌∙◌, subst, arith, append_assoc, length-append}
-use Rattle.std.specs.Prelude.{Option, Some, None, All, IfSome, slice_set, Result, Ok, Err, IfOk, OnOk, OnErr}
+use Rattle.std.specs.Prelude.{Option, Some, None, All, IfSome, map, slice_set, Result, Ok, Err, IfOk, OnOk, OnErr}
 use Rattle.std.specs.Prelude.{if◌then◌else◌}
 use Rattle.std.specs.Option.{option_to_list}
 use Rattle.std.specs.List.Sorted.{IsPermutation}
 use Rattle.std.proofs.Math.ListN.{length-set}
 use Rattle.std.proofs.Math.Seq.{take-append_seam}
-use Rattle.std.proofs.lemmas.List.{length-replicate}
+use Rattle.std.proofs.lemmas.List.{length-map, length-replicate}
 use Rattle.std.proofs.lemmas.Grind.{flat_map-append}
 use Rattle.std.proofs.lemmas.List.Elements.{All-append, All-nil, All-cons, All-tail, All-take}
 use Rattle.std.proofs.lemmas.List.Sorted.{IsPermutation-refl, IsPermutation-trans, IsPermutation-append_left}
@@ -23,6 +23,7 @@ use Rattle.cube_core.specs.declared.fact.Fact.{Fact}
 use Rattle.cube_ledger.specs.Book.{fact_at, fact_put, facts_of}
 use Rattle.cube_ledger.specs.Ledger.{AccountView, AtSource, Enters, Exchanges, AllFit, IsLedger, LedgerView}
 use Rattle.cube_ledger.specs.Ledger.{account_of, all_facts, code_in, new_account, says_taken, with_refusal}
+use Rattle.cube_ledger.specs.Ledger.{without_facts}
 use Rattle.cube_ledger.proofs.FitLaws.{fact_put-fits}
 
 -- what holds of all elements of joined lists holds of those of the first and of the second
@@ -237,3 +238,24 @@ all_facts-refuse old new source number code first last at =
     (all_facts-set old.accounts (source - 1) at.account None None (omega (arith, first, last))
     (subst (λ (a : AccountView). IsPermutation (facts_of (account_of old source).book) (facts_of a.book))
     (sym at.changed) (IsPermutation-refl _)))
+
+-- books without facts have none, so all that they have fits
+all_facts-without_facts : (accounts : List AccountView) → all_facts (map without_facts accounts) ≡ []
+all_facts-without_facts [] = refl
+all_facts-without_facts (account ∷ accounts) = all_facts-without_facts accounts
+
+pub IsLedger-without_facts : (s : Layout) (accounts : List AccountView) → IsLedger s accounts
+    → IsLedger s (map without_facts accounts)
+IsLedger-without_facts s accounts is =
+    let few = is.sources_at_most in
+    record {
+      sources_at_most = omega (arith, length-map accounts without_facts, few);
+      all_fit = subst (AllFit s) (sym (all_facts-without_facts accounts)) (All-nil (λ fact. fits s fact ≡ true));
+    }
+
+-- their refusals stay
+pub refusals-without_facts : (accounts : List AccountView)
+    → map (λ (account : AccountView). account.refusals) (map without_facts accounts)
+    ≡ map (λ (account : AccountView). account.refusals) accounts
+refusals-without_facts [] = refl
+refusals-without_facts (account ∷ accounts) = λ i. account.refusals ∷ refusals-without_facts accounts i

@@ -1,5 +1,5 @@
 -- The books and the refusals of all sources, and what an item does to them (this project's choice).
-use Rattle.std.specs.Prelude.{◌≡◌, ◌≤◌, ⊤, true, All, ◌++◌, ◌∷◌, ◌-◌, ℕ, Bool, false, List, [], length, get_or}
+use Rattle.std.specs.Prelude.{◌≡◌, ◌≤◌, ⊤, true, All, ◌++◌, ◌∷◌, ◌-◌, ℕ, Bool, false, List, [], length, get_or, map}
 use Rattle.std.specs.Prelude.{flat_map, slice_set, Option, Some, None, is_some, Result, Ok, Err, not, if◌then◌else◌}
 use Rattle.std.specs.List.{AllZip}
 use Rattle.cube_core.specs.Arrival.{Arrivals, of_sources}
@@ -30,6 +30,14 @@ pub record LedgerView : Type 0 where
 -- the account of a source of which no item came
 abbrev pub new_account : AccountView
 new_account = record { book = []; refusals = [] }
+
+-- an account without its facts; its refusals stay
+abbrev pub without_facts : AccountView → AccountView
+without_facts account = record { book = []; refusals = account.refusals }
+
+-- a ledger whose books have no fact; schema, sources and refusals stay
+abbrev pub ledger_without_facts : LedgerView → LedgerView
+ledger_without_facts ledger = record { schema = ledger.schema; accounts = map without_facts ledger.accounts }
 
 -- the account of a source, counted from 1
 abbrev pub account_of : LedgerView → ℕ → AccountView

@@ -4,7 +4,7 @@ ghost use Rattle.cube_core.specs.Life.{id_of};
 ghost use Rattle.cube_core.specs.Refusals.{code_by_presence};
 ghost use Rattle.cube_core.specs.Takes.{takes};
 ghost use Rattle.cube_ledger.specs.Book.{AmendsAlike, fact_at, facts_of, refused_by};
-ghost use Rattle.cube_ledger.specs.Ledger.{AllFit, Enters, Exchanges, IsRuling, RulingFits, ComesTo, is_amendment, says_amendment, says_taken, new_account, with_refusal};
+ghost use Rattle.cube_ledger.specs.Ledger.{AllFit, Enters, Exchanges, IsRuling, RulingFits, ComesTo, is_amendment, says_amendment, says_taken, new_account, with_refusal, without_facts};
 ghost use Rattle.cube_ledger.specs.Interest.{account_of_interest};
 
 use crate::book::{Book, BookFault};
@@ -47,6 +47,14 @@ impl Account {
         ensures { self.new ≡ account_of_interest conditions.now self.old }
     {
         self.book.keep(conditions);
+    }
+
+    /// Lets go of the facts of the book, and of the memory that they take; the refusals stay. A book with this hash key takes
+    /// its place. It takes no memory.
+    pub(crate) fn forget(&mut self, alloc: Global, key: HashKey)
+        ensures { self.new ≡ without_facts self.old }
+    {
+        self.book = Book::new(alloc, key);
     }
 
     /// What an item comes to whose change, where it says one, the schema takes: its refusal, a fact that is put under

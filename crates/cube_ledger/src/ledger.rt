@@ -3,7 +3,7 @@ ghost use Rattle.std.specs.Prelude.{◌≡◌, ◌≤◌, ◌+◌, ◌++◌, ◌
 ghost use Rattle.cube_core.specs.Arrival.{Arrivals};
 ghost use Rattle.cube_core.specs.Takes.{fits};
 ghost use Rattle.cube_ledger.specs.Book.{facts_of};
-ghost use Rattle.cube_ledger.specs.Ledger.{AllFit, AtSource, Enters, Exchanges, IsRuling, LedgerStandsAt, RulingFits, account_of, all_facts, new_account, says_amendment, says_taken, with_refusal};
+ghost use Rattle.cube_ledger.specs.Ledger.{AllFit, AtSource, Enters, Exchanges, IsRuling, LedgerStandsAt, RulingFits, account_of, all_facts, ledger_without_facts, new_account, says_amendment, says_taken, with_refusal, without_facts};
 ghost use Rattle.cube_ledger.specs.Interest.{account_of_interest, ledger_of_interest};
 
 use crate::account::Account;
@@ -203,6 +203,15 @@ impl Ledger {
         }
     }
 
+    /// Lets go of the facts of every book, and of the memory that they take; schema, sources and refusals stay. It takes no
+    /// memory.
+    pub fn forget(&mut self)
+        ensures { self.new ≡ ledger_without_facts self.old }
+    {
+        let key = self.schema.hash_key();
+        forget_facts(self.accounts.as_mut_slice(), self.alloc, key);
+    }
+
     // What an item does to the account of its source, where it was seen whether the schema takes its change.
     fn enter(&mut self, source: u32, item: Item, is_taken: bool) -> Result<(), AllocError>
         requires first { 1 ≤ source }
@@ -272,6 +281,15 @@ fn keep_of_interest(accounts: &mut [Account], conditions: &[Condition])
 {
     for account in accounts.iter_mut() {
         account.keep(conditions);
+    }
+}
+
+// Lets go of the facts of every account.
+fn forget_facts(accounts: &mut [Account], alloc: Global, key: HashKey)
+    ensures { accounts.new ≡ map without_facts accounts.old }
+{
+    for account in accounts.iter_mut() {
+        account.forget(alloc, key);
     }
 }
 
