@@ -67,11 +67,11 @@ impl Pieces {
     }
 
     /// The pieces in their order.
-    pub fn pieces(&self) -> &[Vec<u8>]
-        ensures text { text_of_pieces result.now ≡ self.now }
-        ensures long { length self.now < 2 ^ 64 }
+    pub fn into_pieces(self) -> Vec<Vec<u8>>
+        ensures text { text_of_pieces result.items ≡ self }
+        ensures long { length self < 2 ^ 64 }
     {
-        let _size = self.size;
-        &self.pieces
+        let Pieces { pieces, size: _ } = self;
+        pieces
     }
 }

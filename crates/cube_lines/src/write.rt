@@ -30,16 +30,17 @@ pub fn write_whole<W: Write>(w: &mut W, bytes: &[u8]) -> Result<(), WriteFault>
     w.flush().map_err(|_| WriteFault { sent: bytes.len() })
 }
 
-/// Writes the pieces of a text, one after the other, as [`write_whole`] writes a text.
-pub fn write_pieces<W: Write>(w: &mut W, text: &Pieces) -> Result<(), WriteFault>
-    ensures whole { OnOk result (Appends (W.contents w.old) (W.contents w.new) text.now) }
-    ensures within { IfErr result (λ fault. fault.sent ≤ length text.now) }
+/// Writes the pieces of a text, one after the other, as [`write_whole`] writes a text. Each is let go of once it went out, so
+/// that the system has its memory for what is written next.
+pub fn write_pieces<W: Write>(w: &mut W, text: Pieces) -> Result<(), WriteFault>
+    ensures whole { OnOk result (Appends (W.contents w.old) (W.contents w.new) text) }
+    ensures within { IfErr result (λ fault. fault.sent ≤ length text) }
     ensures part { IfErr result (λ fault.
-        Appends (W.contents w.old) (W.contents w.new) (take fault.sent text.now)) }
+        Appends (W.contents w.old) (W.contents w.new) (take fault.sent text)) }
 {
     let mut sent = 0;
-    for piece in text.pieces() {
-        match send(w, piece) {
+    for piece in text.into_pieces() {
+        match send(w, &piece) {
             Ok(()) => sent += piece.len(),
             Err(fault) => {
                 return Err(WriteFault {

@@ -59,7 +59,7 @@ fn write_walked<T: Threads + Sync, P: Reporter, W: Write>(
 {
     reporter.begins_writing(None);
     let text = print_walked_in_pieces(rt, alloc, threads, taken.cells())?;
-    write_pieces(out, &text)?;
+    write_pieces(out, text)?;
     Ok(())
 }
 
