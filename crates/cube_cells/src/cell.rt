@@ -121,10 +121,10 @@ impl<N: Numbers> Cell<N> {
     pub fn copy(&self, alloc: Global) -> Result<Cell<N>, AllocError>
         ensures { IfOk result (SameTally self.now) }
     {
-        let facts = self.count();
-        let mut measures = empty_measures(alloc, self.measures.len())?;
-        merge_measures(&mut measures, &self.measures)?;
-        Ok(Cell { facts, measures })
+        Ok(Cell {
+            facts: self.facts,
+            measures: copies(alloc, &self.measures)?,
+        })
     }
 
     /// Adds the facts of another cell. Where memory runs out, the cell has lost some of its values.
@@ -203,6 +203,17 @@ fn empty_measures<N: Numbers>(alloc: Global, count: usize) -> Result<Vec<Measure
         measures.push(Measure::new(alloc))?;
     }
     Ok(measures)
+}
+
+// The same measures.
+fn copies<N: Numbers>(alloc: Global, measures: &[Measure<N>]) -> Result<Vec<Measure<N>>, AllocError>
+    ensures { IfOk result (λ copies. SameBags measures.now copies.items) }
+{
+    let mut copies = Vec::with_capacity(alloc, measures.len())?;
+    for measure in measures {
+        copies.push(measure.copy(alloc)?)?;
+    }
+    Ok(copies)
 }
 
 // Adds the values of a fact, or none of them.

@@ -6,7 +6,7 @@ ghost use Rattle.cube_core.specs.Answer.{IsSum, IsLeast, IsGreatest, IsMean, IsD
 ghost use Rattle.cube_core.specs.Fraction.{IsInLowestTerms};
 ghost use Rattle.cube_core.specs.Layout.{is_level};
 ghost use Rattle.cube_core.specs.declared.aggregate.Answer.TheVariants.{Null, Whole};
-ghost use Rattle.cube_values.specs.Bag.{AddsBag, size_of, held_of};
+ghost use Rattle.cube_values.specs.Bag.{AddsBag, SameHeld, size_of, held_of};
 ghost use Rattle.cube_cells.specs.Tally.{AddsValue, IsBagOf, holds_value};
 
 use cube_core::{Answer, Sequence, reduced, variance_from};
@@ -42,6 +42,17 @@ impl<N: Numbers> Measure<N> {
             sum: 0,
             values: N::new(alloc),
         }
+    }
+
+    /// The same values. The only error is that memory ran out.
+    pub fn copy(&self, alloc: Global) -> Result<Measure<N>, AllocError>
+        ensures { IfOk result (SameHeld self.now) }
+    {
+        // So the prover learns that they are fewer than 2 ^ 64.
+        let _count = self.count();
+        let mut copy = Measure::new(alloc);
+        copy.merge(self)?;
+        Ok(copy)
     }
 
     /// Adds a value; a null changes nothing.

@@ -1,13 +1,12 @@
 -- Laws of tallies that are joined: the bags of one added to those of another, and the tally of the facts of both.
-use Rattle.std.specs.Prelude.{ℤ, All}
-use Rattle.std.proofs.Common.{◌≡◌, ℕ, ◌+◌, ◌<◌, ◌≤◌, List, [], arith, ap, subst, length, set, take}
+use Rattle.std.proofs.Common.{◌≡◌, ℕ, ◌+◌, ◌<◌, ◌≤◌, List, [], ◌∷◌, ◌++◌, refl, arith, ap, subst, length, set, take}
 use Rattle.std.proofs.lemmas.Bool.{cases_lt, cases_eq}
 use Rattle.std.proofs.Math.Logic.{⊎_elim}
-use Rattle.std.proofs.lemmas.List.{get_or-set_same, get_or-set_other, get_or-take, get_or_default, get_or_past}
-use Rattle.std.proofs.lemmas.List.{length-set}
-use Rattle.cube_values.specs.Bag.{Bag, AddsBag, held_of, size_of}
+use Rattle.std.proofs.lemmas.List.{get_or-set_same, get_or-set_other, get_or-take, get_or_default, get_or_past, get_or_push}
+use Rattle.std.proofs.lemmas.List.{get_or_append_left, length-append, length-set}
+use Rattle.cube_values.specs.Bag.{Bag, AddsBag, SameHeld, size_of}
 use Rattle.cube_cells.specs.Tally.{bag_at, AddsBags, SameBags}
-use Rattle.cube_values.proofs.BagLaws.{held_le_size, size_of-bag}
+use Rattle.cube_values.proofs.BagLaws.{size_of-bag}
 use Rattle.cube_cells.proofs.Tallies.ValueLaws.{AreWithin, each-set, get_or-take_past}
 
 -- a bag is as it was where nothing was added yet
@@ -90,30 +89,28 @@ pub AreWithin-room : (facts others : ℕ) (old more : List Bag) → AreWithin fa
 AreWithin-room facts others old more within_old within_more m =
     omega (arith, AreWithin-bag_at facts old m within_old, AreWithin-bag_at others more m within_more)
 
--- bags that were added to empty ones are the same
-pub AddsBags-SameBags : (empty new more : List Bag) → length empty ≡ length more → All (λ bag. size_of bag ≡ 0) empty
-    → AddsBags empty new more → SameBags more new
-AddsBags-SameBags empty new more widths none adds = record {
-  same_length = omega (arith, widths, adds.same_length);
-  bags = λ m. record { held = λ x. omega (arith, (adds.each m).held x, nothing m x) };
+-- a bag more behind the same bags
+pub SameBags-push : (bags copies : List Bag) (bag copy : Bag) → SameBags bags copies → SameHeld bag copy
+    → SameBags (bags ++ bag ∷ []) (copies ++ copy ∷ [])
+SameBags-push bags copies bag copy same here = record {
+  same_length = omega (arith, same.same_length, longer bags bag, longer copies copy);
+  bags = λ m. ⊎_elim
+      (λ before. rw (
+        get_or_append_left bags (bag ∷ []) [] m before,
+        get_or_append_left copies (copy ∷ []) [] m (omega (arith, before, same.same_length)),
+      ) (same.bags m))
+      (λ past. ⊎_elim
+      (λ last. rw (
+        get_or_push bags bag [] m (omega (arith, last)),
+        get_or_push copies copy [] m (omega (arith, last, same.same_length)),
+      ) here)
+      (λ apart. rw (
+        get_or_past (bags ++ bag ∷ []) m [] (omega (arith, past, apart, longer bags bag)),
+        get_or_past (copies ++ copy ∷ []) m [] (omega (arith, past, apart, longer copies copy, same.same_length)),
+      )
+      (record { held = λ x. refl }))
+      (cases_eq m (length bags)))
+      (cases_lt m (length bags));
 } where
-  nothing : (m : ℕ) (x : ℤ) → held_of (bag_at empty m) x ≡ 0
-  nothing m x = ⊎_elim
-      (λ inside. omega (arith, held_le_size (bag_at empty m) x, none m [] inside))
-      (λ past. ap (λ (bag : Bag). held_of bag x) (get_or_past empty m [] past))
-      (cases_lt m (length empty))
-
--- and no larger than the facts
-pub AreWithin-both_empty : (facts : ℕ) (empty new more : List Bag) → All (λ bag. size_of bag ≡ 0) empty
-    → AreWithin facts more → ((m : ℕ) → size_of (bag_at new m) ≤ size_of (bag_at empty m) + size_of (bag_at more m))
-    → AreWithin facts new
-AreWithin-both_empty facts empty new more none within sizes =
-    let nothing : AreWithin 0 empty = λ k d inside. omega (arith, none k d inside) in
-    λ k d inside. omega (arith, AreWithin-both 0 facts empty new more nothing within sizes k d inside)
-
--- and both fit where the facts do
-pub AreWithin-room_empty : (facts : ℕ) (empty more : List Bag) → All (λ bag. size_of bag ≡ 0) empty
-    → AreWithin facts more → (m : ℕ) → size_of (bag_at empty m) + size_of (bag_at more m) ≤ facts
-AreWithin-room_empty facts empty more none within m =
-    let nothing : AreWithin 0 empty = λ k d inside. omega (arith, none k d inside) in
-    omega (arith, AreWithin-room 0 facts empty more nothing within m)
+  longer : (xs : List Bag) (x : Bag) → length (xs ++ x ∷ []) ≡ length xs + 1
+  longer xs x = length-append xs (x ∷ [])
