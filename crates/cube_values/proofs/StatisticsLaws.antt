@@ -2,10 +2,10 @@
 -- of the sum of the squares.
 use Rattle.std.proofs.Common.{◌≡◌, ℕ, suc, zero, ◌+◌, ◌-◌, ◌*◌, ◌<◌, ◌≤◌, List, [], ◌∷◌, refl, arith, ap, sym, ◌∙◌}
 use Rattle.std.proofs.Common.{◌^◌, length, get_or, drop, true, false, cond, subst, to_z, of_z}
-use Rattle.std.specs.Prelude.{ℤ, pos, ◌+ℤ◌, ◌-ℤ◌, ◌<ℤ◌, ◌≤ℤ◌, All, nat_lt, filter}
+use Rattle.std.specs.Prelude.{ℤ, pos, ◌+ℤ◌, ◌-ℤ◌, ◌<ℤ◌, ◌≤ℤ◌, int_lt, not, All, nat_lt, filter}
 use Rattle.std.specs.Int.{w64}
 use Rattle.std.specs.Int.RustNames.{FitsSigned, unsigned_abs}
-use Rattle.std.specs.List.{AllPairs}
+use Rattle.std.specs.List.{AllPairs, AllWithin}
 use Rattle.std.specs.Map.{keys_of}
 use Rattle.std.specs.List.Sorted.{IsStrictlySortedBy}
 use Rattle.std.specs.Ordering.{int_eq, int_cmp}
@@ -94,6 +94,34 @@ pub size_up_to-drop_once : (numbers : List ℤ) (i : ℕ) (d v : ℤ) → i < le
 size_up_to-drop_once numbers i d v within =
     at_drop_more (λ (l : List ℤ). size_up_to (once_each l) v) numbers i d within
     ∙ weight_of-cons (one_up_to v) (get_or numbers i d, 1) (once_each (drop (i + 1) numbers))
+
+-- those of a list that come first, if all others are above
+pub size_up_to-first : (numbers : List ℤ) (v : ℤ) (past : ℕ) → past ≤ length numbers
+    → AllWithin (λ x. not (int_lt v x) ≡ true) numbers 0 past
+    → AllWithin (λ x. not (int_lt v x) ≡ false) numbers past (length numbers)
+    → size_up_to (once_each numbers) v ≡ past
+size_up_to-first [] v past within below above = omega (arith, within)
+size_up_to-first (x ∷ numbers) v zero within below above =
+    let here : one_up_to v x ≡ 0 =
+    let t = above 0 x (omega arith) (omega arith) in grind (arith, ints, t) in
+    omega (
+      arith,
+      weight_of-cons (one_up_to v) (x, 1) (once_each numbers),
+      here,
+      size_up_to-first numbers v zero (omega arith) (λ k d from to. absurd (omega (arith, to)))
+          (λ k d from to. above (suc k) d (omega arith) (omega (arith, to))),
+    )
+size_up_to-first (x ∷ numbers) v (suc past) within below above =
+    let here : one_up_to v x ≡ 1 =
+    let t = below 0 x (omega arith) (omega arith) in grind (arith, ints, t) in
+    omega (
+      arith,
+      weight_of-cons (one_up_to v) (x, 1) (once_each numbers),
+      here,
+      size_up_to-first numbers v past (omega (arith, within))
+          (λ k d from to. below (suc k) d (omega arith) (omega (arith, to)))
+          (λ k d from to. above (suc k) d (omega (arith, from)) (omega (arith, to))),
+    )
 
 -- the next number is above those up to one
 one_below-next : (v x : ℤ) → one_below (v +ℤ pos 1) x ≡ one_up_to v x

@@ -8,7 +8,7 @@ ghost use Rattle.cube_values.specs.Values.{bag_of, bag_left};
 mod statistics;
 
 use crate::log::Log;
-use crate::narrow::Narrow;
+use crate::narrow::{Narrow, numbers_repeat};
 use crate::short::{FEW, Short};
 use crate::single::Single;
 use crate::table::Table;
@@ -27,8 +27,9 @@ const SEARCHED: usize = 64;
 ///
 /// A number that is held alone, however often, takes no memory of its own. Numbers of 32 bits that come one at a time
 /// stand in a narrow list, of 4 bytes a number, which keeps its least and greatest number and looks at each for
-/// `holds`. It gives way to a form that counts how often each number is held where a wider number comes, or one many
-/// times at once, where the numbers repeat, and where one is taken from many.
+/// `holds`. Many of them are brought in order where room is given back, and those that come later stand behind them. It
+/// gives way to a form that counts how often each number is held where a wider number comes, or one many times at once,
+/// where the numbers repeat, and where one is taken from many.
 ///
 /// Of these forms, a short list takes few numbers. More are a log of what was added, with a list of what was taken
 /// away since; it answers its least and greatest number at once, and looks at each of its pairs for `holds`. When one
@@ -104,8 +105,8 @@ impl Counted {
         Ok(())
     }
 
-    /// Gives back the room that lists have beyond their numbers; an add makes room again where it needs some. It takes
-    /// no memory.
+    /// Gives back the room that lists have beyond their numbers, and brings many of 32 bits in order; an add makes room
+    /// again where it needs some. It takes no memory.
     pub fn shrink_to_fit(&mut self)
         ensures { self.new ≡ self.old }
     {
@@ -451,19 +452,27 @@ fn add_to_narrow(
     Ok(Some(widened(alloc, narrow, more)?))
 }
 
-// The numbers of a narrow list and another, so many times, in a form that counts how often each is held: a short list
-// where it has place for all, a table where the numbers repeat, and else a log.
+// The numbers of a narrow list and another, so many times, in a form that counts how often each is held.
 #[cold]
 fn widened(alloc: Global, narrow: &Narrow, more: (i64, u64)) -> Result<Values, AllocError>
     requires some { 0 < more.1 }
     requires fits { size_of narrow.now + more.1 < 2 ^ 64 }
     ensures { IfOk result (λ values. AddsTimes narrow.now (bag_of values) more.0 more.1) }
 {
-    let numbers = narrow.numbers();
+    counted_each(alloc, narrow.numbers(), more)
+}
+
+// Numbers that are each held once and another, so many times, in a form that counts how often each is held: a short list
+// where it has place for all, a table where the numbers repeat, and else a log.
+fn counted_each(alloc: Global, numbers: &[i32], more: (i64, u64)) -> Result<Values, AllocError>
+    requires some { 0 < more.1 }
+    requires fits { size_of (once_each numbers.now) + more.1 < 2 ^ 64 }
+    ensures { IfOk result (λ values. AddsTimes (once_each numbers.now) (bag_of values) more.0 more.1) }
+{
     if let Some(short) = Short::of_numbers(alloc, numbers, more)? {
         return Ok(Values::Few(short));
     }
-    if narrow.repeats() {
+    if numbers_repeat(numbers) {
         return table_with(alloc, Table::of_numbers(alloc, numbers)?, more);
     }
     let log = Log::of_numbers(alloc, numbers, &[more])?;
@@ -580,12 +589,12 @@ fn take_narrow(alloc: Global, narrow: &mut Narrow, value: i64) -> Option<Values>
     ensures other { IfSome result (λ left. AddsOne (bag_of left) narrow.old value) }
     ensures same_form { IfNone result (AddsOne narrow.new narrow.old value) }
 {
-    let count = narrow.numbers().len();
-    if count <= 1 {
+    let numbers = narrow.numbers();
+    if numbers.len() <= 1 {
         return Some(Values::One(Single::none()));
     }
-    if count > SEARCHED
-        && let Ok(log) = log_without(alloc, narrow.numbers(), value)
+    if numbers.len() > SEARCHED
+        && let Ok(log) = log_without(alloc, numbers, value)
     {
         return Some(Values::Logged(log));
     }

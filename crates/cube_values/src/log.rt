@@ -557,24 +557,17 @@ pub fn put_in_order(mut pairs: Vec<(i64, u64)>) -> Vec<(i64, u64)>
 }
 
 /// Numbers that are each held once, in order, each different one with how often it is held. They are sorted before their
-/// pairs are made.
+/// pairs are made, which takes one pass where they are in order but for a few behind the others.
 pub fn numbers_in_order(alloc: Global, numbers: &[i32]) -> Result<Vec<(i64, u64)>, AllocError>
     requires { size_of (once_each numbers.now) < 2 ^ 64 }
     ensures { IfOk result (λ pairs. AreInOrder (once_each numbers.now) pairs.items) }
 {
     let mut sorted = Vec::from_slice(alloc, numbers)?;
-    sort(&mut sorted);
+    sorted.sort()?;
     let mut pairs = pairs_of(alloc, &sorted)?;
     join_counts(&mut pairs);
     drop_uncounted(&mut pairs);
     Ok(pairs)
-}
-
-fn sort(numbers: &mut [i32])
-    ensures same { SameHeld (once_each numbers.old) (once_each numbers.new) }
-    ensures rises { Rises (once_each numbers.new) }
-{
-    numbers.sort_unstable();
 }
 
 // Sorts the pairs by number, and counts each number in the last of its pairs.

@@ -1,12 +1,18 @@
-//! A bag of many numbers of 32 bits: a list of them as they came.
-ghost use Rattle.std.specs.Prelude.{true, false, Ok, ◌≡◌, ◌<◌, ◌≤ℤ◌, ◌∷◌, ◌↔◌, [], All, Contains, IsNone, IfNone, IfSome, IfOk, OnErr, length};
+//! A bag of many numbers of 32 bits: a list of them, of which the first may be in order.
+ghost use Rattle.std.specs.Prelude.{true, false, Ok, ◌≡◌, ◌<◌, ◌≤◌, ◌*◌, ◌^◌, ◌≤ℤ◌, ◌∷◌, ◌↔◌, [], All, Contains, IsNone, IfNone, IfSome, IfOk, OnErr, length};
 ghost use Rattle.std.specs.Ordering.{int_eq};
 ghost use Rattle.std.specs.Bool.{OnTrue, OnFalse};
 ghost use Rattle.std.specs.List.{HoldsAt};
-ghost use Rattle.cube_values.specs.Bag.{AddsBag, AddsOne, AddsTimes, held_of, size_of, HasLeast, HasGreatest, HasEnds};
+ghost use Rattle.cube_values.specs.Bag.{AddsBag, AddsOne, AddsTimes, SameHeld, held_of, size_of, HasLeast, HasGreatest};
 ghost use Rattle.cube_values.specs.Narrow.{once_each};
+ghost use Rattle.cube_values.specs.Statistics.{AreInOrder, size_up_to, squares_held};
 
+use crate::log::numbers_in_order;
 use crate::repeats::is_repetitive;
+use crate::squares::narrow_squares;
+use crate::trace::Trace;
+use crate::up_to::{narrow_up_to, sorted_up_to};
+use cube_core::Wide;
 use std::alloc::{AllocError, Global};
 use std::marker::Model;
 
@@ -16,23 +22,32 @@ const ROOM: usize = 8;
 /// How many numbers a list has at least that is looked at before it grows.
 const MANY: usize = 16;
 
-/// Many numbers of 32 bits as they came, each as often as it is held, with their ends. There is one at least.
+/// How many numbers a list has at least that is brought in order where nothing is added for a while.
+const SORTED: usize = 256;
+
+/// Many numbers of 32 bits, each as often as it is held, with their ends. There is one at least.
+///
+/// A number is put behind the others, which are brought in order where room is given back.
 #[derive(Drop)]
 pub struct Narrow {
     numbers: Vec<i32>,
+    // How many of the numbers, from the first one on, are in order.
+    sorted: usize,
     least: i32,
     greatest: i32,
+    // The numbers as they came.
+    trace: Trace,
 }
 
 impl Model for Narrow {
-    ghost use Rattle.cube_values.specs.Bag.{Bag, HasEnds};
-    ghost use Rattle.cube_values.specs.Narrow.{once_each};
+    ghost use Rattle.cube_values.specs.Bag.{Bag};
+    ghost use Rattle.cube_values.specs.Narrow.{IsNarrow};
 
     ghost Value = { Bag };
 
-    ghost view = { λ n. once_each n.numbers.items };
+    ghost view = { λ n. n.trace.bag };
 
-    ghost invariant = { λ n. HasEnds (once_each n.numbers.items) n.least n.greatest };
+    ghost invariant = { λ n. IsNarrow n.trace.bag n.numbers.items n.sorted n.least n.greatest };
 }
 
 impl Narrow {
@@ -49,10 +64,13 @@ impl Narrow {
         };
         let mut numbers = Vec::with_capacity(alloc, ROOM)?;
         numbers.extend_from_slice(&[first, second])?;
+        let trace = Trace::list(&numbers);
         let narrow = Narrow {
             numbers,
+            sorted: 0,
             least: first.min(second),
             greatest: first.max(second),
+            trace,
         };
         Ok(Some(Box::new(alloc, narrow)?))
     }
@@ -65,17 +83,43 @@ impl Narrow {
         numbers.extend_from_slice(&self.numbers)?;
         let copied = Narrow {
             numbers,
+            sorted: self.sorted,
             least: self.least,
             greatest: self.greatest,
+            trace: self.trace.copy(),
         };
         Ok(Box::new(alloc, copied)?)
     }
 
     /// The numbers, each as often as it is held.
     pub fn numbers(&self) -> &[i32]
-        ensures { self.now ≡ once_each result.now }
+        ensures { SameHeld self.now (once_each result.now) }
     {
         &self.numbers
+    }
+
+    /// The numbers in order, each different one with how often it is held.
+    pub fn in_order(&self, alloc: Global) -> Result<Vec<(i64, u64)>, AllocError>
+        requires { size_of self.now < 2 ^ 64 }
+        ensures { IfOk result (λ pairs. AreInOrder self.now pairs.items) }
+    {
+        numbers_in_order(alloc, &self.numbers)
+    }
+
+    /// How many numbers are at most `value`; it looks at each of those that aren't in order.
+    pub fn up_to(&self, value: i64) -> u64
+        ensures { result ≡ size_up_to self.now value }
+    {
+        let (sorted, others) = self.numbers.split_at(self.sorted);
+        sorted_up_to(sorted, value) + narrow_up_to(others, value)
+    }
+
+    /// The sum of the squares of the numbers; it looks at each.
+    pub fn squares(&self) -> Wide
+        ensures value { result ≡ squares_held self.now }
+        ensures bound { result ≤ 2 ^ 126 * size_of self.now }
+    {
+        narrow_squares(&self.numbers)
     }
 
     /// Adds `value` `times` times, and answers whether it did: not where it is wider than 32 bits or comes more than
@@ -88,12 +132,13 @@ impl Narrow {
         let Some(number) = narrowed((value, times)) else {
             return Ok(false);
         };
-        if self.numbers.len() == self.numbers.capacity() && self.repeats() {
+        if self.numbers.len() == self.numbers.capacity() && numbers_repeat(&self.numbers) {
             return Ok(false);
         }
         self.numbers.push(number)?;
         self.least = self.least.min(number);
         self.greatest = self.greatest.max(number);
+        self.trace = self.trace.and(&Trace::one(value));
         Ok(true)
     }
 
@@ -104,25 +149,26 @@ impl Narrow {
         ensures refused { result ≡ Ok false → self.new ≡ self.old }
     {
         let room = self.numbers.capacity() - self.numbers.len();
-        if more.numbers.len() > room && self.repeats() {
+        if more.numbers.len() > room && numbers_repeat(&self.numbers) {
             return Ok(false);
         }
         self.numbers.extend_from_slice(&more.numbers)?;
         self.least = self.least.min(more.least);
         self.greatest = self.greatest.max(more.greatest);
+        self.trace = self.trace.and(&more.trace);
         Ok(true)
     }
 
-    /// Whether there are many numbers, which seem to be few different ones.
-    pub fn repeats(&self) -> bool {
-        self.numbers.len() >= MANY && is_repetitive(&self.numbers, |number| i64::from(*number))
-    }
-
-    /// Gives back the room beyond the numbers.
+    /// Gives back the room beyond the numbers, and brings many in order.
     pub fn shrink_to_fit(&mut self)
         ensures { self.new ≡ self.old }
     {
         self.numbers.shrink_to_fit();
+        let count = self.numbers.len();
+        if count >= SORTED && self.sorted < count {
+            self.numbers.sort_unstable();
+            self.sorted = count;
+        }
     }
 
     /// Takes one `value` away, which is held beside another number; it looks at each number.
@@ -135,6 +181,8 @@ impl Narrow {
             return;
         };
         let _ = self.numbers.swap_remove(place);
+        self.sorted = 0;
+        self.trace = Trace::list(&self.numbers);
         if let (Some(least), Some(greatest)) = (
             least_number(&self.numbers),
             greatest_number(&self.numbers),
@@ -167,6 +215,11 @@ impl Narrow {
     {
         Some(i64::from(self.greatest))
     }
+}
+
+/// Whether there are many numbers, which seem to be few different ones.
+pub fn numbers_repeat(numbers: &[i32]) -> bool {
+    numbers.len() >= MANY && is_repetitive(numbers, |number| i64::from(*number))
 }
 
 // The number of a pair, where it is of 32 bits and is held once.

@@ -2,6 +2,7 @@
 ghost use Rattle.std.specs.Prelude.{◌≡◌, ◌∷◌, ◌++◌, [], ℤ, ℕ};
 ghost use Rattle.std.specs.Borrow.{ftrue};
 ghost use Rattle.cube_values.specs.Bag.{Bag};
+ghost use Rattle.cube_values.specs.Narrow.{once_each};
 
 use std::marker::{Model, PhantomData};
 
@@ -49,6 +50,20 @@ impl Trace {
         Trace::of(&One { value })
     }
 
+    /// The trace of the numbers of a list.
+    pub fn list(numbers: &[i32]) -> Trace
+        ensures { result.bag ≡ once_each numbers.now }
+    {
+        Trace::of(&Listed { numbers })
+    }
+
+    /// The trace of the same numbers.
+    pub fn copy(&self) -> Trace
+        ensures { result.bag ≡ self.now.bag }
+    {
+        Trace::of(&Same { old: self })
+    }
+
     /// The trace of these numbers and others.
     pub fn and(&self, more: &Trace) -> Trace
         ensures { result.bag ≡ self.now.bag ++ more.now.bag }
@@ -71,6 +86,24 @@ struct One {
 
 impl Traced for One {
     ghost bag = { λ x. (x.value, 1) ∷ [] };
+}
+
+#[derive(Drop)]
+struct Listed<'a> {
+    numbers: &'a [i32],
+}
+
+impl<'a> Traced for Listed<'a> {
+    ghost bag = { λ x. once_each x.numbers.now };
+}
+
+#[derive(Drop)]
+struct Same<'a> {
+    old: &'a Trace,
+}
+
+impl<'a> Traced for Same<'a> {
+    ghost bag = { λ x. x.old.now.bag };
 }
 
 #[derive(Drop)]

@@ -1,5 +1,7 @@
 //! How many numbers are at most a value.
 ghost use Rattle.std.specs.Prelude.{◌≡◌, ◌<◌, ◌*◌, ◌^◌};
+ghost use Rattle.std.specs.List.Sorted.{IsSorted};
+ghost use Rattle.std.specs.Ordering.{int_cmp};
 ghost use Rattle.cube_values.specs.Bag.{size_of};
 ghost use Rattle.cube_values.specs.Narrow.{once_each};
 ghost use Rattle.cube_values.specs.Statistics.{one_up_to, size_up_to};
@@ -39,6 +41,14 @@ fn number_up_to(number: i32, value: i32) -> u64
     ensures { result ≡ one_up_to value number * 1 }
 {
     if number <= value { 1 } else { 0 }
+}
+
+/// How many numbers of a list of 32 bits in order are at most `value`: the place of the first one that is above.
+pub fn sorted_up_to(numbers: &[i32], value: i64) -> u64
+    requires { IsSorted int_cmp numbers.now }
+    ensures { result ≡ size_up_to (once_each numbers.now) value }
+{
+    numbers.partition_point(|number| i64::from(*number) <= value) as u64
 }
 
 /// How many numbers of a list of 32 bits are at most `value`.

@@ -1,21 +1,19 @@
-use Rattle.std.proofs.Common.{arith, rules}
+use Rattle.std.proofs.Common.{arith}
 use Rattle.std.proofs.lemmas.Result.{IfOk-weaker}
-use Rattle.cube_values.specs.Bag.{Bag, SameHeld, AddsTimes}
+use Rattle.cube_values.specs.Bag.{Bag, AddsTimes}
+use Rattle.cube_values.specs.Narrow.{once_each}
 use Rattle.cube_values.specs.Values.{bag_of}
 use Rattle.cube_values.proofs.BagLaws.{size_of_same, adds_to_same}
 use Rattle.cube_values.proofs.counted.widened.Goals as goal
 
-pub table_with-requires-clause-fits : goal.table_with-requires-clause-fits
-table_with-requires-clause-fits c =
-    let table : Bag = c.in_ok-of_numbers.field-0 in
-    let same : SameHeld c.args.narrow.now table = search rules in
-    omega (arith, c.requires.fits, size_of_same c.args.narrow.now table same)
+pub counted_each-requires-clause-fits : goal.counted_each-requires-clause-fits
+counted_each-requires-clause-fits c =
+    omega (arith, c.requires.fits, size_of_same c.args.narrow.now (once_each c.numbers.result.now) c.numbers.ensures)
 
-pub returns-then-repeats : goal.returns-then-repeats
-returns-then-repeats c =
-    let old : Bag = c.args.narrow.now in
-    let table : Bag = c.in_ok-of_numbers.field-0 in
-    let same : SameHeld old table = search rules in
-    IfOk-weaker c.table_with.result (λ values. AddsTimes table (bag_of values) c.args.more.0 c.args.more.1)
-    (λ values. AddsTimes old (bag_of values) c.args.more.0 c.args.more.1)
-    (λ values adds. adds_to_same old table (bag_of values) c.args.more.0 c.args.more.1 same adds) c.table_with.ensures
+pub returns : goal.returns
+returns c =
+    let listed : Bag = once_each c.numbers.result.now in
+    IfOk-weaker c.counted_each.result (λ values. AddsTimes listed (bag_of values) c.args.more.0 c.args.more.1)
+    (λ values. AddsTimes c.args.narrow.now (bag_of values) c.args.more.0 c.args.more.1)
+    (λ values adds. adds_to_same c.args.narrow.now listed (bag_of values) c.args.more.0 c.args.more.1 c.numbers.ensures
+    adds) c.counted_each.ensures
