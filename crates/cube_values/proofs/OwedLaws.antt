@@ -198,6 +198,17 @@ pub SameHeld-TakesAll : (old ordered new : Bag) (owed : List ℤ) → SameHeld o
 SameHeld-TakesAll old ordered new owed same takes =
     record { held = λ x. omega (arith, held_of-without owed old x, same.held x, takes.held x) }
 
+-- a bag that holds as much covers as much
+pub Covers-SameHeld : (old new : Bag) (owed : List ℤ) → Covers old owed → SameHeld old new → Covers new owed
+Covers-SameHeld old new owed covers same = record { times = λ x. omega (arith, covers.times x, same.held x) }
+
+-- and as much is left of it
+pub SameHeld-without : (old new : Bag) (owed : List ℤ) → SameHeld old new
+    → SameHeld (without owed old) (without owed new)
+SameHeld-without old new owed same = record {
+  held = λ x. omega (arith, held_of-without owed old x, held_of-without owed new x, same.held x);
+}
+
 -- nothing is covered by any bag
 Covers-nothing : (bag : Bag) → Covers bag []
 Covers-nothing bag = record { times = λ x. omega arith }

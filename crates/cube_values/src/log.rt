@@ -159,7 +159,7 @@ impl Log {
         ensures same { IfOk result (λ pairs. SameHeld self.now pairs.items) }
         ensures ordered { IfOk result (λ pairs. IsOrdered pairs.items) }
     {
-        let mut pairs = Vec::from_slice(alloc, &self.pairs)?;
+        let mut pairs = sorted_copy(alloc, &self.pairs)?;
         pay(&mut pairs, &self.taken);
         Ok(pairs)
     }
@@ -360,6 +360,15 @@ fn pairs_of(alloc: Global, numbers: &[i32]) -> Result<Vec<(i64, u64)>, AllocErro
         pairs.push((i64::from(*number), 1))?;
     }
     Ok(pairs)
+}
+
+// A copy of pairs, sorted by number, which takes one pass where they are in order but for a few behind the others.
+fn sorted_copy(alloc: Global, pairs: &[(i64, u64)]) -> Result<Vec<(i64, u64)>, AllocError>
+    ensures { IfOk result (λ sorted. SameHeld pairs.now sorted.items) }
+{
+    let mut sorted = Vec::from_slice(alloc, pairs)?;
+    sorted.sort_by_key(|pair| pair.0)?;
+    Ok(sorted)
 }
 
 // The ends of pairs that hold a number; None where there is no pair.

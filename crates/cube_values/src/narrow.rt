@@ -25,6 +25,12 @@ const MANY: usize = 16;
 /// How many numbers a list has at least that is brought in order where nothing is added for a while.
 const SORTED: usize = 256;
 
+/// How many numbers stand at least behind those in order before all are brought in order again.
+const BEHIND: usize = 512;
+
+/// How many numbers there are at most for each of those.
+const SHARE: usize = 64;
+
 /// Many numbers of 32 bits, each as often as it is held, with their ends. There is one at least.
 ///
 /// A number is put behind the others, which are brought in order where room is given back.
@@ -139,7 +145,23 @@ impl Narrow {
         self.least = self.least.min(number);
         self.greatest = self.greatest.max(number);
         self.trace = self.trace.and(&Trace::one(value));
+        self.settle();
         Ok(true)
+    }
+
+    // Brings the numbers in order where the first are and many came since; where there is no memory for that, they stay as
+    // they are.
+    fn settle(&mut self)
+        ensures { self.new ≡ self.old }
+    {
+        let count = self.numbers.len();
+        let behind = count - self.sorted;
+        if self.sorted == 0 || behind < BEHIND || behind < count / SHARE {
+            return;
+        }
+        if let Ok(()) = self.numbers.sort() {
+            self.sorted = count;
+        }
     }
 
     /// Adds the numbers of another list, and answers whether it did: not where a form that counts how often each number

@@ -30,4 +30,4 @@ returns-clause-added c =
     let value : c.args.value ≡ number = ap (λ (p : ℤ × ℕ). p.0) pair in
     let times : c.args.times ≡ 1 = ap (λ (p : ℤ × ℕ). p.1) pair in
     let trace : c.and-self-inside.result.bag ≡ bag ++ (number, 1) ∷ [] = search (rules, to_z-of_z) in
-    λ h. rw (trace, ← c.self.view_is, value, times) (adds_pair bag number 1)
+    λ h. rw (c.settle.ensures, trace, ← c.self.view_is, value, times) (adds_pair bag number 1)
