@@ -81,7 +81,7 @@ impl Narrow {
         Ok(Some(Box::new(alloc, narrow)?))
     }
 
-    /// A list of the same numbers, with room for so many more.
+    /// A list of the same numbers, with room for so many more; none of them count as in order until room is given back.
     pub fn copy(&self, alloc: Global, more: usize) -> Result<Box<Narrow>, AllocError>
         ensures { IfOk result (λ narrow. narrow.value ≡ self.now) }
     {
@@ -89,7 +89,7 @@ impl Narrow {
         numbers.extend_from_slice(&self.numbers)?;
         let copied = Narrow {
             numbers,
-            sorted: self.sorted,
+            sorted: 0,
             least: self.least,
             greatest: self.greatest,
             trace: self.trace.copy(),
