@@ -1,6 +1,6 @@
-use Rattle.std.proofs.Common.{ℤ, ◌≡◌, ◌<◌, ◌^◌, arith, rules}
+use Rattle.std.proofs.Common.{◌<◌, ◌^◌, arith}
 use Rattle.std.proofs.lemmas.Result.{IfOk-weaker}
-use Rattle.cube_values.specs.Bag.{Bag, SameHeld, size_of}
+use Rattle.cube_values.specs.Bag.{Bag, size_of}
 use Rattle.cube_values.specs.Narrow.{once_each}
 use Rattle.cube_values.specs.Statistics.{AreInOrder}
 use Rattle.cube_values.proofs.BagLaws.{size_of_same}

@@ -1,4 +1,4 @@
-use Rattle.std.proofs.Common.{ℤ, List, ◌≡◌, length, arith, rules}
+use Rattle.std.proofs.Common.{ℤ, List, ◌≡◌, length, rules}
 use Rattle.std.specs.List.Sorted.{IsPermutation, IsSorted}
 use Rattle.std.specs.Ordering.{int_cmp}
 use Rattle.cube_values.proofs.NarrowLaws.{IsNarrow-sorted}

@@ -1,7 +1,6 @@
-use Rattle.std.proofs.Common.{ℤ, List, ◌≡◌, length, arith, rules}
+use Rattle.std.proofs.Common.{ℤ, List, ◌≡◌, length, rules}
 use Rattle.std.specs.List.Sorted.{IsPermutation, IsSorted}
 use Rattle.std.specs.Ordering.{int_cmp}
-use Rattle.std.proofs.lemmas.List.Sorted.{length_permutation}
 use Rattle.cube_values.proofs.NarrowLaws.{IsNarrow-sorted}
 use Rattle.cube_values.proofs.narrow.Narrow.shrink_to_fit.Goals as goal
 

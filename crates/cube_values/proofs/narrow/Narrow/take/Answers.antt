@@ -3,7 +3,7 @@ use Rattle.std.specs.Prelude.{All, Contains, ◌≤ℤ◌}
 use Rattle.std.specs.List.{HoldsAt}
 use Rattle.std.specs.Ordering.{int_eq}
 use Rattle.std.proofs.lemmas.Int.{to_z-of_z}
-use Rattle.cube_values.specs.Bag.{Bag, held_of, size_of}
+use Rattle.cube_values.specs.Bag.{held_of, size_of}
 use Rattle.cube_values.specs.Narrow.{once_each}
 use Rattle.cube_values.proofs.BagLaws.{size_of_same}
 use Rattle.cube_values.proofs.NarrowLaws.{held_of-absent_once, takes_once, HasEnds-numbers, IsNarrow-list}
