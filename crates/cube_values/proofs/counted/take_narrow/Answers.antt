@@ -1,6 +1,6 @@
 use Rattle.std.proofs.Common.{ℤ, List, ◌≤◌, ◌<◌, length, arith, rules, FitsSigned, w64}
 use Rattle.std.proofs.lemmas.Int.{to_z-of_z}
-use Rattle.cube_values.specs.Bag.{held_of}
+use Rattle.cube_values.specs.Bag.{Bag, held_of}
 use Rattle.cube_values.specs.Narrow.{once_each}
 use Rattle.cube_values.proofs.BagLaws.{size_of_same}
 use Rattle.cube_values.proofs.NarrowLaws.{takes_last, size_of-once_each}
@@ -25,7 +25,8 @@ log_without-requires-clause-held c =
 
 pub log_without-requires-clause-fits : goal.log_without-requires-clause-fits
 log_without-requires-clause-fits c =
-    omega (arith, c.requires.fits, size_of_same c.args.narrow.now (once_each c.numbers-numbers.result.now) c.numbers-numbers.ensures)
+    let listed : Bag = once_each c.numbers-numbers.result.now in
+    omega (arith, c.requires.fits, size_of_same c.args.narrow.now listed c.numbers-numbers.ensures)
 
 pub returns-clause-other : goal.returns-clause-other
 returns-clause-other c = AddsOne-paid c.args.narrow.now (once_each c.numbers-numbers.result.now) _ c.args.value
