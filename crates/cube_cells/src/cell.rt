@@ -137,12 +137,13 @@ impl<N: Numbers> Cell<N> {
         merge_measures(&mut self.measures, &more.measures)
     }
 
-    /// Gives back the room beyond the values of each measure, which a cell of one fact has none of. It takes no memory.
-    pub fn shrink_to_fit(&mut self)
+    /// Gives back the room beyond the values of each measure, which a cell of one fact has none of, and brings many in order
+    /// where that is asked for. It takes no memory.
+    pub fn shrink_to_fit(&mut self, in_order: bool)
         ensures { self.new ≡ self.old }
     {
         if self.facts > 1 {
-            shrink_measures(&mut self.measures);
+            shrink_measures(&mut self.measures, in_order);
         }
     }
 
@@ -269,11 +270,11 @@ fn merge_measures<N: Numbers>(
     Ok(())
 }
 
-fn shrink_measures<N: Numbers>(measures: &mut [Measure<N>])
+fn shrink_measures<N: Numbers>(measures: &mut [Measure<N>], in_order: bool)
     ensures { measures.new ≡ measures.old }
 {
     for measure in measures.iter_mut() {
-        measure.shrink_to_fit();
+        measure.shrink_to_fit(in_order);
     }
 }
 

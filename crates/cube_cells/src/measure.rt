@@ -82,11 +82,14 @@ impl<N: Numbers> Measure<N> {
         Ok(())
     }
 
-    /// Gives back the room beyond the values. It takes no memory.
-    pub fn shrink_to_fit(&mut self)
+    /// Gives back the room beyond the values, and brings many in order where that is asked for. It takes no memory.
+    pub fn shrink_to_fit(&mut self, in_order: bool)
         ensures { self.new ≡ self.old }
     {
         self.values.shrink_to_fit();
+        if in_order {
+            self.values.bring_in_order();
+        }
     }
 
     /// How many values there are.

@@ -27,8 +27,7 @@ const SEARCHED: usize = 64;
 ///
 /// A number that is held alone, however often, takes no memory of its own. Numbers of 32 bits that come one at a time
 /// stand in a narrow list, of 4 bytes a number, which keeps its least and greatest number and looks at each for
-/// `holds`. Many of them are brought in order where room is given back, and those that come later stand behind them. It
-/// gives way to a form that counts how often each number is held where a wider number comes, or one many times at once,
+/// `holds`. Many of them may be brought in order, and those that come later stand behind them. It gives way to a form that counts how often each number is held where a wider number comes, or one many times at once,
 /// where the numbers repeat, and where one is taken from many.
 ///
 /// Of these forms, a short list takes few numbers. More are a log of what was added, with a list of what was taken
@@ -105,8 +104,8 @@ impl Counted {
         Ok(())
     }
 
-    /// Gives back the room that lists have beyond their numbers, and brings many of 32 bits in order; an add makes room
-    /// again where it needs some. It takes no memory.
+    /// Gives back the room that lists have beyond their numbers; an add makes room again where it needs some. It takes
+    /// no memory.
     pub fn shrink_to_fit(&mut self)
         ensures { self.new ≡ self.old }
     {
@@ -115,6 +114,16 @@ impl Counted {
             Values::Narrow(narrow) => narrow.shrink_to_fit(),
             Values::Logged(log) => log.shrink_to_fit(),
             Values::One(_) | Values::Many(_) => {}
+        }
+    }
+
+    /// Brings the numbers of a narrow list in order, where they are many: then a question of their order is answered by a
+    /// search. It takes no memory.
+    pub fn bring_in_order(&mut self)
+        ensures { self.new ≡ self.old }
+    {
+        if let Values::Narrow(narrow) = &mut self.values {
+            narrow.bring_in_order();
         }
     }
 

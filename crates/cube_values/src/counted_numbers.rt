@@ -29,6 +29,10 @@ impl Numbers for Counted {
         self.shrink_to_fit();
     }
 
+    fn bring_in_order(&mut self) {
+        self.bring_in_order();
+    }
+
     fn least(&self) -> Option<i64> {
         self.least()
     }

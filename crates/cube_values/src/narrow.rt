@@ -33,7 +33,7 @@ const SHARE: usize = 64;
 
 /// Many numbers of 32 bits, each as often as it is held, with their ends. There is one at least.
 ///
-/// A number is put behind the others, which are brought in order where room is given back.
+/// A number is put behind the others, which may be brought in order.
 #[derive(Drop)]
 pub struct Narrow {
     numbers: Vec<i32>,
@@ -181,11 +181,17 @@ impl Narrow {
         Ok(true)
     }
 
-    /// Gives back the room beyond the numbers, and brings many in order.
+    /// Gives back the room beyond the numbers.
     pub fn shrink_to_fit(&mut self)
         ensures { self.new ≡ self.old }
     {
         self.numbers.shrink_to_fit();
+    }
+
+    /// Brings the numbers in order, where they are many.
+    pub fn bring_in_order(&mut self)
+        ensures { self.new ≡ self.old }
+    {
         let count = self.numbers.len();
         if count >= SORTED && self.sorted < count {
             self.numbers.sort_unstable();

@@ -36,6 +36,11 @@ pub trait Numbers: Drop {
     fn shrink_to_fit(&mut self)
         ensures { bag self.new ≡ bag self.old };
 
+    /// Brings the numbers in order, where they are many and what is asked of them is then answered sooner. It takes no
+    /// memory.
+    fn bring_in_order(&mut self)
+        ensures { bag self.new ≡ bag self.old };
+
     /// The least number.
     fn least(&self) -> Option<i64>
         ensures none { IsNone result ↔ (size_of (bag self.now) ≡ 0) }
@@ -95,6 +100,8 @@ impl Numbers for Summary {
     fn shrink_to_fit(&mut self) {
         self.shrink_to_fit();
     }
+
+    fn bring_in_order(&mut self) {}
 
     fn least(&self) -> Option<i64> {
         self.least()

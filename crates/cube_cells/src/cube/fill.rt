@@ -52,8 +52,9 @@ impl<N: Numbers> Cube<N> {
             ..
         } = finest;
         let mut finest = levels.remove(0);
-        shrink_cells(&mut finest.cells);
-        self.levels = filled_levels(self.alloc, finest, &self.sets, measures)?;
+        let in_order = self.schema.needs_numbers();
+        shrink_cells(&mut finest.cells, in_order);
+        self.levels = filled_levels(self.alloc, finest, &self.sets, measures, in_order)?;
         self.facts = facts;
         self.dictionaries = dictionaries;
         Ok(())
@@ -74,6 +75,7 @@ fn filled_levels<N: Numbers>(
     finest: Level<N>,
     sets: &[u8],
     measures: usize,
+    in_order: bool,
 ) -> Result<Vec<Level<N>>, AllocError>
     requires width { All (λ cell. length cell.1.bags ≡ measures) finest.cells.entries }
     requires within { All (λ set. bit_and finest.set set ≡ set) sets.now }
@@ -82,11 +84,11 @@ fn filled_levels<N: Numbers>(
 {
     match sets.split_last() {
         Some((last, coarser)) if *last == finest.set => {
-            let mut levels = levels_from(alloc, &finest, coarser, measures)?;
+            let mut levels = levels_from(alloc, &finest, coarser, measures, in_order)?;
             levels.push(finest)?;
             Ok(levels)
         }
-        _ => levels_from(alloc, &finest, sets, measures),
+        _ => levels_from(alloc, &finest, sets, measures, in_order),
     }
 }
 
@@ -97,6 +99,7 @@ fn levels_from<N: Numbers>(
     finest: &Level<N>,
     sets: &[u8],
     measures: usize,
+    in_order: bool,
 ) -> Result<Vec<Level<N>>, AllocError>
     requires width { All (λ cell. length cell.1.bags ≡ measures) finest.now.cells.entries }
     requires finer { All (IsFiner finest.now.set) sets.now }
@@ -105,7 +108,7 @@ fn levels_from<N: Numbers>(
 {
     let mut levels = Vec::with_capacity(alloc, sets.len())?;
     for place in (0..sets.len()).rev() {
-        let level = level_from(alloc, finest, &levels, sets[place], measures)?;
+        let level = level_from(alloc, finest, &levels, sets[place], measures, in_order)?;
         levels.push(level)?;
     }
     levels.reverse();
@@ -119,6 +122,7 @@ fn level_from<N: Numbers>(
     levels: &[Level<N>],
     set: u8,
     measures: usize,
+    in_order: bool,
 ) -> Result<Level<N>, AllocError>
     requires finer { IsFiner finest.now.set set }
     requires first { All (λ cell. length cell.1.bags ≡ measures) finest.now.cells.entries }
@@ -126,7 +130,7 @@ fn level_from<N: Numbers>(
     ensures { IfOk result (IsMadeLevel measures finest.now levels.now set) }
 {
     let finer = smallest_finer(finest, levels, set);
-    let cells = cells_from(alloc, &finer.cells, set, measures)?;
+    let cells = cells_from(alloc, &finer.cells, set, measures, in_order)?;
     Ok(Level { set, cells })
 }
 
@@ -162,6 +166,7 @@ fn cells_from<N: Numbers>(
     finer: &Cells<N>,
     set: u8,
     measures: usize,
+    in_order: bool,
 ) -> Result<Cells<N>, AllocError>
     requires { All (λ cell. length cell.1.bags ≡ measures) finer.now.entries }
     ensures made { IfOk result (λ cells.
@@ -171,16 +176,16 @@ fn cells_from<N: Numbers>(
 {
     let mut cells = new_cells(alloc, *finer.hasher(), measures, set == 0)?;
     fill_set(alloc, &mut cells, finer, set)?;
-    shrink_cells(&mut cells);
+    shrink_cells(&mut cells, in_order);
     Ok(cells)
 }
 
-// Gives back the room beyond the values of each cell.
-fn shrink_cells<N: Numbers>(cells: &mut Cells<N>)
+// Gives back the room beyond the values of each cell, and brings many in order where that is asked for.
+fn shrink_cells<N: Numbers>(cells: &mut Cells<N>, in_order: bool)
     ensures { cells.new.entries ≡ cells.old.entries }
 {
     cells.retain(|_, cell| {
-        cell.shrink_to_fit();
+        cell.shrink_to_fit(in_order);
         true
     });
 }

@@ -2,7 +2,7 @@ use Rattle.std.proofs.Common.{ℤ, List, ◌≡◌, length, rules}
 use Rattle.std.specs.List.Sorted.{IsPermutation, IsSorted}
 use Rattle.std.specs.Ordering.{int_cmp}
 use Rattle.cube_values.proofs.NarrowLaws.{IsNarrow-sorted}
-use Rattle.cube_values.proofs.narrow.Narrow.shrink_to_fit.Goals as goal
+use Rattle.cube_values.proofs.narrow.Narrow.bring_in_order.Goals as goal
 
 pub invariant_of-self : goal.invariant_of-self
 invariant_of-self c =
