@@ -54,8 +54,12 @@ impl Model for Taken {
 
 impl Taken {
     /// What was taken of a part whose cube is over the finest grouping set alone, by summaries, which suffice for the
-    /// aggregates of its schema. The only error is that memory ran out.
-    fn of_summaries(part: MadePart<Summary>) -> Result<Taken, AllocError>
+    /// aggregates of its schema, put in order by so many threads. The only error is that memory ran out.
+    fn of_summaries<T: Threads + Sync>(
+        rt: &T,
+        threads: usize,
+        part: MadePart<Summary>,
+    ) -> Result<Taken, AllocError>
         requires finest { IsOverFinest part.builder.cube }
         requires numbers { all_suffice false part.builder.ledger.schema ≡ true }
         ensures ledger { IfOk result (λ taken. taken.ledger ≡ part.builder.ledger) }
@@ -68,7 +72,7 @@ impl Taken {
         } = part;
         let facts = counts.facts();
         let (refused, cube, trace) = counts.into_parts();
-        let cells = BaseCuboid::Summaries(FinestCells::of(cube)?);
+        let cells = BaseCuboid::Summaries(FinestCells::of(rt, threads, cube)?);
         Ok(Taken {
             refused,
             cells,
@@ -78,9 +82,13 @@ impl Taken {
         })
     }
 
-    /// What was taken of a part whose cube is over the finest grouping set alone, by its numbers. The only error is that
-    /// memory ran out.
-    fn of_numbers(part: MadePart<Counted>) -> Result<Taken, AllocError>
+    /// What was taken of a part whose cube is over the finest grouping set alone, by its numbers, put in order by so many
+    /// threads. The only error is that memory ran out.
+    fn of_numbers<T: Threads + Sync>(
+        rt: &T,
+        threads: usize,
+        part: MadePart<Counted>,
+    ) -> Result<Taken, AllocError>
         requires { IsOverFinest part.builder.cube }
         ensures ledger { IfOk result (λ taken. taken.ledger ≡ part.builder.ledger) }
         ensures cells { IfOk result (λ taken. HaveFactsOf part.builder.ledger taken.cells) }
@@ -92,7 +100,7 @@ impl Taken {
         } = part;
         let facts = counts.facts();
         let (refused, cube, trace) = counts.into_parts();
-        let cells = BaseCuboid::Numbers(FinestCells::of(cube)?);
+        let cells = BaseCuboid::Numbers(FinestCells::of(rt, threads, cube)?);
         Ok(Taken {
             refused,
             cells,
@@ -154,13 +162,13 @@ pub fn take_where<T: Threads + Wait + Sync, R: Read + Drop + Send, G: Gate + Syn
 {
     if schema.needs_numbers() {
         let part = take_part(rt, alloc, schema, readers, settings, gate, conditions)?;
-        return match Taken::of_numbers(part) {
+        return match Taken::of_numbers(rt, settings.threads(), part) {
             Ok(taken) => Ok(taken),
             Err(_) => Err(FeedingFault::Full),
         };
     }
     let part = take_part(rt, alloc, schema, readers, settings, gate, conditions)?;
-    match Taken::of_summaries(part) {
+    match Taken::of_summaries(rt, settings.threads(), part) {
         Ok(taken) => Ok(taken),
         Err(_) => Err(FeedingFault::Full),
     }
@@ -179,9 +187,9 @@ pub fn take_ledger<T: Threads + Sync>(
     ensures no_inlets { IfOk result (λ taken. taken.inlets ≡ []) }
 {
     if ledger.schema().needs_numbers() {
-        Taken::of_numbers(part_of(rt, alloc, threads, ledger)?)
+        Taken::of_numbers(rt, threads, part_of(rt, alloc, threads, ledger)?)
     } else {
-        Taken::of_summaries(part_of(rt, alloc, threads, ledger)?)
+        Taken::of_summaries(rt, threads, part_of(rt, alloc, threads, ledger)?)
     }
 }
 

@@ -11,3 +11,4 @@ pub mod BottomUpCubeLaws
 pub mod RankedLaws
 pub mod PruneLaws
 pub mod PartLaws
+pub mod RangeLaws

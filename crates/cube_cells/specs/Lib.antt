@@ -15,6 +15,7 @@ pub mod Places
 pub mod Shares
 pub mod Merged
 pub mod BottomUp
+pub mod Ranges
 pub mod Ranking
 pub mod WalkParts
 pub mod FinestRows

@@ -26,10 +26,12 @@ mod levels;
 mod merged;
 mod ordered;
 mod queries;
+mod ranges;
 mod ranks;
 mod rows;
 mod shares;
 mod sorted_texts;
+mod sorting;
 mod walk;
 mod walk_parts;
 

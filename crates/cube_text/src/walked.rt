@@ -107,7 +107,7 @@ fn print_finest<T: Threads + Sync, N: Numbers + Send + Sync>(
     }
     let header = text_of_header(alloc, cells.schema())?;
     let shown = all_shown(alloc, cells)?;
-    let raised = cells.raised()?;
+    let raised = cells.raised(rt, threads)?;
     let parts = raised.parts(threads.saturating_mul(PARTS))?;
     let texts = texts_of_parts(rt, alloc, cells, &shown, &parts)?;
     Pieces::of(alloc, header, texts)

@@ -724,7 +724,7 @@ AreUnited-more cells joined new cell are up (inr puts) = record {
   at_last x (suc j) e within below = absurd (omega (arith, within))
 
 -- they are items
-All-raise : (measures from : ℕ) (items : CodedCells) → All (IsItem measures) items
+pub All-raise : (measures from : ℕ) (items : CodedCells) → All (IsItem measures) items
     → All (IsItem measures) (raise from items)
 All-raise measures from items each =
     All-map (IsItem measures) (λ (item : Codes × Tally). (all_at from item.0, item.1)) items (λ k d inside. record {
@@ -733,20 +733,28 @@ All-raise measures from items each =
       some = (each k d inside).some;
     })
 
--- the items with ALL, put in order and joined
-pub AreRaised-AreUnited : (from : ℕ) (items sorted raised : CodedCells) → IsPermutation (raise from items) sorted
-    → AreUnited sorted raised → AreRaised from items raised
-AreRaised-AreUnited from items sorted raised moved are = record {
+-- cells that are put in order first
+pub AreUnited-permutation : (cells sorted joined : CodedCells) → IsPermutation cells sorted → AreUnited sorted joined
+    → AreUnited cells joined
+AreUnited-permutation cells sorted joined moved are = record {
   weighs = λ part is weight. are.weighs part is weight
-      ∙ sum_by-IsPermutation (λ (cell : Codes × Tally). weight cell.0 * part cell.1) (raise from items) sorted moved
-      ∙ weigh-raise from part weight items;
+      ∙ sum_by-IsPermutation (λ (cell : Codes × Tally). weight cell.0 * part cell.1) cells sorted moved;
+  in_order = are.in_order;
+  among = λ k d inside. Contains-permutation (map (λ cell. cell.0) sorted) (map (λ cell. cell.0) cells)
+      (get_or joined k d).0 (IsPermutation-sym (map (λ cell. cell.0) cells) (map (λ cell. cell.0) sorted)
+      (IsPermutation-map (λ (cell : Codes × Tally). cell.0) cells sorted moved)) (are.among k d inside);
+  each = λ measures each. are.each measures (All-permutation (IsItem measures) cells sorted moved each);
+}
+
+-- the items with ALL, joined
+pub AreRaised-AreUnited : (from : ℕ) (items raised : CodedCells) → AreUnited (raise from items) raised
+    → AreRaised from items raised
+AreRaised-AreUnited from items raised are = record {
+  weighs = λ part is weight. are.weighs part is weight ∙ weigh-raise from part weight items;
   in_order = are.in_order;
   among = λ k d inside. subst (λ (l : List Codes). Contains l (get_or raised k d).0) (codes-raise from items)
-      (Contains-permutation (map (λ cell. cell.0) sorted) (map (λ cell. cell.0) (raise from items))
-      (get_or raised k d).0 (IsPermutation-sym (map (λ cell. cell.0) (raise from items)) (map (λ cell. cell.0) sorted)
-      (IsPermutation-map (λ (cell : Codes × Tally). cell.0) (raise from items) sorted moved)) (are.among k d inside));
-  each = λ measures each. are.each measures (All-permutation (IsItem measures) (raise from items) sorted moved
-      (All-raise measures from items each));
+      (are.among k d inside);
+  each = λ measures each. are.each measures (All-raise measures from items each);
 }
 
 -- they can be walked over
@@ -948,20 +956,11 @@ joined-more {N} lent i one joined new is inside sorted are joins =
     subst (λ (l : CodedCells). AreUnited l new) (sym (cells_of_lent-more lent i one is inside))
     (AreUnited-more (cells_of_lent (take i lent)) joined new (f one) are upper joins)
 
--- items that are lent with ALL and put in order
-pub lent-IsPermutation : {N : Type 0} (from : ℕ) (items : CodedCells) (lent sorted : List (Lent N))
-    → cells_of_lent lent ≡ raise from items → IsPermutation lent sorted
-    → IsPermutation (raise from items) (cells_of_lent sorted)
-lent-IsPermutation {N} from items lent sorted is moved =
-    subst (λ (l : CodedCells). IsPermutation l (cells_of_lent sorted)) is
-    (IsPermutation-map {X = Codes × Tally} (λ (a : Lent N). (a.codes, a.cell.now)) lent sorted moved)
-
-pub All-lent : {N : Type 0} (measures from : ℕ) (items : CodedCells) (lent sorted : List (Lent N))
-    → cells_of_lent lent ≡ raise from items → IsPermutation lent sorted → All (IsItem measures) items
-    → All (IsItem measures) (cells_of_lent sorted)
-All-lent measures from items lent sorted is moved each =
-    All-permutation (IsItem measures) (raise from items) (cells_of_lent sorted)
-    (lent-IsPermutation from items lent sorted is moved) (All-raise measures from items each)
+-- items that are lent and put in order
+pub lent-IsPermutation : {N : Type 0} (lent sorted : List (Lent N)) → IsPermutation lent sorted
+    → IsPermutation (cells_of_lent lent) (cells_of_lent sorted)
+lent-IsPermutation {N} lent sorted moved =
+    IsPermutation-map {X = Codes × Tally} (λ (a : Lent N). (a.codes, a.cell.now)) lent sorted moved
 
 -- ---- while items are walked over
 -- the runs before a place are walked over

@@ -233,9 +233,8 @@ pub fn raised<N: Numbers>(
     requires items { (measures : ℕ) × All (IsItem measures) (cells_of_items items.now) }
     ensures { IfOk result (λ raised. AreRaised from (cells_of_items items.now) (cells_of_items raised.items)) }
 {
-    let mut lent = lent_with_all(alloc, from, items)?;
-    lent.sort_unstable_by(|a, b| a.codes.cmp(&b.codes));
-    joined(alloc, &lent)
+    let lent = lent_with_all(alloc, from, items)?;
+    united(alloc, lent)
 }
 
 // The items with ALL in a dimension.
@@ -255,6 +254,16 @@ fn lent_with_all<N: Numbers>(
         })?;
     }
     Ok(lent)
+}
+
+/// Cells put in the order of their codes, with those of the same codes merged.
+pub fn united<N: Numbers>(alloc: Global, lent: Vec<Lent<'_, N>>) -> Result<Vec<Item<N>>, AllocError>
+    requires { (measures : ℕ) × All (IsItem measures) (cells_of_lent lent.items) }
+    ensures { IfOk result (λ united. AreUnited (cells_of_lent lent.entry.items) (cells_of_items united.items)) }
+{
+    let mut lent = lent;
+    lent.sort_unstable_by(|a, b| a.codes.cmp(&b.codes));
+    joined(alloc, &lent)
 }
 
 // Cells in the order of their codes, with those of the same codes merged.

@@ -20,12 +20,14 @@ use super::codes::Codes;
 use super::levels::Cells;
 use super::ranks::{RankedTexts, all_ranked, ranked_codes};
 use super::sorted_texts::SortedTexts;
+use super::sorting::put_in_order;
 use super::walk_parts::RaisedCells;
 use crate::cell::Cell;
 use cube_core::{CoordRef, Schema};
 use cube_values::Numbers;
 use std::alloc::{AllocError, Global};
 use std::marker::Model;
+use std::thread::Threads;
 
 /// The cells of some facts over the finest grouping set, in key order. A walk over them hands over the cells of all grouping
 /// sets of their schema, and no other cell is kept. Where an aggregate of the schema is holistic, each number is kept.
@@ -56,9 +58,15 @@ impl<N: Numbers> Model for FinestCells<N> {
 }
 
 impl<N: Numbers> FinestCells<N> {
-    /// The cells of a cube over the finest grouping set alone, with the texts of each dimension put in their order. The only
-    /// error is that memory ran out.
-    pub fn of(finest: Cube<N>) -> Result<FinestCells<N>, AllocError>
+    /// The cells of a cube over the finest grouping set alone, with the texts of each dimension put in their order, by as many
+    /// threads as this says. With one thread, or none, no thread is started. The only error is that memory ran out.
+    pub fn of<T: Threads + Sync>(
+        rt: &T,
+        threads: usize,
+        finest: Cube<N>,
+    ) -> Result<FinestCells<N>, AllocError>
+    where
+        N: Send + Sync,
         requires sets { finest.sets ≡ finest_set (length finest.schema.dimensions) ∷ [] }
         requires facts { (facts : List Fact) × IsCubeOfAll facts finest }
         requires numbers { all_suffice N.keeps finest.schema ≡ true }
@@ -76,7 +84,7 @@ impl<N: Numbers> FinestCells<N> {
         } = finest;
         let level = levels.remove(0);
         let ranked = all_ranked(alloc, dictionaries)?;
-        let items = items_in_order(alloc, &ranked, level.cells)?;
+        let items = items_in_order(rt, threads, alloc, &ranked, level.cells)?;
         let texts = sorted_texts(alloc, ranked)?;
         Ok(FinestCells {
             alloc,
@@ -126,14 +134,21 @@ impl<N: Numbers> FinestCells<N> {
         self.facts
     }
 
-    /// These cells, with what the parts of a walk over their cube go over. The only error is that memory ran out.
-    pub fn raised(&self) -> Result<RaisedCells<'_, N>, AllocError>
-        requires { 0 < self.now.facts }
+    /// These cells, with what the parts of a walk over their cube go over, made by as many threads as this says. With one
+    /// thread, or none, no thread is started. The only error is that memory ran out.
+    pub fn raised<T: Threads + Sync>(
+        &self,
+        rt: &T,
+        threads: usize,
+    ) -> Result<RaisedCells<'_, N>, AllocError>
+    where
+        N: Send + Sync,
+        requires some { 0 < self.now.facts }
         ensures { IfOk result (λ raised. raised ≡ self.now) }
     {
         let dimensions = self.schema.dimensions().len();
         let kept = kept_masks(self.alloc, dimensions, self.schema.grouping_sets())?;
-        RaisedCells::of(self.alloc, self, &self.items, kept)
+        RaisedCells::of(rt, threads, self.alloc, self, &self.items, kept)
     }
 
     /// Hands the cells of the cube of the facts over all grouping sets of the schema over, in key order. The only error is
@@ -192,20 +207,22 @@ fn sorted_texts(alloc: Global, ranked: Vec<RankedTexts>) -> Result<Vec<SortedTex
     Ok(texts)
 }
 
-// The cells of a table by the ranks of their codes, in the order of these.
-fn items_in_order<N: Numbers>(
+// The cells of a table by the ranks of their codes, in the order of these, into which as many threads as this says put them.
+fn items_in_order<T: Threads + Sync, N: Numbers + Send + Sync>(
+    rt: &T,
+    threads: usize,
     alloc: Global,
     ranked: &[RankedTexts],
     cells: Cells<N>,
 ) -> Result<Vec<Item<N>>, AllocError>
-    requires { length ranked.now ≤ 8 }
+    requires few { length ranked.now ≤ 8 }
     ensures same { IfOk result (λ items.
         IsPermutation (ranked_cells ranked.now cells.entries) (cells_of_items items.items)) }
     ensures order { IfOk result (λ items.
         IsSortedBy (λ a b. is_lt (slice_cmp nat_cmp a.codes.codes b.codes.codes)) items.items) }
 {
     let mut items = items_of(alloc, ranked, cells)?;
-    items.sort_unstable_by(|a, b| a.codes.cmp(&b.codes));
+    put_in_order(rt, threads, &mut items)?;
     Ok(items)
 }
 

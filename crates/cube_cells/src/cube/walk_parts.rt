@@ -5,11 +5,13 @@ ghost use Rattle.cube_cells.specs.Tally.{Tally};
 ghost use Rattle.cube_cells.specs.WalkParts.{AreRaisedOver, ArePartsOf, ArePartsOfCube, CanWalkPart, PutsRuns, PutsLast, TakesPart, WalkGivesCube, cells_of_lists, part_of};
 ghost use Rattle.cube_cells.specs.declared.cube.codes.Codes.{Codes};
 
-use super::bottom_up::{Item, TakesCells, end_of_run, is_any_kept, raised, walk, walk_runs};
+use super::bottom_up::{Item, TakesCells, end_of_run, is_any_kept, walk, walk_runs};
 use super::finest_cells::FinestCells;
+use super::ranges::raised_by;
 use cube_values::Numbers;
 use std::alloc::{AllocError, Global};
 use std::marker::Model;
+use std::thread::Threads;
 
 // How many items are too few to be cut.
 const FEW: usize = 1_000;
@@ -72,18 +74,23 @@ struct Lists<'c, N: Numbers> {
 }
 
 impl<'c, N: Numbers> RaisedCells<'c, N> {
-    /// Finest cells with their items, where a walk over these gives the cube. The only error is that memory ran out.
-    pub(super) fn of(
+    /// Finest cells with their items, where a walk over these gives the cube, raised by as many threads as this says. The
+    /// only error is that memory ran out.
+    pub(super) fn of<T: Threads + Sync>(
+        rt: &T,
+        threads: usize,
         alloc: Global,
         finest: &'c FinestCells<N>,
         items: &'c [Item<N>],
         kept: Vec<bool>,
     ) -> Result<RaisedCells<'c, N>, AllocError>
-        requires { WalkGivesCube finest.now kept.items (cells_of_items items.now) }
+    where
+        N: Send + Sync,
+        requires walk { WalkGivesCube finest.now kept.items (cells_of_items items.now) }
         ensures { IfOk result (λ raised. raised ≡ finest.now) }
     {
         let dimensions = finest.schema().dimensions().len();
-        let raised = raised_lists(alloc, &kept, dimensions, items)?;
+        let raised = raised_lists(rt, threads, alloc, &kept, dimensions, items)?;
         Ok(RaisedCells {
             alloc,
             finest,
@@ -216,8 +223,10 @@ impl<'c, N: Numbers> Lists<'c, N> {
 }
 
 // Lists of items with ALL in the first dimension, in the first two, and so on, up to one that is short or above which no set
-// is kept.
-fn raised_lists<N: Numbers>(
+// is kept, made by as many threads as this says.
+fn raised_lists<T: Threads + Sync, N: Numbers + Send + Sync>(
+    rt: &T,
+    threads: usize,
     alloc: Global,
     kept: &[bool],
     dimensions: usize,
@@ -230,7 +239,7 @@ fn raised_lists<N: Numbers>(
     let mut lists = Vec::new(alloc);
     let mut from = 0;
     while from < dimensions && is_to_raise(kept, from, items_at(items, &lists, from)) {
-        let next = raised(alloc, from, items_at(items, &lists, from))?;
+        let next = raised_by(rt, threads, alloc, from, items_at(items, &lists, from))?;
         lists.push(next)?;
         from += 1;
     }

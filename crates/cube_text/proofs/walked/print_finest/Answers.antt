@@ -13,8 +13,8 @@ returns-then-threads-le1 g c = IfOk-weaker c.of.result _ _ (λ text gathers fact
     subst (IsPrinted c.args.cells.now.schema facts) (sym (GathersPieces-none c.in_ok-text.text.items text gathers))
     (c.in_ok-text.ensures facts all)) (rw c.new.ensures.items at c.of.ensures)
 
-pub raised-requires : goal.raised-requires
-raised-requires g c = omega (arith, c.facts.ensures, c.if-facts-eq0.false)
+pub raised-requires-clause-some : goal.raised-requires-clause-some
+raised-requires-clause-some g c = omega (arith, c.facts.ensures, c.if-facts-eq0.false)
 
 pub returns : goal.returns
 returns g c = IfOk-weaker c.of-2.result _ _ (λ text gathers facts all.

@@ -2,32 +2,32 @@ use Rattle.cube_core.proofs.SufficesLaws.{all_suffice_kept}
 use Rattle.cube_ledger.specs.Ledger.{all_facts}
 use Rattle.cube_build.specs.Counting.{HaveFactsOf}
 use Rattle.cube_build.proofs.TakenLaws.{counts-all, finest-has, finest-taken}
-use Rattle.cube_build.proofs.taken.Taken.of_numbers.Goals.{In_ok-of}
+use Rattle.cube_build.proofs.taken.Taken.of_numbers.Goals.{In_ok-of, Over}
 use Rattle.cube_build.proofs.taken.Taken.of_numbers.Goals as goal
 
 pub of-requires-clause-sets : goal.of-requires-clause-sets
-of-requires-clause-sets c = rw c.into_parts-refused.ensures.cube c.requires
+of-requires-clause-sets g c = rw c.into_parts-refused.ensures.cube c.requires
 
 pub of-requires-clause-facts : goal.of-requires-clause-facts
-of-requires-clause-facts c = (
+of-requires-clause-facts g c = (
   all_facts c.into_parts-refused.result.2.ledger.accounts,
   counts-all c.into_parts-refused.result.0 c.into_parts-refused.result.2.ledger c.into_parts-refused.result.1 c.into_parts-refused.ensures.are,
 )
 
 pub of-requires-clause-numbers : goal.of-requires-clause-numbers
-of-requires-clause-numbers c = all_suffice_kept c.into_parts-refused.result.1.schema
+of-requires-clause-numbers g c = all_suffice_kept c.into_parts-refused.result.1.schema
 
 -- the finest cells have the facts of the ledger
-has : (c : In_ok-of) → HaveFactsOf c.into_parts-refused.result.2.ledger c.in_ok-of.field-0
-has c =
+has : (g : Over) (c : In_ok-of g) → HaveFactsOf c.into_parts-refused.result.2.ledger c.in_ok-of.field-0
+has g c =
     finest-has c.into_parts-refused.result.0 c.into_parts-refused.result.2.ledger c.into_parts-refused.result.1
     c.in_ok-of.field-0 c.into_parts-refused.ensures.are c.in_ok-of.ensures.schema c.in_ok-of.ensures.facts
 
 pub invariant_of-result : goal.invariant_of-result
-invariant_of-result c =
+invariant_of-result g c =
     finest-taken c.into_parts-refused.result.0 c.into_parts-refused.result.2.ledger c.args.part.builder.ledger
     c.into_parts-refused.result.1 c.in_ok-of.field-0 c.facts-facts.result c.into_parts-refused.ensures.are
-    (has (goal.at.invariant_of-result c).In_ok-of) c.into_parts-refused.ensures.ledger c.facts-facts.ensures
+    (has g (goal.at.invariant_of-result g c).In_ok-of) c.into_parts-refused.ensures.ledger c.facts-facts.ensures
 
 pub returns-clause-cells : goal.returns-clause-cells
-returns-clause-cells c = rw (← c.into_parts-refused.ensures.ledger) (has (goal.at.returns-clause-cells c).In_ok-of)
+returns-clause-cells g c = rw (← c.into_parts-refused.ensures.ledger) (has g (goal.at.returns-clause-cells g c).In_ok-of)

@@ -6,8 +6,8 @@ use Rattle.cube_cells.proofs.Filling.PartLaws.{AreRaisedOver-more, CanWalk-at, c
 use Rattle.cube_cells.proofs.Filling.PartLaws.{length-cells_of_lists}
 use Rattle.cube_cells.proofs.cube.walk_parts.raised_lists.Goals as goal
 
-pub raised-requires-clause-items : goal.raised-requires-clause-items
-raised-requires-clause-items g c =
+pub raised_by-requires-clause-items : goal.raised_by-requires-clause-items
+raised_by-requires-clause-items g c = λ lifetimes live.
     let lists = c.loop-from.lists.items in
     let can = CanWalk-at c.args.dimensions (cells_of_items c.args.items.now) (cells_of_lists lists) c.loop-from.from
     c.loop-from.invariant.raised (omega (arith, c.loop-from.invariant.long, length-cells_of_lists lists)) in

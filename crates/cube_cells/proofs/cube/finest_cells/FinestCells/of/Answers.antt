@@ -7,8 +7,8 @@ use Rattle.cube_cells.proofs.Cells.LeveledLaws.{sole_level}
 use Rattle.cube_cells.proofs.Filling.RankedLaws.{AreToWalk-ranked, IsCubeOfAll-ranked}
 use Rattle.cube_cells.proofs.cube.finest_cells.FinestCells.of.Goals as goal
 
-pub items_in_order-requires : goal.items_in_order-requires
-items_in_order-requires g c = rw c.deref.ensures.value (omega (
+pub items_in_order-requires-clause-few : goal.items_in_order-requires-clause-few
+items_in_order-requires-clause-few g c = rw c.deref.ensures.value (omega (
   arith,
   AllZip-long IsRanking c.finest.inside.dictionaries.items c.in_ok-ranked.ranked.items c.in_ok-ranked.ensures,
   c.finest.invariant.coded.lattice.dictionaries,
