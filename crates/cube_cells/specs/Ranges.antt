@@ -14,7 +14,8 @@ use Rattle.cube_cells.specs.declared.cube.codes.Codes.{Codes}
 abbrev pub AreInOrder : List Codes → Type 0
 AreInOrder marks = IsSortedBy (λ a b. is_lt (slice_cmp nat_cmp a.codes b.codes)) marks
 
--- whether codes come at or after the beginning of a range: the first one begins before all codes, each other one at a mark
+-- whether codes come at or after the beginning of a range: the first one begins before all codes, each other one
+-- at a mark
 abbrev pub is_from : List Codes → ℕ → Codes → Bool
 is_from marks zero codes = true
 is_from marks (suc before) codes = ltb (suc before * 32) (length marks)

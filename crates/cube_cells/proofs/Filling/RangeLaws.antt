@@ -1,6 +1,8 @@
 -- Laws of ranges of codes: the raised items of all ranges, one range behind another, are the raised items.
-use Rattle.std.proofs.Common.{◌≡◌, ℕ, zero, suc, ◌+◌, ◌*◌, ◌/◌, ◌<◌, ◌≤◌, ◌&&◌, List, [], ◌∷◌, ◌++◌, Bool, true, false, not}
-use Rattle.std.proofs.Common.{refl, sym, ap, ◌∙◌, subst, add-one, arith, inl, inr, length, get_or, take, map, filter, cond, ltb}
+use Rattle.std.proofs.Common.{◌≡◌, ℕ, zero, suc, ◌+◌, ◌*◌, ◌/◌, ◌<◌, ◌≤◌, ◌&&◌, List, [], ◌∷◌, ◌++◌}
+use Rattle.std.proofs.Common.{Bool, true, false, not}
+use Rattle.std.proofs.Common.{refl, sym, ap, ◌∙◌, subst, add-one, arith, inl, inr}
+use Rattle.std.proofs.Common.{length, get_or, take, map, filter, cond, ltb}
 use Rattle.std.specs.Prelude.{All, Contains}
 use Rattle.std.specs.Cmp.Lexicographic.{slice_cmp}
 use Rattle.std.specs.Global.{Vec}
@@ -17,9 +19,10 @@ use Rattle.std.proofs.lemmas.List.Concat.{flat_map-append}
 use Rattle.std.proofs.lemmas.List.Elements.{All-append, All-contains, All-map, All-nil, filter_passes}
 use Rattle.std.proofs.lemmas.List.Elements.{Contains-append_left, Contains-append_right, recursion_from_All}
 use Rattle.std.proofs.lemmas.List.Sorted.{All-permutation, Contains-permutation, IsPermutation-filter_both}
-use Rattle.std.proofs.lemmas.List.Sorted.{IsPermutation-map, IsPermutation-sym, ranks_by, sorted_far, sum_by-IsPermutation}
+use Rattle.std.proofs.lemmas.List.Sorted.{IsPermutation-map, IsPermutation-sym, ranks_by, sorted_far}
+use Rattle.std.proofs.lemmas.List.Sorted.{sum_by-IsPermutation}
 use Rattle.cube_core.proofs.ListLaws.{filter-all}
-use Rattle.cube_cells.specs.BottomUp.{AreRaised, IsItem, all_at, cells_of_items, codes_cmp, weigh}
+use Rattle.cube_cells.specs.BottomUp.{AreRaised, IsItem, all_at, cells_of_items, codes_cmp}
 use Rattle.cube_cells.specs.Coded.{CodedCells}
 use Rattle.cube_cells.specs.Ranges.{AreInOrder, AreRaisedIn, is_from, is_in_range, items_in}
 use Rattle.cube_cells.specs.Tally.{Tally}
@@ -110,7 +113,8 @@ AreRaised-permutation : (from : ℕ) (items others raised : CodedCells) → IsPe
     → AreRaised from items raised → AreRaised from others raised
 AreRaised-permutation from items others raised moved are = record {
   weighs = λ part is weight. are.weighs part is weight
-      ∙ sym (sum_by-IsPermutation (λ (cell : Codes × Tally). weight (all_at from cell.0) * part cell.1) items others moved);
+      ∙ sym (sum_by-IsPermutation (λ (cell : Codes × Tally). weight (all_at from cell.0) * part cell.1)
+      items others moved);
   in_order = are.in_order;
   among = λ k d inside. Contains-permutation (map (λ item. all_at from item.0) items)
       (map (λ item. all_at from item.0) others) (get_or raised k d).0
@@ -153,7 +157,8 @@ AreRaised-append from test apart first second low high fail pass of_first of_sec
   at : (items raised : CodedCells) (answer : Bool) → All (λ item. test (all_at from item.0) ≡ answer) items
       → AreRaised from items raised → All (λ cell. test cell.0 ≡ answer) raised
   at items raised answer each are = λ k d inside. All-contains (λ (codes : Codes). test codes ≡ answer)
-      (map raise_codes items) (get_or raised k d).0 (All-map (λ (codes : Codes). test codes ≡ answer) raise_codes items each)
+      (map raise_codes items) (get_or raised k d).0
+      (All-map (λ (codes : Codes). test codes ≡ answer) raise_codes items each)
       (are.among k d inside)
 
 -- ---- all ranges
@@ -169,7 +174,8 @@ items_before-end : (marks : List Codes) (from : ℕ) (items : CodedCells)
     → items_before marks from (length marks / 32 + 1) items ≡ items
 items_before-end marks from items =
     filter-all (λ (item : Codes × Tally). not (is_from marks (length marks / 32 + 1) (all_at from item.0))) items
-    (recursion_from_All (λ (item : Codes × Tally). not (is_from marks (length marks / 32 + 1) (all_at from item.0)) ≡ true)
+    (recursion_from_All
+    (λ (item : Codes × Tally). not (is_from marks (length marks / 32 + 1) (all_at from item.0)) ≡ true)
     items (λ k d inside. not_from_false (is_from marks (length marks / 32 + 1) (all_at from (get_or items k d).0))
     (is_from-none marks (all_at from (get_or items k d).0))))
 
@@ -193,8 +199,10 @@ AreRaised-range marks from range items low high in_order of_low of_high =
     AreRaised-permutation from (filter is_not rest ++ filter is rest) rest (low ++ high)
     (IsPermutation-sym rest (filter is_not rest ++ filter is rest) (IsPermutation-filter_both is_not is
     (λ item. twice (is item)) rest))
-    (AreRaised-append from (is_from marks range) (is_from-apart marks range) (filter is_not rest) (filter is rest) low high
-    (λ k d inside. from_not (is (get_or (filter is_not rest) k d)) (filter_passes is_not rest k d inside)) (filter_passes is rest)
+    (AreRaised-append from (is_from marks range) (is_from-apart marks range) (filter is_not rest) (filter is rest)
+    low high
+    (λ k d inside. from_not (is (get_or (filter is_not rest) k d)) (filter_passes is_not rest k d inside))
+    (filter_passes is rest)
     (subst (λ (l : CodedCells). AreRaised from l low) (sym first) of_low)
     (subst (λ (l : CodedCells). AreRaised from l high) (sym second) of_high))
   where
@@ -215,7 +223,8 @@ pub AreRaised-ranges : (marks : List Codes) (from : ℕ) (items : CodedCells) (l
     → AreRaised from items (put_together lists)
 AreRaised-ranges marks from items lists in_order long each =
     subst (λ (l : List CodedCells). AreRaised from items (put_together l)) (take_all (length lists) lists (omega arith))
-    (subst (λ (l : CodedCells). AreRaised from l (put_together (take (length lists) lists))) (items_before-end marks from items)
+    (subst (λ (l : CodedCells). AreRaised from l (put_together (take (length lists) lists)))
+    (items_before-end marks from items)
     (subst (λ (n : ℕ). AreRaised from (items_before marks from n items) (put_together (take (length lists) lists))) long
     (first (length lists) (omega arith))))
   where
@@ -239,7 +248,8 @@ pub AreRaised-lists : {N : Type 0} (marks : List Codes) (from : ℕ) (items : Li
     → AreRaisedIn marks from items range (get_or lists range unused))
     → AreRaised from (cells_of_items items) (put_together (cells_of_lists lists))
 AreRaised-lists {N} marks from items lists in_order long each =
-    AreRaised-ranges marks from (cells_of_items items) (cells_of_lists lists) in_order (length-cells_of_lists lists ∙ long)
+    AreRaised-ranges marks from (cells_of_items items) (cells_of_lists lists) in_order
+    (length-cells_of_lists lists ∙ long)
     (λ range within.
     let inside : range < length lists = omega (arith, within, length-cells_of_lists lists) in
     by_list range lists inside (λ unused. each range unused (omega (arith, inside, long))))

@@ -6,7 +6,8 @@ use Rattle.cube_cells.proofs.cube.bottom_up.raised.Goals as goal
 pub united-requires : goal.united-requires
 united-requires g c = (
   c.requires.items.0,
-  rw c.in_ok-lent.ensures (All-raise c.requires.items.0 c.args.from (cells_of_items c.args.items.now) c.requires.items.1),
+  rw c.in_ok-lent.ensures
+      (All-raise c.requires.items.0 c.args.from (cells_of_items c.args.items.now) c.requires.items.1),
 )
 
 pub returns : goal.returns

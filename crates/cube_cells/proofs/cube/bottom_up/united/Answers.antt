@@ -28,4 +28,5 @@ returns g c =
     IfOk-weaker c.joined.result (λ united. AreUnited (cells_of_lent sorted) (cells_of_items united.items))
     (λ united. AreUnited (cells_of_lent lent) (cells_of_items united.items))
     (λ united are. AreUnited-permutation (cells_of_lent lent) (cells_of_lent sorted) (cells_of_items united.items)
-    (lent-IsPermutation lent sorted c.sort_unstable_by.ensures.permutation) are) (rw c.deref.ensures.value at c.joined.ensures)
+    (lent-IsPermutation lent sorted c.sort_unstable_by.ensures.permutation) are)
+    (rw c.deref.ensures.value at c.joined.ensures)

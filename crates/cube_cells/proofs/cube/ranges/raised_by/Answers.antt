@@ -17,4 +17,5 @@ returns g c =
     IfOk-weaker c.put_together.result (λ raised. cells_of_items raised.items ≡ put_together (cells_of_lists lists))
     (λ raised. AreRaised c.args.from items (cells_of_items raised.items))
     (λ raised are. subst (AreRaised c.args.from items) (sym are)
-    (AreRaised-lists marks c.args.from c.args.items.now lists c.in_ok-marks.ensures each.0 each.1)) c.put_together.ensures
+    (AreRaised-lists marks c.args.from c.args.items.now lists c.in_ok-marks.ensures each.0 each.1))
+    c.put_together.ensures
