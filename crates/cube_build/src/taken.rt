@@ -89,7 +89,7 @@ impl Taken {
         threads: usize,
         part: MadePart<Counted>,
     ) -> Result<Taken, AllocError>
-        requires { IsOverFinest part.builder.cube }
+        requires finest { IsOverFinest part.builder.cube }
         ensures ledger { IfOk result (λ taken. taken.ledger ≡ part.builder.ledger) }
         ensures cells { IfOk result (λ taken. HaveFactsOf part.builder.ledger taken.cells) }
         ensures inlets { IfOk result (λ taken. taken.inlets ≡ part.inlets.items) }

@@ -3,8 +3,8 @@ use Rattle.cube_core.specs.Layout.{Layout, all_suffice}
 use Rattle.cube_build.proofs.TakenLaws.{schema-taken, taken-seen}
 use Rattle.cube_build.proofs.taken.take_where.Goals as goal
 
-pub of_numbers-requires : goal.of_numbers-requires
-of_numbers-requires g c = c.in_ok-part.ensures.ok.finest
+pub of_numbers-requires-clause-finest : goal.of_numbers-requires-clause-finest
+of_numbers-requires-clause-finest g c = c.in_ok-part.ensures.ok.finest
 
 pub returns-in-Ok-clause-ok : goal.returns-in-Ok-clause-ok
 returns-in-Ok-clause-ok g c =

@@ -6,7 +6,7 @@ use Rattle.cube_build.proofs.taken.Taken.of_numbers.Goals.{In_ok-of, Over}
 use Rattle.cube_build.proofs.taken.Taken.of_numbers.Goals as goal
 
 pub of-requires-clause-sets : goal.of-requires-clause-sets
-of-requires-clause-sets g c = rw c.into_parts-refused.ensures.cube c.requires
+of-requires-clause-sets g c = rw c.into_parts-refused.ensures.cube c.requires.finest
 
 pub of-requires-clause-facts : goal.of-requires-clause-facts
 of-requires-clause-facts g c = (
