@@ -29,11 +29,12 @@ class Calls:
 
 # The forms that the library keeps numbers in, with how many times the numbers from 0 to below which end are added, up
 # and down again: none, one that is held once or twice; a short list with a number of more than 32 bits; a list of
-# numbers of 32 bits, few, many, and many of which few are different; a log, one that owes, one in order, and the table
-# after that; the table and the short list after a list whose numbers repeat.
+# numbers of 32 bits, few, many, many that were brought in order, with so many behind them that they are brought in order
+# too, and many of which few are different; a log, one that owes, one in order, and the table after that; the table and the
+# short list after a list whose numbers repeat.
 FORMS = {
     "empty": (0, 0), "once": (0, 0), "one": (1, 1), "few": (1, 5), "narrow": (1, 5), "long": (1, MANY),
-    "repeating": (5, 20), "log": (1, MANY), "owed": (1, MANY), "ordered": (1, MANY), "table": (1, MANY),
+    "long in order": (1, MANY), "longer in order": (1, MANY), "repeating": (5, 20), "log": (1, MANY), "owed": (1, MANY), "ordered": (1, MANY), "table": (1, MANY),
     "repeated": (10, 100), "repeated few": (20, 3)}
 
 
@@ -54,6 +55,10 @@ class Multiset(Calls):
         times, end = FORMS[name]
         for value in [*range(end), *reversed(range(end))] * times:
             self.add(value)
+        if name.endswith("in order"):
+            self.order()
+        for value in range(2 * MANY if name == "longer in order" else 0):
+            self.add(-value)
         for value in {"owed": [7, 7], "ordered": [0], "table": [0]}.get(name, []):
             self.remove(value)
         if name == "table":
@@ -90,6 +95,10 @@ class Multiset(Calls):
     def shrink(self):
         """Has it give back the room to spare."""
         self.call("shrink")
+
+    def order(self):
+        """Has it bring the numbers in order."""
+        self.call("order")
 
     def swap(self):
         self.values, self.other = self.other, self.values

@@ -71,8 +71,8 @@ def backwards(values):
 def step_of(rng):
     """A step of a multiset: a call by its name, and the number that it takes, or none."""
     value = rng.choice([rng.randint(0, MANY), rng.randint(-5, 5), oracle.LEAST, oracle.GREATEST, 1 << 40])
-    return rng.choice([("add", value), ("add", value), ("remove", value), ("holds", value), ("show",), ("statistics",), ("shrink",), ("swap",),
-                       ("merge",)])
+    return rng.choice([("add", value), ("add", value), ("remove", value), ("holds", value), ("show",), ("statistics",), ("shrink",), ("order",),
+                       ("swap",), ("merge",)])
 
 
 def go_on(made, rng):
@@ -103,6 +103,9 @@ def without_room(made):
     made.show()
     made.add(MANY)
     made.shrink()
+    made.order()
+    made.add(MANY)
+    made.statistics()
     made.remove(1)
     made.add(-1)
     made.show()

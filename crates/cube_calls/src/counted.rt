@@ -1,4 +1,4 @@
-//! Calls of two multisets: `add N`, `remove N`, `holds N`, `shrink`, `show`, `in_order`, `different`, `at_place N`, `merge`
+//! Calls of two multisets: `add N`, `remove N`, `holds N`, `shrink`, `order`, `show`, `in_order`, `different`, `at_place N`, `merge`
 //! (adds the other's numbers) and `swap` (the other is asked from then on).
 use crate::script::{Printout, words_of};
 use crate::text::push_held;
@@ -55,6 +55,7 @@ fn obey_verb(
 ) -> Result<()> {
     match verb {
         "shrink" => values.shrink_to_fit(),
+        "order" => values.bring_in_order(),
         "show" => show(values, out)?,
         "in_order" => show_in_order(values, out)?,
         "different" => out.answer(values.different()?)?,
