@@ -1,3 +1,4 @@
+mod AnswerLaws
 mod ColumnLaws
 mod FieldLaws
 pub mod LineLaws

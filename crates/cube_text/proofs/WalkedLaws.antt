@@ -1,89 +1,38 @@
 -- Laws of a text to which a walk adds the line of the row of each cell.
-use Rattle.std.proofs.Common.{◌≡◌, ◌∙◌, ◌++◌, ◌+◌, ◌<◌, ◌∷◌, [], ℕ, List, Bor, length, take, get_or, refl, sym, ap, subst}
-use Rattle.std.proofs.Common.{append_assoc, arith, length-append, suc}
+use Rattle.std.proofs.Common.{◌≡◌, ◌∙◌, ◌++◌, ◌+◌, ◌<◌, ◌∷◌, [], ℕ, List, Bor, length, get_or, refl, sym, ap, subst}
+use Rattle.std.proofs.Common.{append_assoc, arith, suc}
 use Rattle.std.specs.Global.{Vec}
 use Rattle.std.proofs.lemmas.Grind.{flat_map-append}
 use Rattle.std.specs.Prelude.{All, Ok, Result, map}
 use Rattle.std.specs.declared.alloc.AllocError.{AllocError}
 use Rattle.cube_core.specs.declared.key.Key.{Key}
 use Rattle.std.specs.List.{AllZip, flat_map}
-use Rattle.std.proofs.Math.Seq.{drop-append_seam, get_or-append_seam, take-append_seam}
-use Rattle.std.proofs.lemmas.List.{append-nil, get_or-map, length-map, map-append, take_all, take_more}
+use Rattle.std.proofs.Math.Seq.{drop-append_seam, take-append_seam}
+use Rattle.std.proofs.lemmas.List.{append-nil, map-append}
 use Rattle.std.proofs.lemmas.List.Elements.{All-drop, All-head, All-tail, All-take, All-weaker}
-use Rattle.cube_core.specs.Answer.{IsAnswer}
-use Rattle.cube_core.specs.Layout.{Layout}
 use Rattle.cube_core.specs.Printed.{IsPrinted}
-use Rattle.cube_core.specs.Text.{answer_text, answer_texts, digits_of, digits_of_answers, header_fields, line}
-use Rattle.cube_core.specs.declared.aggregate.Agg.TheVariants.{CountAll}
-use Rattle.cube_core.specs.declared.aggregate.Answer.{Answer}
-use Rattle.cube_core.specs.declared.aggregate.Answer.TheVariants as answer
+use Rattle.cube_core.specs.Text.{digits_of_answers, header_fields, line}
 use Rattle.cube_core.specs.declared.fact.Fact.{Fact}
 use Rattle.cube_core.specs.declared.key.Row.{Row}
-use Rattle.cube_core.proofs.ListLaws.{AllZip-append, AllZip-push}
+use Rattle.cube_core.proofs.ListLaws.{AllZip-append}
 use Rattle.cube_cells.specs.BottomUp.{AreCellsOfCube, TakesAll, TakesCube}
 use Rattle.cube_cells.specs.WalkParts.{AreCellsOfPart, ArePartsOfCube, PartOfWalk, TakesPart, put_together}
 use Rattle.cube_cells.specs.Codes.{key_at}
 use Rattle.cube_cells.specs.Coded.{CodedCells, IsCodedCell, decoded}
 use Rattle.cube_cells.specs.Cube.{Lattice}
 use Rattle.cube_cells.specs.Fill.{IsCubeOfAll}
-use Rattle.cube_cells.specs.Rows.{AreAnswersOf, IsRowOf}
+use Rattle.cube_cells.specs.Rows.{IsRowOf}
 use Rattle.cube_cells.specs.Tally.{Tally}
 use Rattle.cube_cells.specs.declared.cube.codes.Codes.{Codes}
-use Rattle.cube_lines.specs.Parts.{AddsParts, parts}
+use Rattle.cube_lines.specs.Parts.{parts}
 use Rattle.cube_lines.specs.Pieces.{GathersPieces, text_of_pieces}
-use Rattle.cube_text.specs.Rows.{AddsRow, IsAnswerOf, line_with}
+use Rattle.cube_text.specs.Answers.{ShowsAnswers}
+use Rattle.cube_text.specs.Rows.{AddsRow, line_with}
 use Rattle.cube_text.specs.Shown.{AreShown}
 use Rattle.cube_text.specs.Walked.{IsTextOfPart, IsTextOfRows}
 use Rattle.cube_text.specs.declared.shown.Shown.{Shown}
 use Rattle.cube_text.specs.WalkedRows.{TakesRow}
 use Rattle.cube_text.specs.declared.walked.RowsText.{RowsText}
-use Rattle.cube_text.proofs.FieldLaws.{AddsParts-answer}
-
--- ---- answers
--- the answers of a cell to the first aggregates stand in a text
-pub record HasAnswersBelow (s : Layout) (cell : Tally) (i : ℕ) (old new : List ℕ) : Type 0 where
-  pub answers : List Answer
-  pub long : length answers ≡ i
-  pub are : AreAnswersOf (take i s.aggregates) cell answers
-  pub added : new ≡ old ++ parts (answer_texts (take i (digits_of_answers s)) answers)
-
-pub HasAnswersBelow-none : (s : Layout) (cell : Tally) (text : List ℕ) → HasAnswersBelow s cell 0 text text
-HasAnswersBelow-none s cell text = record {
-  answers = [];
-  long = refl;
-  are = λ facts tally. tt;
-  added = sym (append-nil text);
-}
-
-pub HasAnswersBelow-more : (s : Layout) (cell : Tally) (i k : ℕ) (a : Answer) (old now new : List ℕ)
-    → HasAnswersBelow s cell i old now → i < length s.aggregates → k ≡ digits_of s (get_or s.aggregates i CountAll)
-    → IsAnswerOf (get_or s.aggregates i CountAll) cell a → AddsParts (answer_text k a ∷ []) now new
-    → HasAnswersBelow s cell (i + 1) old new
-HasAnswersBelow-more s cell i k a old now new has inside k_is is adds = record {
-  answers = more;
-  long = omega (arith, length-append has.answers (a ∷ []), has.long);
-  are = λ facts tally. rw (take_more s.aggregates i CountAll inside)
-      (AllZip-push (IsAnswer facts) (take i s.aggregates) has.answers (get_or s.aggregates i CountAll) a
-      (has.are facts tally) (is facts tally));
-  added = rw (whole) at (AddsParts-answer digits more i k a old now new
-      (omega (arith, inside, length-map s.aggregates (digits_of s)))
-      (omega (arith, length-append has.answers (a ∷ []), has.long))
-      (k_is ∙ sym (get_or-map (digits_of s) s.aggregates i CountAll 0 inside))
-      (sym (ap (λ (n : ℕ). get_or more n answer.Null) (sym has.long)
-      ∙ get_or-append_seam has.answers a [] answer.Null))
-      (rw front has.added) adds);
-} where
-  digits : List ℕ
-  digits = digits_of_answers s
-
-  more : List Answer
-  more = has.answers ++ a ∷ []
-
-  front : take i more ≡ has.answers
-  front = ap (λ (n : ℕ). take n more) (sym has.long) ∙ take-append_seam has.answers (a ∷ [])
-
-  whole : take (i + 1) more ≡ more
-  whole = take_all (i + 1) more (omega (arith, length-append has.answers (a ∷ []), has.long))
 
 -- ---- rows
 -- cells that were taken have rows, whose lines were added
@@ -93,24 +42,28 @@ pub record AddsRows (finest : Lattice) (cells : CodedCells) (old new : List ℕ)
   pub added : new ≡ old ++ flat_map (line_with (digits_of_answers finest.schema)) rows
 
 pub AddsRows-TakesAll : {N : Type 0} (finest : Lattice) (cells : CodedCells) (old new : RowsText N)
-    → old.cells.now ≡ finest → AreShown finest.dictionaries old.shown.now → TakesAll TakesRow old cells new
+    → old.cells.now ≡ finest → AreShown finest.dictionaries old.shown.now
+    → ShowsAnswers (digits_of_answers finest.schema) old.answers → TakesAll TakesRow old cells new
     → All (λ cell. length cell.1.bags ≡ length finest.schema.measures) cells
     → AddsRows finest cells old.text.items new.text.items
-AddsRows-TakesAll {N} finest [] old new is shown taken widths = record {
+AddsRows-TakesAll {N} finest [] old new is shown shows taken widths = record {
   rows = [];
   are = tt;
   added = ap (λ (t : RowsText N). t.text.items) taken ∙ sym (append-nil old.text.items);
 }
-AddsRows-TakesAll {N} finest (cell ∷ cells) old new is shown taken widths =
+AddsRows-TakesAll {N} finest (cell ∷ cells) old new is shown shows taken widths =
     let W : Codes × Tally → Type 0 = λ one. length one.1.bags ≡ length finest.schema.measures in
     let P : Lattice → Type 0 = λ l. AreShown l.dictionaries old.shown.now
-    → length cell.1.bags ≡ length l.schema.measures
+    → ShowsAnswers (digits_of_answers l.schema) old.answers → length cell.1.bags ≡ length l.schema.measures
     → AddsRow (digits_of_answers l.schema) l.schema.aggregates (key_at l.dictionaries cell.0.codes, cell.1)
     old.text.items taken.0.text.items in
-    let row = subst P is taken.1.adds shown (All-head W cell cells widths) in
+    let Q : Lattice → Type 0 = λ l. ShowsAnswers (digits_of_answers l.schema) old.answers
+    → ShowsAnswers (digits_of_answers l.schema) taken.0.answers in
+    let row = subst P is taken.1.adds shown shows (All-head W cell cells widths) in
     let next : taken.0.cells.now ≡ finest = ap (λ (b : Bor Lattice). b.now) taken.1.same ∙ is in
     let still : AreShown finest.dictionaries taken.0.shown.now = rw taken.1.same_shown shown in
-    let later = AddsRows-TakesAll finest cells taken.0 new next still taken.2 (All-tail W cell cells widths) in
+    let later = AddsRows-TakesAll finest cells taken.0 new next still (subst Q is taken.1.shows shows) taken.2
+    (All-tail W cell cells widths) in
     let lines : List Row → List ℕ = flat_map (line_with (digits_of_answers finest.schema)) in
     record {
       rows = row.row ∷ later.rows;
@@ -137,22 +90,25 @@ IsPrinted-AddsRows finest cells header text facts cube adds_rows is all =
 -- a text to which a walk added the rows behind the header is the printed cube
 pub IsPrinted-TakesCube : {N : Type 0} (finest : Lattice) (old new : RowsText N) (facts : List Fact)
     → TakesCube TakesRow finest old new → old.cells.now ≡ finest → AreShown finest.dictionaries old.shown.now
+    → ((digits : List ℕ) → ShowsAnswers digits old.answers)
     → old.text.items ≡ line (header_fields finest.schema) → IsCubeOfAll facts finest
     → IsPrinted finest.schema facts new.text.items
-IsPrinted-TakesCube finest old new facts walk is shown header all =
+IsPrinted-TakesCube finest old new facts walk is shown shows header all =
     IsPrinted-AddsRows finest walk.cells old.text.items new.text.items facts walk.are
-    (AddsRows-TakesAll finest walk.cells old new is shown walk.taken) header all
+    (AddsRows-TakesAll finest walk.cells old new is shown (shows (digits_of_answers finest.schema)) walk.taken) header all
 
 -- ---- parts
 -- a text to which the walk over a part added the rows
 pub IsTextOfPart-TakesPart : {N : Type 0} (finest : Lattice) (part : PartOfWalk) (old new : RowsText N)
-    → TakesPart TakesRow part old new → old.cells.now ≡ finest → old.text.items ≡ []
+    → TakesPart TakesRow part old new → old.cells.now ≡ finest → ((digits : List ℕ) → ShowsAnswers digits old.answers)
+    → old.text.items ≡ []
     → IsTextOfPart finest old.shown.now part new.text.items
-IsTextOfPart-TakesPart finest part old new walk is empty = record {
+IsTextOfPart-TakesPart finest part old new walk is shows empty = record {
   cells = walk.cells;
   are = walk.are;
   text_is = λ shown widths.
-      let adds = AddsRows-TakesAll finest walk.cells old new is shown walk.taken widths in
+      let adds = AddsRows-TakesAll finest walk.cells old new is shown (shows (digits_of_answers finest.schema)) walk.taken
+      widths in
       record {
         rows = adds.rows;
         are = adds.are;

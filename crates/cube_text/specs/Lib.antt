@@ -1,3 +1,4 @@
+pub mod Answers
 pub mod Lines
 pub mod Rows
 pub mod Shape

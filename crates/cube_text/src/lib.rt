@@ -5,6 +5,7 @@
 //! [`Lines`] are the lines that all texts of the program are made of.
 #![tactic(auto)]
 
+mod answers;
 mod fields;
 mod lines;
 mod print;

@@ -12,16 +12,17 @@ ghost use Rattle.cube_lines.specs.Parts.{AddsParts};
 ghost use Rattle.cube_text.specs.Rows.{AddsRow};
 ghost use Rattle.cube_text.specs.Shown.{AreShown};
 ghost use Rattle.cube_cells.specs.WalkParts.{PartOfWalk};
-ghost use Rattle.cube_text.specs.Walked.{AddsAnswers, IsTextOfPart};
+ghost use Rattle.cube_text.specs.Answers.{ShowsAnswers};
+ghost use Rattle.cube_text.specs.Walked.{IsTextOfPart};
 
+use crate::answers::AnswersText;
 use crate::fields::{close_line, push_coord, push_grouping};
 use crate::print::text_of_header;
 use crate::shown::{Shown, all_shown, part_at};
 use cube_cells::{
     BaseCuboid, Cell, CoordRef, FinestCells, KeyCodes, Numbers, TakesCells, WalkPart,
 };
-use cube_lines::{Pieces, push_answer};
-use itoa::Buffer;
+use cube_lines::Pieces;
 use std::alloc::{AllocError, Global};
 use std::thread::{Threads, map_indices};
 
@@ -36,6 +37,7 @@ const PARTS: usize = 4;
 pub struct RowsText<'c, N: Numbers> {
     cells: &'c FinestCells<N>,
     shown: &'c [Shown],
+    answers: AnswersText,
     text: Vec<u8>,
 }
 
@@ -48,7 +50,14 @@ impl<'c, N: Numbers> TakesCells<N> for RowsText<'c, N> {
         if cell.measures() != self.cells.schema().measures().len() {
             return Ok(());
         }
-        put_row_of(&mut self.text, self.cells, self.shown, codes, cell)
+        put_row_of(
+            &mut self.text,
+            &mut self.answers,
+            self.cells,
+            self.shown,
+            codes,
+            cell,
+        )
     }
 }
 
@@ -67,6 +76,7 @@ pub fn print_walked<N: Numbers>(
     let mut rows = RowsText {
         cells,
         shown: &shown,
+        answers: AnswersText::none(alloc),
         text,
     };
     cells.walk(&mut rows)?;
@@ -146,6 +156,7 @@ fn text_of_part<N: Numbers>(
     let mut rows = RowsText {
         cells,
         shown,
+        answers: AnswersText::none(alloc),
         text: Vec::new(alloc),
     };
     part.walk(&mut rows)?;
@@ -155,20 +166,24 @@ fn text_of_part<N: Numbers>(
 // Puts the line of the row of a cell.
 fn put_row_of<N: Numbers>(
     text: &mut Vec<u8>,
+    answers: &mut AnswersText,
     cells: &FinestCells<N>,
     shown: &[Shown],
     codes: &KeyCodes,
     cell: &Cell<N>,
 ) -> Result<(), AllocError>
     requires { length cell.now.bags ≡ length cells.now.schema.measures }
-    ensures { OnOk result (AreShown cells.now.dictionaries shown.now →
+    ensures row { OnOk result (AreShown cells.now.dictionaries shown.now →
+        ShowsAnswers (digits_of_answers cells.now.schema) answers.old →
         AddsRow (digits_of_answers cells.now.schema) cells.now.schema.aggregates
         (key_at cells.now.dictionaries codes.now.codes, cell.now) text.old.items text.new.items) }
+    ensures shows { OnOk result (ShowsAnswers (digits_of_answers cells.now.schema) answers.old →
+        ShowsAnswers (digits_of_answers cells.now.schema) answers.new) }
 {
     let start = text.as_slice().len();
     put_key_of(text, cells, shown, codes)?;
     put_groupings_of(text, cells, codes)?;
-    put_answers_of(text, cells, cell)?;
+    answers.put(text, cells, cell)?;
     close_line(text, start)
 }
 
@@ -236,21 +251,4 @@ fn grouping_at<'c>(codes: &'c KeyCodes, dimension: usize) -> CoordRef<'c>
         return CoordRef::All;
     }
     CoordRef::Null
-}
-
-fn put_answers_of<N: Numbers>(
-    text: &mut Vec<u8>,
-    cells: &FinestCells<N>,
-    cell: &Cell<N>,
-) -> Result<(), AllocError>
-    requires { length cell.now.bags ≡ length cells.now.schema.measures }
-    ensures { OnOk result (AddsAnswers cells.now.schema cell.now text.old.items text.new.items) }
-{
-    let schema = cells.schema();
-    let mut number = Buffer::new();
-    for aggregate in schema.aggregates() {
-        let digits = schema.digits_of(aggregate);
-        push_answer(text, &mut number, digits, &cell.try_answer(aggregate)?)?;
-    }
-    Ok(())
 }

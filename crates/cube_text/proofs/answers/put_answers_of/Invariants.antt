@@ -1,5 +1,5 @@
-use Rattle.cube_text.proofs.WalkedLaws.{HasAnswersBelow}
-use Rattle.cube_text.proofs.walked.put_answers_of.Given as goal
+use Rattle.cube_text.proofs.AnswerLaws.{HasAnswersBelow}
+use Rattle.cube_text.proofs.answers.put_answers_of.Given as goal
 
 abbrev pub invariant-loop-aggregate : goal.invariant-loop-aggregate
 invariant-loop-aggregate g l =

@@ -3,8 +3,8 @@ use Rattle.cube_core.specs.Layout.{Layout}
 use Rattle.cube_core.specs.Text.{digits_of}
 use Rattle.cube_core.specs.declared.aggregate.Agg.TheVariants.{CountAll}
 use Rattle.cube_text.specs.Rows.{IsAnswerOf}
-use Rattle.cube_text.proofs.WalkedLaws.{HasAnswersBelow-more, HasAnswersBelow-none}
-use Rattle.cube_text.proofs.walked.put_answers_of.Goals as goal
+use Rattle.cube_text.proofs.AnswerLaws.{HasAnswersBelow-more, HasAnswersBelow-none}
+use Rattle.cube_text.proofs.answers.put_answers_of.Goals as goal
 
 pub loop-aggregate-init : goal.loop-aggregate-init
 loop-aggregate-init g c =

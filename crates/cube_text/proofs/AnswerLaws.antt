@@ -1,0 +1,132 @@
+-- Laws of answers: those that compare equal are the same, and those of a cell are taken one by one.
+use Rattle.std.proofs.Common.{◌≡◌, ◌∙◌, ◌&&◌, ◌+◌, ◌/◌, ◌%◌, ◌^◌, ◌++◌, ◌<◌, ◌≤◌, ◌∷◌, [], ℕ, ℤ, List, length, take, get_or}
+use Rattle.std.proofs.Common.{arith, false, true, refl, ap, ap₂, sym, rules, length-append}
+use Rattle.std.specs.Prelude.{nat_eq}
+use Rattle.std.specs.Bool.{Decides}
+use Rattle.std.specs.Ordering.{int_eq}
+use Rattle.std.proofs.lemmas.Bool.{and_from, and_parts}
+use Rattle.std.proofs.lemmas.Bool.Decides.{Decides-eqb, Decides-int_eq}
+use Rattle.std.proofs.lemmas.List.{append-nil, get_or-map, length-map, length-take, length-take-le, take_all, take_more}
+use Rattle.std.proofs.Math.Seq.{get_or-append_seam, take-append_seam}
+use Rattle.std.proofs.lemmas.Slice.Eq.{slice_eq-Decides}
+use Rattle.cube_core.proofs.ListLaws.{AllZip-push}
+use Rattle.cube_core.specs.Answer.{IsAnswer}
+use Rattle.cube_core.specs.Layout.{Layout}
+use Rattle.cube_core.specs.Text.{answer_text, answer_texts, digits_of, digits_of_answers}
+use Rattle.cube_core.specs.contracts.aggregate.AnswerPartialEq.TheImpl as AnswerPartialEq
+use Rattle.cube_core.specs.declared.aggregate.Agg.{Agg}
+use Rattle.cube_core.specs.declared.aggregate.Agg.TheVariants.{CountAll}
+use Rattle.cube_core.specs.declared.aggregate.Answer.{Answer}
+use Rattle.cube_core.specs.declared.aggregate.Answer.TheVariants as answer
+use Rattle.cube_cells.specs.Rows.{AreAnswersOf}
+use Rattle.cube_cells.specs.Tally.{Tally}
+use Rattle.cube_lines.specs.Parts.{AddsParts, parts}
+use Rattle.cube_text.specs.Rows.{IsAnswerOf}
+use Rattle.cube_text.proofs.FieldLaws.{AddsParts-answer}
+
+-- pairs of a value and a count
+pair-Decides : (a b : ℤ × ℕ) → Decides (int_eq a.0 b.0 && nat_eq a.1 b.1) (a ≡ b)
+pair-Decides (x, n) (y, k) = (
+  λ on.
+      let parts = and_parts (int_eq x y) (nat_eq n k) on in
+      ap₂ (λ (v : ℤ) (m : ℕ). (v, m)) ((Decides-int_eq x y).0 parts.0) ((Decides-eqb n k).0 parts.1),
+  λ same. and_from (int_eq x y) (nat_eq n k)
+      ((Decides-int_eq x y).1 (ap (λ (pair : ℤ × ℕ). pair.0) same))
+      ((Decides-eqb n k).1 (ap (λ (pair : ℤ × ℕ). pair.1) same)),
+)
+
+-- the comparison that answers derive tells whether they are the same
+pub Answer-eq : (a b : Answer) → (AnswerPartialEq.eq-value).it a b ≡ true → a ≡ b
+Answer-eq answer.Null answer.Null h = refl
+Answer-eq answer.Null b h = let clash : false ≡ true = h in absurd (cc)
+Answer-eq (answer.Count n) (answer.Count k) h = let same : nat_eq n k ≡ true = h in ap answer.Count ((Decides-eqb n k).0 same)
+Answer-eq (answer.Count n) b h = let clash : false ≡ true = h in absurd (cc)
+Answer-eq (answer.Whole n) (answer.Whole k) h = let same : int_eq n k ≡ true = h in ap answer.Whole ((Decides-int_eq n k).0 same)
+Answer-eq (answer.Whole n) b h = let clash : false ≡ true = h in absurd (cc)
+Answer-eq (answer.Ratio p q) (answer.Ratio r s) h =
+    let same = and_parts (int_eq p r) (nat_eq q s) h in
+    ap₂ (λ (z : ℤ) (n : ℕ). answer.Ratio z n) ((Decides-int_eq p r).0 same.0) ((Decides-eqb q s).0 same.1)
+Answer-eq (answer.Ratio p q) b h = let clash : false ≡ true = h in absurd (cc)
+Answer-eq (answer.Squares n) (answer.Squares k) h = let same : n ≡ k = search rules in ap answer.Squares same
+Answer-eq (answer.Squares n) b h = let clash : false ≡ true = h in absurd (cc)
+Answer-eq (answer.Variance p q) (answer.Variance r s) h =
+    let halves = nat_eq (p / 2 ^ 128) (r / 2 ^ 128) && nat_eq (p % 2 ^ 128) (r % 2 ^ 128) in
+    let same = and_parts halves (nat_eq q s) h in
+    let both = and_parts (nat_eq (p / 2 ^ 128) (r / 2 ^ 128)) (nat_eq (p % 2 ^ 128) (r % 2 ^ 128)) same.0 in
+    let high : p / 2 ^ 128 ≡ r / 2 ^ 128 = (Decides-eqb (p / 2 ^ 128) (r / 2 ^ 128)).0 both.0 in
+    let low : p % 2 ^ 128 ≡ r % 2 ^ 128 = (Decides-eqb (p % 2 ^ 128) (r % 2 ^ 128)).0 both.1 in
+    let number : p ≡ r = omega (arith, high, low) in
+    ap₂ answer.Variance number ((Decides-eqb q s).0 same.1)
+Answer-eq (answer.Variance p q) b h = let clash : false ≡ true = h in absurd (cc)
+Answer-eq (answer.Values xs) (answer.Values ys) h = ap answer.Values ((slice_eq-Decides pair-Decides xs ys true (sym h)).0 refl)
+Answer-eq (answer.Values xs) b h = let clash : false ≡ true = h in absurd (cc)
+
+-- no answers have no texts
+pub answer_texts-none : (digits : List ℕ) → answer_texts digits [] ≡ []
+answer_texts-none [] = refl
+answer_texts-none (k ∷ digits) = refl
+
+-- one answer of a cell more
+pub AreAnswersOf-next : (aggregates : List Agg) (cell : Tally) (i : ℕ) (a : Answer) (old new : List Answer)
+    → i < length aggregates → AreAnswersOf (take i aggregates) cell (take i old)
+    → IsAnswerOf (get_or aggregates i CountAll) cell a → take (i + 1) new ≡ take i old ++ a ∷ []
+    → AreAnswersOf (take (i + 1) aggregates) cell (take (i + 1) new)
+AreAnswersOf-next aggregates cell i a old new inside are is taken = λ facts tally.
+    rw (take_more aggregates i CountAll inside, taken) (AllZip-push (IsAnswer facts) (take i aggregates) (take i old)
+    (get_or aggregates i CountAll) a (are facts tally) (is facts tally))
+
+-- as many answers as were taken stand there
+pub taken-length : (i : ℕ) (a : Answer) (old new : List Answer) → i ≤ length old → take (i + 1) new ≡ take i old ++ a ∷ []
+    → i + 1 ≤ length new
+taken-length i a old new within taken = omega (
+  arith,
+  ap (λ (answers : List Answer). length answers) taken,
+  length-append (take i old) (a ∷ []),
+  length-take-le i old within,
+  length-take (i + 1) new,
+)
+
+-- the answers of a cell to the first aggregates stand in a text
+pub record HasAnswersBelow (s : Layout) (cell : Tally) (i : ℕ) (old new : List ℕ) : Type 0 where
+  pub answers : List Answer
+  pub long : length answers ≡ i
+  pub are : AreAnswersOf (take i s.aggregates) cell answers
+  pub added : new ≡ old ++ parts (answer_texts (take i (digits_of_answers s)) answers)
+
+pub HasAnswersBelow-none : (s : Layout) (cell : Tally) (text : List ℕ) → HasAnswersBelow s cell 0 text text
+HasAnswersBelow-none s cell text = record {
+  answers = [];
+  long = refl;
+  are = λ facts tally. tt;
+  added = sym (append-nil text);
+}
+
+pub HasAnswersBelow-more : (s : Layout) (cell : Tally) (i k : ℕ) (a : Answer) (old now new : List ℕ)
+    → HasAnswersBelow s cell i old now → i < length s.aggregates → k ≡ digits_of s (get_or s.aggregates i CountAll)
+    → IsAnswerOf (get_or s.aggregates i CountAll) cell a → AddsParts (answer_text k a ∷ []) now new
+    → HasAnswersBelow s cell (i + 1) old new
+HasAnswersBelow-more s cell i k a old now new has inside k_is is adds = record {
+  answers = more;
+  long = omega (arith, length-append has.answers (a ∷ []), has.long);
+  are = λ facts tally. rw (take_more s.aggregates i CountAll inside)
+      (AllZip-push (IsAnswer facts) (take i s.aggregates) has.answers (get_or s.aggregates i CountAll) a
+      (has.are facts tally) (is facts tally));
+  added = rw (whole) at (AddsParts-answer digits more i k a old now new
+      (omega (arith, inside, length-map s.aggregates (digits_of s)))
+      (omega (arith, length-append has.answers (a ∷ []), has.long))
+      (k_is ∙ sym (get_or-map (digits_of s) s.aggregates i CountAll 0 inside))
+      (sym (ap (λ (n : ℕ). get_or more n answer.Null) (sym has.long)
+      ∙ get_or-append_seam has.answers a [] answer.Null))
+      (rw front has.added) adds);
+} where
+  digits : List ℕ
+  digits = digits_of_answers s
+
+  more : List Answer
+  more = has.answers ++ a ∷ []
+
+  front : take i more ≡ has.answers
+  front = ap (λ (n : ℕ). take n more) (sym has.long) ∙ take-append_seam has.answers (a ∷ [])
+
+  whole : take (i + 1) more ≡ more
+  whole = take_all (i + 1) more (omega (arith, length-append has.answers (a ∷ []), has.long))
