@@ -1,5 +1,5 @@
 -- Laws of a text to which a walk adds the line of the row of each cell.
-use Rattle.std.proofs.Common.{◌≡◌, ◌∙◌, ◌++◌, ◌+◌, ◌<◌, ◌∷◌, [], ℕ, List, Bor, length, get_or, refl, sym, ap, subst}
+use Rattle.std.proofs.Common.{◌≡◌, ◌∙◌, ◌++◌, ◌<◌, ◌∷◌, [], ℕ, List, Bor, length, get_or, refl, sym, ap, subst}
 use Rattle.std.proofs.Common.{append_assoc, arith, suc}
 use Rattle.std.specs.Global.{Vec}
 use Rattle.std.proofs.lemmas.Grind.{flat_map-append}
