@@ -7,7 +7,7 @@ mod OrderLaws
 mod WholeLaws
 mod DraftLaws
 mod PartLaws
-mod ShareLaws
+pub mod ShareLaws
 mod InterestLaws
 mod SameLaws
 mod CountingLaws

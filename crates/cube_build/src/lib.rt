@@ -34,4 +34,5 @@ pub use cube_rings::{FeedingFault, Gate, OpenGate, Parcel, Settings};
 pub use joined::{AsksCube, DrillDown, HoldsCube, Slice, ordered_parts, row_above, rows_of_parts};
 pub use parted::{Part, Parted};
 pub use plain::build_plain;
+pub use shares::{new_ledgers, shares_of};
 pub use taken::{Taken, take_ledger, take_where};

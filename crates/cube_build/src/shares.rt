@@ -19,7 +19,7 @@ use std::thread::Threads;
 const MOST_SHARES: u32 = 8;
 
 /// How many shares so many sources are cut into: as many as there are threads, but no share of no source.
-pub(crate) fn shares_of(threads: usize, sources: u32) -> u32
+pub fn shares_of(threads: usize, sources: u32) -> u32
     requires { (1 ≤ threads) × (1 ≤ sources) }
     ensures { (1 ≤ result) × (result ≤ 8) }
 {
@@ -27,9 +27,9 @@ pub(crate) fn shares_of(threads: usize, sources: u32) -> u32
     threads.min(sources)
 }
 
-// New ledgers of so many shares, with so many sources together, each with as many as any other or one more. The only
-// error is that memory ran out.
-fn new_ledgers(
+/// New ledgers of so many shares, with so many sources together, each with as many as any other or one more. The only
+/// error is that memory ran out.
+pub fn new_ledgers(
     alloc: Global,
     schema: &Schema,
     sources: u32,

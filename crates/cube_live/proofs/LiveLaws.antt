@@ -21,7 +21,7 @@ last_or-append o [] x = refl
 last_or-append o (y ∷ ys) x = last_or-append (Some y) ys x
 
 -- an item of a source is its last then, and leaves the last of another as it was
-last_number-own : (arrivals : Arrivals) (source : ℕ) (item : Item)
+pub last_number-own : (arrivals : Arrivals) (source : ℕ) (item : Item)
     → last_number (of_source (arrivals ++ (source, item) ∷ []) source) ≡ item.number
 last_number-own arrivals source item =
     let own : of_source (arrivals ++ (source, item) ∷ []) source ≡ of_source arrivals source ++ item ∷ [] =

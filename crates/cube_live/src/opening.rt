@@ -1,27 +1,29 @@
 //! The opening of a session: all feeds are taken to their ends before its first record.
-ghost use Rattle.std.specs.Prelude.{◌≡◌, ◌≤◌, ◌++◌, ◌∷◌, [], map, replicate, vec_len, IfOk, IfErr, OnOk, OnErr};
+ghost use Rattle.std.specs.Prelude.{◌≡◌, ◌≤◌, ◌+◌, ◌++◌, ◌∷◌, [], length, map, replicate, sum_by, vec_len};
+ghost use Rattle.std.specs.Prelude.{IfOk, IfErr, OnOk, OnErr};
+ghost use Rattle.std.specs.List.{All};
 ghost use Rattle.cube_core.specs.Arrival.{Arrivals};
+ghost use Rattle.cube_ledger.specs.Ledger.{new_account};
 ghost use Rattle.cube_rings.specs.FeedingAll.{ExplainsFeeding};
 ghost use Rattle.cube_live.specs.Live.{LiveStandsAt};
-ghost use Rattle.cube_live.specs.Opening.{OpeningStandsAt, OpeningView, OpensOver};
+ghost use Rattle.cube_live.specs.Opening.{AreNewOpenings, IsFilledUp, IsJoinedOpening, IsUnnumbered, OpeningStandsAt, OpeningStandsFrom, OpeningView, OpensOver, opening_ledgers, opening_sources};
 
 use crate::live::Live;
-use cube_build::Parted;
+use cube_build::{Parted, new_ledgers, shares_of};
 use cube_core::Schema;
 use cube_feed::{FeedItem, TakesItems};
 use cube_ledger::Ledger;
-use cube_rings::{FeedingFault, Gate, Gatherer, Settings, feed_all};
+use cube_rings::{FeedingFault, Gate, Gatherer, Settings, feed_shares};
 use std::alloc::{AllocError, Global};
 use std::io::Read;
 use std::marker::Model;
 use std::sync::Wait;
 use std::thread::Threads;
 
-/// The ledger of 64 sources, of which the first have a feed, and the number of the last record of each that was taken.
+/// The ledger of sources, and the number of the last record of each that was taken.
 #[derive(Drop)]
 struct Opening {
     ledger: Ledger,
-    feeds: u32,
     most: u32,
     numbers: Vec<u32>,
 }
@@ -31,23 +33,23 @@ impl Model for Opening {
 
     ghost Value = { OpeningView };
 
-    ghost view = { λ o. record { ledger = o.ledger; feeds = o.feeds; numbers = o.numbers.items } };
+    ghost view = { λ o. record { ledger = o.ledger; numbers = o.numbers.items } };
 
-    ghost invariant = { λ o. IsOpening o.ledger o.feeds o.most o.numbers.items };
+    ghost invariant = { λ o. IsOpening o.ledger o.most o.numbers.items };
 }
 
 impl TakesItems for Opening {
     ghost use Rattle.std.specs.Prelude.{false};
-    ghost use Rattle.cube_live.specs.Opening.{OpeningStandsAt};
+    ghost use Rattle.cube_live.specs.Opening.{OpeningStandsFrom, opening_sources};
 
-    ghost sources = { λ opening. opening.feeds };
+    ghost sources = { opening_sources };
 
-    ghost stands = { OpeningStandsAt };
+    ghost stands = { OpeningStandsFrom };
 
     ghost full = { λ opening. false };
 
     fn sources(&self) -> u32 {
-        self.feeds
+        self.ledger.sources()
     }
 
     fn is_full(&self) -> bool {
@@ -60,32 +62,41 @@ impl TakesItems for Opening {
 }
 
 impl Opening {
-    // The opening of so many feeds, of which no item came.
-    fn new(alloc: Global, schema: &Schema, feeds: u32) -> Result<Opening, AllocError>
-        requires { feeds ≤ 64 }
-        ensures schema { IfOk result (λ opening. opening.ledger.schema ≡ schema.now) }
-        ensures feeds { IfOk result (λ opening. opening.feeds ≡ feeds) }
-        ensures stands { IfOk result (λ opening. OpeningStandsAt opening opening []) }
+    // The opening of a ledger of which no item came. The only error is that memory ran out.
+    fn of(alloc: Global, ledger: Ledger) -> Result<Opening, AllocError>
+        ensures ledger { IfOk result (λ opening. opening.ledger ≡ ledger) }
+        ensures numbers { IfOk result IsUnnumbered }
     {
-        let numbers = no_numbers(alloc)?;
+        let most = ledger.schema().max_records();
+        let numbers = vec![in alloc; 0u32; ledger.sources() as usize]?;
         Ok(Opening {
-            ledger: Ledger::new(alloc, schema, 64)?,
-            feeds,
-            most: schema.max_records(),
+            ledger,
+            most,
             numbers,
         })
     }
 
-    // Takes the next item of a source with a feed, unless it is numbered past those that the schema takes, which no good
-    // feed gives. The only error is that memory ran out.
+    // The opening of so many sources of which no item came. The only error is that memory ran out.
+    fn new(alloc: Global, schema: &Schema, sources: u32) -> Result<Opening, AllocError>
+        requires { sources ≤ 64 }
+        ensures schema { IfOk result (λ opening. opening.ledger.schema ≡ schema.now) }
+        ensures accounts { IfOk result (λ opening.
+            opening.ledger.accounts ≡ replicate sources new_account) }
+        ensures numbers { IfOk result (λ opening. opening.numbers ≡ replicate sources 0) }
+    {
+        Opening::of(alloc, Ledger::new(alloc, schema, sources)?)
+    }
+
+    // Takes the next item of a source, unless it is numbered past those that the schema takes, which no good feed gives.
+    // The only error is that memory ran out.
     fn apply(&mut self, source: u32, item: FeedItem) -> Result<(), AllocError>
-        requires { (1 ≤ source) × (source ≤ self.old.feeds) }
-        ensures feeds { self.new.feeds ≡ self.old.feeds }
+        requires { (1 ≤ source) × (source ≤ opening_sources self.old) }
+        ensures sources { opening_sources self.new ≡ opening_sources self.old }
         ensures stands { OnOk result ((first : OpeningView) (arrivals : Arrivals) →
-            OpeningStandsAt first self.old arrivals →
-            OpeningStandsAt first self.new (arrivals ++ (source, item) ∷ [])) }
+            OpeningStandsFrom first self.old arrivals →
+            OpeningStandsFrom first self.new (arrivals ++ (source, item) ∷ [])) }
         ensures unchanged { OnErr result ((first : OpeningView) (arrivals : Arrivals) →
-            OpeningStandsAt first self.old arrivals → OpeningStandsAt first self.new arrivals) }
+            OpeningStandsFrom first self.old arrivals → OpeningStandsFrom first self.new arrivals) }
     {
         let number = item.number();
         if number > self.most {
@@ -97,12 +108,34 @@ impl Opening {
         Ok(())
     }
 
+    // The opening that has the sources of another of the same schema after its own. The only error is that memory ran out.
+    fn joined(self, more: Opening) -> Result<Opening, AllocError>
+        requires schema { more.ledger.schema ≡ self.ledger.schema }
+        requires most { opening_sources self + opening_sources more ≤ 64 }
+        ensures { IfOk result (IsJoinedOpening self more) }
+    {
+        let Opening {
+            mut ledger,
+            most,
+            mut numbers,
+        } = self;
+        let mut others = more;
+        ledger.append(others.ledger)?;
+        numbers.append(&mut others.numbers)?;
+        Ok(Opening {
+            ledger,
+            most,
+            numbers,
+        })
+    }
+
     // What a session starts from, where at most so many threads make the cubes.
     fn finish<'s>(self, alloc: Global, schema: &'s Schema, threads: usize) -> Live<'s>
-        requires { self.ledger.schema ≡ schema.now }
+        requires schema { self.ledger.schema ≡ schema.now }
+        requires sources { opening_sources self ≡ 64 }
         ensures schema { result.schema ≡ schema.now }
-        ensures stands { (first : OpeningView) (arrivals : Arrivals) →
-            OpeningStandsAt first self arrivals → LiveStandsAt result arrivals }
+        ensures stands { (arrivals : Arrivals) →
+            OpeningStandsAt self arrivals → LiveStandsAt result arrivals }
     {
         Live::new(
             alloc,
@@ -118,10 +151,10 @@ impl Opening {
 /// of what is present then, over all grouping sets of the schema.
 ///
 /// Each feeder runs on a thread of its own; without feeds none is started for them. The settings say the room of each
-/// link, and how many threads make the cube; there is one builder, whatever they say of builders. The first of these
-/// faults that holds is the answer: `Memory` or `NoThread`, where no record was read; `Feed` of the lowest source whose
-/// feed is at fault; `Full` where a growth was refused later; `Unsealed` of the lowest source of which a link gave no
-/// receipt.
+/// link, and how many threads make the cube: in as many shares, 8 at most, the feeds are taken, each share on a thread of
+/// its own, whatever they say of builders. The first of these faults that holds is the answer: `Memory` or `NoThread`,
+/// where no record was read; `Feed` of the lowest source whose feed is at fault; `Full` where a growth was refused later,
+/// also to put the shares together; `Unsealed` of the lowest source of which a link gave no receipt.
 pub fn open<'s, T: Threads + Wait + Sync, R: Read + Drop + Send, G: Gate + Sync>(
     rt: &T,
     alloc: Global,
@@ -158,68 +191,102 @@ pub fn open_unsettled<'s, T: Threads + Wait + Sync, R: Read + Drop + Send, G: Ga
     ensures schema { IfOk result (λ live. live.schema ≡ schema.now) }
     ensures err { IfErr result (ExplainsFeeding schema.now (map R.Read.remaining readers.items)) }
 {
-    let Ok(opening) = Opening::new(alloc, schema, readers.len() as u32) else {
-        return Err(FeedingFault::Memory);
-    };
-    let opening = fed(
-        rt,
-        alloc,
-        schema,
-        readers,
-        settings.capacity(),
-        opening,
-        gate,
-    )?;
+    let opening = fed(rt, alloc, schema, readers, settings, gate)?;
     Ok(opening.finish(alloc, schema, settings.threads()))
 }
 
-// An opening that has taken all feeds, of which no item came to it before; no thread is started where there are none.
+// An opening of 64 sources that has taken all feeds, in as many shares as the settings have threads, 8 at most; no thread
+// is started where there are none.
 fn fed<T: Threads + Wait + Sync, R: Read + Drop + Send, G: Gate + Sync>(
     rt: &T,
     alloc: Global,
     schema: &Schema,
     readers: Vec<R>,
-    capacity: usize,
-    opening: Opening,
+    settings: &Settings,
     gate: &G,
 ) -> Result<Opening, FeedingFault>
-    requires readers { vec_len readers ≤ 64 }
-    requires capacity { (1 ≤ capacity) × (capacity ≤ 65536) }
-    requires feeds { opening.feeds ≡ vec_len readers }
-    requires new { OpeningStandsAt opening opening [] }
-    ensures ok { IfOk result (λ fed. OpensOver schema.now (map R.Read.remaining readers.items)
-        (OpeningStandsAt opening fed)) }
+    requires { vec_len readers ≤ 64 }
+    ensures ok { IfOk result (λ fed.
+        OpensOver schema.now (map R.Read.remaining readers.items) (OpeningStandsAt fed)) }
+    ensures schema { IfOk result (λ fed. fed.ledger.schema ≡ schema.now) }
+    ensures sources { IfOk result (λ fed. opening_sources fed ≡ 64) }
     ensures err { IfErr result (ExplainsFeeding schema.now (map R.Read.remaining readers.items)) }
 {
     if readers.is_empty() {
+        let Ok(opening) = Opening::new(alloc, schema, 64) else {
+            return Err(FeedingFault::Memory);
+        };
         return Ok(opening);
     }
-    let Ok(openings) = only(alloc, opening) else {
+    let sources = readers.len() as u32;
+    let Ok(openings) = new_openings(alloc, schema, sources, settings.threads()) else {
         return Err(FeedingFault::Memory);
     };
-    let mut gatherers = feed_all(rt, alloc, schema, readers, capacity, openings, gate)?;
+    let mut wholes = feed_shares(
+        rt,
+        alloc,
+        schema,
+        readers,
+        settings.capacity(),
+        openings,
+        gate,
+    )?;
     let Gatherer {
-        builder: fed,
+        builder: openings,
         place: _,
         inlets,
         wanting: _,
-    } = gatherers.swap_remove(0);
+    } = wholes.swap_remove(0);
     drop(inlets);
-    Ok(fed)
+    match put_together(alloc, schema, openings) {
+        Ok(opening) => Ok(opening),
+        Err(_) => Err(FeedingFault::Full),
+    }
 }
 
-// A list of one opening.
-fn only(alloc: Global, opening: Opening) -> Result<Vec<Opening>, AllocError>
-    ensures { IfOk result (λ openings. openings.items ≡ opening ∷ []) }
+// New openings of as many shares as there are threads, 8 at most, with so many sources together. The only error is that
+// memory ran out.
+fn new_openings(
+    alloc: Global,
+    schema: &Schema,
+    sources: u32,
+    threads: usize,
+) -> Result<Vec<Opening>, AllocError>
+    requires sources { (1 ≤ sources) × (sources ≤ 64) }
+    requires threads { 1 ≤ threads }
+    ensures { IfOk result (λ openings. AreNewOpenings schema.now sources openings.items) }
 {
-    let mut openings = Vec::with_capacity(alloc, 1)?;
-    openings.push(opening)?;
+    let shares = shares_of(threads, sources);
+    openings_of(alloc, new_ledgers(alloc, schema, sources, shares)?)
+}
+
+// The openings of ledgers of which no item came, in their order. The only error is that memory ran out.
+fn openings_of(alloc: Global, ledgers: Vec<Ledger>) -> Result<Vec<Opening>, AllocError>
+    ensures ledgers { IfOk result (λ openings. opening_ledgers openings.items ≡ ledgers.items) }
+    ensures numbers { IfOk result (λ openings. All IsUnnumbered openings.items) }
+{
+    let mut openings = Vec::with_capacity(alloc, ledgers.len())?;
+    for ledger in ledgers {
+        openings.push(Opening::of(alloc, ledger)?)?;
+    }
     Ok(openings)
 }
 
-// For each of the 64 sources that no record of it was taken.
-fn no_numbers(alloc: Global) -> Result<Vec<u32>, AllocError>
-    ensures { IfOk result (λ numbers. numbers.items ≡ replicate 64 0) }
+// The opening of 64 sources that has those of all of these, in their order, and after them such of which no item came. The
+// only error is that memory ran out.
+fn put_together(
+    alloc: Global,
+    schema: &Schema,
+    openings: Vec<Opening>,
+) -> Result<Opening, AllocError>
+    requires schema { All (λ opening. opening.ledger.schema ≡ schema.now) openings.items }
+    requires most { sum_by opening_sources openings.items ≤ 64 }
+    ensures { IfOk result (IsFilledUp schema.now openings.items) }
 {
-    Ok(vec![in alloc; 0; 64]?)
+    let mut whole = Opening::new(alloc, schema, 0)?;
+    for opening in openings {
+        whole = whole.joined(opening)?;
+    }
+    let others = Opening::new(alloc, schema, 64 - whole.ledger.sources())?;
+    whole.joined(others)
 }

@@ -5,8 +5,7 @@ use Rattle.cube_live.proofs.opening.Opening.finish.Goals as goal
 
 pub returns-clause-stands : goal.returns-clause-stands
 returns-clause-stands c =
-    let opening : OpeningView =
-    record { ledger = c.self.inside.ledger; feeds = c.self.inside.feeds; numbers = c.self.inside.numbers.items } in
-    rw (← c.self.view_is)
-    (λ first arrivals.
-    LiveStandsAt-made first opening c.new.result arrivals (c.new.ensures.ledger ∙ c.of.ensures) c.new.ensures.numbers)
+    let opening : OpeningView = record { ledger = c.self.inside.ledger; numbers = c.self.inside.numbers.items } in
+    let all = rw (← c.self.view_is) at c.requires.sources in
+    rw (← c.self.view_is) (λ arrivals. LiveStandsAt-made opening c.new.result arrivals all
+    (c.new.ensures.ledger ∙ c.of.ensures) c.new.ensures.numbers)
