@@ -7,7 +7,7 @@ use Rattle.std.specs.List.{All, AllZip, range_with_len}
 use Rattle.std.proofs.lemmas.Bool.{cases_lt}
 use Rattle.std.proofs.lemmas.List.{append-nil, flat_map_more, get_or_append_left, get_or-append_right, get_or-map}
 use Rattle.std.proofs.lemmas.List.{get_or-replicate, length-append, length-map, length-replicate, map-append}
-use Rattle.std.proofs.lemmas.List.Elements.{All-head, All-tail}
+use Rattle.std.proofs.lemmas.List.Elements.{All-tail}
 use Rattle.std.proofs.lemmas.List.Sums.{sum_by-cons}
 use Rattle.std.proofs.lemmas.List.FromFn.{get_or-map-range_with_len, length-map-range_with_len}
 use Rattle.cube_core.specs.Arrival.{Arrivals, of_source, of_sources}
@@ -24,7 +24,7 @@ use Rattle.cube_rings.specs.Shares.{StandAtShares, StandInShares}
 use Rattle.cube_rings.specs.declared.gatherer.Gatherer.{Gatherer}
 use Rattle.cube_build.proofs.ShareLaws.{StandTogether, sources_of, stand-together}
 use Rattle.cube_live.specs.Live.{AreLast, LiveStandsAt, LiveView, last_number}
-use Rattle.cube_live.specs.Opening.{AreNewOpenings, IsFilledUp, IsJoinedOpening, IsOpening, IsUnnumbered}
+use Rattle.cube_live.specs.Opening.{AreNewOpenings, IsFilledUp, IsJoinedOpening, IsOpening}
 use Rattle.cube_live.specs.Opening.{OpeningStandsAt, OpeningStandsFrom, OpeningView, OpensOver, last_numbers}
 use Rattle.cube_live.specs.Opening.{opening_ledgers, opening_sources}
 use Rattle.cube_live.proofs.LiveLaws.{last_number-own}

@@ -1,6 +1,6 @@
 -- The opening of a session:
 -- the feeds of the first sources are taken to their ends before its first record (this project's choice).
-use Rattle.std.specs.Prelude.{◌≡◌, ◌≤◌, ◌<◌, ◌+◌, ◌++◌, [], ℕ, List, flat_map, length, get_or, map, replicate}
+use Rattle.std.specs.Prelude.{◌≡◌, ◌≤◌, ◌<◌, ◌++◌, [], ℕ, List, flat_map, length, get_or, map, replicate}
 use Rattle.std.specs.List.{All, AllZip}
 use Rattle.cube_core.specs.Arrival.{Arrivals, of_source, of_sources}
 use Rattle.cube_core.specs.Layout.{Layout}
