@@ -151,10 +151,11 @@ impl Opening {
 /// of what is present then, over all grouping sets of the schema.
 ///
 /// Each feeder runs on a thread of its own; without feeds none is started for them. The settings say the room of each
-/// link, and how many threads make the cube: in as many shares, 8 at most, the feeds are taken, each share on a thread of
-/// its own, whatever they say of builders. The first of these faults that holds is the answer: `Memory` or `NoThread`,
-/// where no record was read; `Feed` of the lowest source whose feed is at fault; `Full` where a growth was refused later,
-/// also to put the shares together; `Unsealed` of the lowest source of which a link gave no receipt.
+/// link, and how many threads make the cube. The feeds are taken in as many shares of the sources, 8 at most, the first
+/// on the caller's thread and each other on its own, whatever the settings say of builders. The first of these faults
+/// that holds is the answer: `Memory` or `NoThread`, where no record was read; `Feed` of the lowest source whose feed is
+/// at fault; `Full` where a growth was refused later, also to put the shares together; `Unsealed` of the lowest source of
+/// which a link gave no receipt.
 pub fn open<'s, T: Threads + Wait + Sync, R: Read + Drop + Send, G: Gate + Sync>(
     rt: &T,
     alloc: Global,
