@@ -2,20 +2,21 @@ use Rattle.cube_core.proofs.SufficesLaws.{all_suffice_kept}
 use Rattle.cube_ledger.specs.Ledger.{all_facts}
 use Rattle.cube_build.specs.Counting.{HaveFactsOf}
 use Rattle.cube_build.proofs.TakenLaws.{counts-all, finest-has, finest-taken}
-use Rattle.cube_build.proofs.taken.Taken.of_numbers.Goals.{In_ok-of, Over}
+use Rattle.cube_build.proofs.taken.Taken.of_numbers.Given.{Over}
+use Rattle.cube_build.proofs.taken.Taken.of_numbers.Goals.{In_ok-of}
 use Rattle.cube_build.proofs.taken.Taken.of_numbers.Goals as goal
 
 pub of-requires-clause-sets : goal.of-requires-clause-sets
-of-requires-clause-sets g c = rw c.into_parts-refused.ensures.cube c.requires.finest
+of-requires-clause-sets g c = λ lifetimes live. rw c.into_parts-refused.ensures.cube c.requires.finest
 
 pub of-requires-clause-facts : goal.of-requires-clause-facts
-of-requires-clause-facts g c = (
+of-requires-clause-facts g c = λ lifetimes live. (
   all_facts c.into_parts-refused.result.2.ledger.accounts,
   counts-all c.into_parts-refused.result.0 c.into_parts-refused.result.2.ledger c.into_parts-refused.result.1 c.into_parts-refused.ensures.are,
 )
 
 pub of-requires-clause-numbers : goal.of-requires-clause-numbers
-of-requires-clause-numbers g c = all_suffice_kept c.into_parts-refused.result.1.schema
+of-requires-clause-numbers g c = λ lifetimes live. all_suffice_kept c.into_parts-refused.result.1.schema
 
 -- the finest cells have the facts of the ledger
 has : (g : Over) (c : In_ok-of g) → HaveFactsOf c.into_parts-refused.result.2.ledger c.in_ok-of.field-0
