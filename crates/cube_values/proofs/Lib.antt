@@ -6,6 +6,7 @@ mod SummaryLaws
 pub mod GrownLaws
 mod LogLaws
 mod OwedLaws
+mod OrderedLaws
 mod TableLaws
 pub mod StatisticsLaws
 pub mod HeldLaws

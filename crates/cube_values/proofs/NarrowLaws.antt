@@ -1,6 +1,6 @@
 -- Laws of lists of numbers that are each held once: what their bag holds, and how it changes with the list.
 use Rattle.std.proofs.Common.{◌≡◌, ℕ, ◌+◌, ◌<◌, ◌≤◌, List, [], ◌∷◌, ◌++◌, refl, arith, ap, length, get_or, take, drop}
-use Rattle.std.proofs.Common.{true, false, subst, sym, not, ◌∙◌}
+use Rattle.std.proofs.Common.{true, false, subst, not}
 use Rattle.std.specs.Prelude.{ℤ, ◌≤ℤ◌, int_lt, Option, Some, None, All, Contains, IfSome, IfNone, is_some, sum_by}
 use Rattle.std.specs.Bool.{OnTrue, OnFalse}
 use Rattle.std.specs.Int.{int_min, int_max}
@@ -11,18 +11,18 @@ use Rattle.std.specs.Ordering.{int_cmp, int_eq, is_lt}
 use Rattle.std.proofs.lemmas.Cmp.{int_cmp_total}
 use Rattle.std.proofs.lemmas.Int.{ints}
 use Rattle.std.proofs.lemmas.List.Sorted.{ranks_by, sorted_far, sum_by-IsPermutation}
-use Rattle.std.proofs.lemmas.List.{map_more, take_all, take-append-le, length-append, length-map, get_or-map}
+use Rattle.std.proofs.lemmas.List.{map_more, take_all, length-map, get_or-map}
 use Rattle.std.proofs.lemmas.List.Elements.{All-map}
 use Rattle.std.proofs.lemmas.List.Sums.{sum_by-cons, sum_by-append, sum_by_push, sum_by-swap_remove, sum_by-le}
-use Rattle.std.proofs.lemmas.List.Sums.{get_or-le-sum_by, sum_by-take-drop}
+use Rattle.std.proofs.lemmas.List.Sums.{get_or-le-sum_by}
 use Rattle.cube_values.specs.Bag.{Bag, weight_of, one_at, held_of, size_of, SameHeld, AddsBag, AddsTimes, AddsOne, HasEnds}
 use Rattle.cube_values.specs.Log.{Rises}
-use Rattle.cube_values.specs.Narrow.{times_in, once_each, IsSortedTo, IsNarrow}
-use Rattle.cube_values.proofs.BagLaws.{weight_of-cons, weight_of-same, one_at-refl, one_at-distinct, int_eq-same}
+use Rattle.cube_values.specs.Narrow.{times_in, once_each}
+use Rattle.cube_values.proofs.BagLaws.{weight_of-cons, one_at-refl, one_at-distinct, int_eq-same}
 use Rattle.cube_values.proofs.BagLaws.{IsSplit, IsSplit-room}
 use Rattle.cube_values.proofs.BagLaws.{IsSplit-more, IsSplit-SameHeld, IsMerging, IsMerging-room_at, IsMerging-more_at}
 use Rattle.cube_values.proofs.BagLaws.{IsMerging-AddsBag_past}
-use Rattle.cube_values.proofs.EndLaws.{AddsBag-append, HasEnds-pair, HasEnds-AddsBag, HasEnds-SameHeld, HasEnds-keys_of}
+use Rattle.cube_values.proofs.EndLaws.{HasEnds-pair, HasEnds-AddsBag, HasEnds-keys_of}
 
 -- each number counts as often as it stands in the list
 pub weight_of-once_each : (f : ℤ → ℕ) (numbers : List ℤ) → weight_of f (once_each numbers) ≡ sum_by f numbers
@@ -240,91 +240,27 @@ SameHeld-permuted old new moved = record {
   );
 }
 
--- those of a sorted list rise
+-- a number of a sorted list is at most those behind it
+pub IsSorted-le : (numbers : List ℤ) → IsSorted int_cmp numbers → (i j : ℕ) (d : ℤ) → i ≤ j → j < length numbers
+    → get_or numbers i d ≤ℤ get_or numbers j d
+IsSorted-le numbers sorted i j d before within =
+    let far : is_lt (int_cmp (get_or numbers j d) (get_or numbers i d)) ≡ false =
+    sorted_far (λ (a b : ℤ). is_lt (int_cmp a b)) (ranks_by int_cmp_total (λ (x : ℤ). x)) numbers sorted i j d before
+    within in
+    grind (arith, ints, far)
+
+-- so those of its bag rise
 pub IsSorted-Rises : (numbers : List ℤ) → IsSorted int_cmp numbers → Rises (once_each numbers)
 IsSorted-Rises numbers sorted i j d before within =
     let inside : j < length numbers = omega (arith, within, length-once_each numbers) in
-    let far : is_lt (int_cmp (get_or numbers j d.0) (get_or numbers i d.0)) ≡ false =
-    sorted_far (λ (a b : ℤ). is_lt (int_cmp a b)) (ranks_by int_cmp_total (λ (x : ℤ). x)) numbers sorted i j d.0 before
-    inside in
     rw (
       get_or-map (λ (x : ℤ). (x, 1)) numbers i d.0 d (omega (arith, before, inside)),
       get_or-map (λ (x : ℤ). (x, 1)) numbers j d.0 d inside,
-    ) (grind (arith, ints, far))
-
--- ---- what a narrow list keeps
--- none of the numbers need be in order
-IsSortedTo-none : (numbers : List ℤ) → IsSortedTo numbers 0
-IsSortedTo-none numbers = record { within = omega arith; sorted = λ k d from to. absurd (omega (arith, to)) }
-
--- a list of numbers as they came
-pub IsNarrow-list : (numbers : List ℤ) (l g : ℤ) → HasEnds (once_each numbers) l g
-    → IsNarrow (once_each numbers) numbers 0 l g
-IsNarrow-list numbers l g ends =
-    record { same = record { held = λ x. refl }; order = IsSortedTo-none numbers; ends = ends }
-
--- others are put behind them
-pub IsNarrow-append : (bag more : Bag) (numbers others : List ℤ) (n k : ℕ) (l g m h : ℤ) → IsNarrow bag numbers n l g
-    → IsNarrow more others k m h → IsNarrow (bag ++ more) (numbers ++ others) n (int_min l m) (int_max g h)
-IsNarrow-append bag more numbers others n k l g m h is are = record {
-  same = record {
-    held = λ x. omega (
-      arith,
-      (AddsBag-append bag more).held x,
-      (AddsBag-once_each numbers others).held x,
-      is.same.held x,
-      are.same.held x,
-    );
-  };
-  order = record {
-    within = omega (arith, is.order.within, length-append numbers others);
-    sorted = subst (IsSorted int_cmp) (sym (take-append-le n numbers others is.order.within)) is.order.sorted;
-  };
-  ends = HasEnds-once_each_append numbers others l g m h is.ends are.ends;
-}
-
--- one number is
-pub IsNarrow-push : (bag : Bag) (numbers : List ℤ) (v : ℤ) (n : ℕ) (l g : ℤ) → IsNarrow bag numbers n l g
-    → IsNarrow (bag ++ (v, 1) ∷ []) (numbers ++ v ∷ []) n (int_min l v) (int_max g v)
-IsNarrow-push bag numbers v n l g is = IsNarrow-append bag ((v, 1) ∷ []) numbers (v ∷ []) n 0 l g v v is
-    (IsNarrow-list (v ∷ []) v v (HasEnds-pair v 1 (omega arith)))
-
--- they are sorted
-pub IsNarrow-sorted : (bag : Bag) (numbers new : List ℤ) (n count : ℕ) (l g : ℤ) → IsNarrow bag numbers n l g
-    → IsPermutation numbers new → IsSorted int_cmp new → count ≡ length new → IsNarrow bag new count l g
-IsNarrow-sorted bag numbers new n count l g is moved sorted all =
-    let same : SameHeld (once_each numbers) (once_each new) = SameHeld-permuted numbers new moved in
-    record {
-      same = record { held = λ x. is.same.held x ∙ same.held x };
-      order = record {
-        within = omega (arith, all);
-        sorted = subst (IsSorted int_cmp) (sym (take_all count new (omega (arith, all)))) sorted;
-      };
-      ends = HasEnds-SameHeld (once_each numbers) (once_each new) l g same is.ends;
-    }
-
--- the ends are those of the bag
-pub IsNarrow-ends : (bag : Bag) (numbers : List ℤ) (n : ℕ) (l g : ℤ) → IsNarrow bag numbers n l g → HasEnds bag l g
-IsNarrow-ends bag numbers n l g is =
-    HasEnds-SameHeld (once_each numbers) bag l g (record { held = λ x. sym (is.same.held x) }) is.ends
-
--- each weight is that of the numbers before a place and of those from it on
-pub weight_of-parts : (f : ℤ → ℕ) (bag : Bag) (numbers : List ℤ) (n : ℕ) → SameHeld bag (once_each numbers)
-    → weight_of f (once_each (take n numbers)) + weight_of f (once_each (drop n numbers)) ≡ weight_of f bag
-weight_of-parts f bag numbers n same = omega (
-  arith,
-  weight_of-same f bag (once_each numbers) same,
-  weight_of-once_each f numbers,
-  weight_of-once_each f (take n numbers),
-  weight_of-once_each f (drop n numbers),
-  sum_by-take-drop f numbers n,
-)
+    ) (IsSorted-le numbers sorted i j d.0 before inside)
 
 -- those up to v come first
 pub IsSorted-IsPartitionedBy : (numbers : List ℤ) (v : ℤ) → IsSorted int_cmp numbers
     → IsPartitionedBy (λ x. not (int_lt v x)) numbers
 IsSorted-IsPartitionedBy numbers v sorted i j d before within passes =
-    let far : is_lt (int_cmp (get_or numbers j d) (get_or numbers i d)) ≡ false =
-    sorted_far (λ (a b : ℤ). is_lt (int_cmp a b)) (ranks_by int_cmp_total (λ (x : ℤ). x)) numbers sorted i j d before
-    within in
-    grind (arith, ints, far, passes)
+    let le : get_or numbers i d ≤ℤ get_or numbers j d = IsSorted-le numbers sorted i j d before within in
+    grind (arith, ints, le, passes)

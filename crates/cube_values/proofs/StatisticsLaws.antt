@@ -127,7 +127,7 @@ size_up_to-first (x ∷ numbers) v (suc past) within below above =
 one_below-next : (v x : ℤ) → one_below (v +ℤ pos 1) x ≡ one_up_to v x
 one_below-next v x = by_lt_z v x (λ more. grind (arith, ints, more)) (λ le. grind (arith, ints, le))
 
-size_below-next : (bag : Bag) (v : ℤ) → size_below bag (v +ℤ pos 1) ≡ size_up_to bag v
+pub size_below-next : (bag : Bag) (v : ℤ) → size_below bag (v +ℤ pos 1) ≡ size_up_to bag v
 size_below-next bag v = omega (
   arith,
   weight_of-both (one_below (v +ℤ pos 1)) (one_up_to v) (λ _. 0) (λ x. omega (arith, one_below-next v x)) bag,
@@ -360,7 +360,7 @@ AreInOrder-determined bag a b first second = same_pairs a b first.ascending seco
 abbrev pub one_if : ℕ → ℕ
 one_if n = cond (nat_lt 0 n) 1 0
 
-one_if-some : (n : ℕ) → 0 < n → one_if n ≡ 1
+pub one_if-some : (n : ℕ) → 0 < n → one_if n ≡ 1
 one_if-some n some = grind (arith, some)
 
 -- the numbers of pairs in order

@@ -1,5 +1,6 @@
 pub mod Bag
 pub mod Narrow
+pub mod Ordered
 pub mod Summary
 pub mod Log
 pub mod Values

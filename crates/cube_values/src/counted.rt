@@ -1,7 +1,7 @@
 //! A multiset of numbers.
 ghost use Rattle.std.specs.Prelude.{nat_lt, ◌==◌, ℤ, [], ◌∷◌, ◌≡◌, ◌<◌, ◌≤◌, ◌+◌, ◌^◌, ◌↔◌, All, IsTrue, IsNone, IfNone, IfSome, IfOk, OnOk, OnErr};
 ghost use Rattle.std.specs.Bool.{OnTrue, OnFalse};
-ghost use Rattle.cube_values.specs.Bag.{Bag, AddsBag, AddsOne, AddsTimes, SameHeld, held_of, size_of, HasLeast, HasGreatest};
+ghost use Rattle.cube_values.specs.Bag.{Bag, AddsBag, AddsOne, AddsTimes, SameHeld, held_of, size_of, HasLeast, HasGreatest, HasEnds};
 ghost use Rattle.cube_values.specs.Narrow.{once_each};
 ghost use Rattle.cube_values.specs.Values.{bag_of, bag_left};
 
@@ -9,6 +9,7 @@ mod statistics;
 
 use crate::log::Log;
 use crate::narrow::{Narrow, numbers_repeat};
+use crate::ordered::Ordered;
 use crate::short::{FEW, Short};
 use crate::single::Single;
 use crate::table::Table;
@@ -23,12 +24,20 @@ const SPLIT: u64 = 4;
 /// The most numbers of a narrow list that are searched for one to take away.
 const SEARCHED: usize = 64;
 
+/// How many numbers a narrow list has at least that is brought in order.
+const SORTED: usize = 256;
+
 /// A multiset of numbers: how often each is held.
 ///
 /// A number that is held alone, however often, takes no memory of its own. Numbers of 32 bits that come one at a time
 /// stand in a narrow list, of 4 bytes a number, which keeps its least and greatest number and looks at each for
-/// `holds`. Many of them may be brought in order, and those that come later stand behind them. It gives way to a form that counts how often each number is held where a wider number comes, or one many times at once,
-/// where the numbers repeat, and where one is taken from many.
+/// `holds`. It gives way to a form that counts how often each number is held where a wider number comes, or one many
+/// times at once, where the numbers repeat, and where one is taken from many.
+///
+/// A narrow list of many numbers may be brought in order. Those that come later then stand behind the others, and those
+/// that are taken away are only noted, until they are so many, or an end goes, that all are brought in order again. A
+/// question of the order searches those in order, and looks at each of the few others. Where an end goes again and
+/// again, the list gives way to a log.
 ///
 /// Of these forms, a short list takes few numbers. More are a log of what was added, with a list of what was taken
 /// away since; it answers its least and greatest number at once, and looks at each of its pairs for `holds`. When one
@@ -47,6 +56,7 @@ enum Values {
     One(Single),
     Few(Short),
     Narrow(Box<Narrow>),
+    Ordered(Box<Ordered>),
     Logged(Box<Log>),
     Many(Box<Table>),
 }
@@ -112,23 +122,23 @@ impl Counted {
         match &mut self.values {
             Values::Few(short) => short.shrink_to_fit(),
             Values::Narrow(narrow) => narrow.shrink_to_fit(),
+            Values::Ordered(ordered) => ordered.shrink_to_fit(),
             Values::Logged(log) => log.shrink_to_fit(),
             Values::One(_) | Values::Many(_) => {}
         }
     }
 
-    /// Brings the numbers of a narrow list in order, where they are many: then a question of their order is answered by a
-    /// search. It takes no memory.
+    /// Brings the numbers of a narrow list in order, where they are many: then a question of their order is answered by
+    /// a search. Where memory runs out, they stay as they are.
     pub fn bring_in_order(&mut self)
         ensures { self.new ≡ self.old }
     {
-        if let Values::Narrow(narrow) = &mut self.values {
-            narrow.bring_in_order();
-        }
+        let old = mem::replace(&mut self.values, Values::One(Single::none()));
+        self.values = brought_in_order(self.alloc, old);
     }
 
-    /// Takes one `value` away, which is held; a log makes no search for it where it lies between the ends. Where memory runs
-    /// out, it does without.
+    /// Takes one `value` away, which is held; a log makes no search for it where it lies between the ends, nor does a
+    /// list in order. Where memory runs out, it does without.
     #[tactic(auto, using(crate::proofs::BagLaws::size_of_one, crate::proofs::BagLaws::held_before))]
     pub fn take(&mut self, value: i64)
         requires { 0 < held_of self.old value }
@@ -170,6 +180,7 @@ impl Counted {
             Values::One(single) => single.number(),
             Values::Few(short) => short.least(),
             Values::Narrow(narrow) => narrow.least(),
+            Values::Ordered(ordered) => ordered.least(),
             Values::Logged(log) => log.least(),
             Values::Many(table) => table.least(),
         }
@@ -184,6 +195,7 @@ impl Counted {
             Values::One(single) => single.number(),
             Values::Few(short) => short.greatest(),
             Values::Narrow(narrow) => narrow.greatest(),
+            Values::Ordered(ordered) => ordered.greatest(),
             Values::Logged(log) => log.greatest(),
             Values::Many(table) => table.greatest(),
         }
@@ -203,6 +215,36 @@ impl Counted {
         ensures { result ≡ (size_of self.now == 0) }
     {
         self.len == 0
+    }
+}
+
+// The same numbers, those of a narrow list in order where they are many.
+fn brought_in_order(alloc: Global, values: Values) -> Values
+    ensures { bag_of result ≡ bag_of values }
+{
+    match values {
+        Values::Narrow(narrow) => put_in_order(alloc, narrow),
+        Values::Ordered(mut ordered) => {
+            ordered.settle();
+            Values::Ordered(ordered)
+        }
+        other => other,
+    }
+}
+
+// The numbers of a narrow list in order, where they are many and there is memory for the form that keeps them so.
+fn put_in_order(alloc: Global, narrow: Box<Narrow>) -> Values
+    ensures { bag_of result ≡ narrow.value }
+{
+    if narrow.numbers().len() < SORTED {
+        return Values::Narrow(narrow);
+    }
+    match Ordered::room(alloc) {
+        Ok(mut room) => {
+            *room = Ordered::of_narrow(alloc, Box::into_inner(narrow));
+            Values::Ordered(room)
+        }
+        Err(_) => Values::Narrow(narrow),
     }
 }
 
@@ -232,9 +274,13 @@ fn copy_of_larger(
         (Values::One(single), Values::Narrow(narrow)) => {
             Values::Narrow(narrow.copy(alloc, usize::from(single.pair().1 > 0))?)
         }
-        (Values::One(_) | Values::Few(_) | Values::Narrow(_), Values::Logged(log)) => {
-            Values::Logged(log.copy(alloc)?)
+        (Values::One(single), Values::Ordered(ordered)) => {
+            Values::Narrow(ordered.copy(alloc, usize::from(single.pair().1 > 0))?)
         }
+        (
+            Values::One(_) | Values::Few(_) | Values::Narrow(_) | Values::Ordered(_),
+            Values::Logged(log),
+        ) => Values::Logged(log.copy(alloc)?),
         (Values::Few(short), Values::Few(more)) if short.pairs().len() + more.pairs().len() > FEW =>
             { Values::Logged(Log::of_both(alloc, more.pairs(), &[])?) }
         _ => return Ok(None),
@@ -250,7 +296,8 @@ fn append_values(alloc: Global, values: &mut Values, more: &Values) -> Result<()
     match more {
         Values::One(single) => merge_pair(alloc, values, single.pair()),
         Values::Few(short) => merge_short(alloc, values, short),
-        Values::Narrow(narrow) => merge_narrow(alloc, values, narrow),
+        Values::Narrow(narrow) => merge_list(alloc, values, narrow.numbers(), narrow.ends()),
+        Values::Ordered(ordered) => merge_ordered(alloc, values, ordered),
         Values::Logged(log) => merge_log(alloc, values, log),
         Values::Many(table) => merge_counts(alloc, values, table.counts()),
     }
@@ -266,7 +313,7 @@ fn merge_pair(alloc: Global, values: &mut Values, pair: (i64, u64)) -> Result<()
         return Ok(());
     }
     if pair.1 <= SPLIT
-        && let Values::Narrow(_) = values
+        && let Values::Narrow(_) | Values::Ordered(_) = values
     {
         return merge_times(alloc, values, pair);
     }
@@ -308,17 +355,35 @@ fn merge_short(alloc: Global, values: &mut Values, more: &Short) -> Result<(), A
     merge_pairs(alloc, values, more.pairs())
 }
 
-// Adds the numbers of a narrow list: behind those of another at once.
-fn merge_narrow(alloc: Global, values: &mut Values, more: &Narrow) -> Result<(), AllocError>
+// Adds the numbers of a list that was brought in order.
+fn merge_ordered(alloc: Global, values: &mut Values, more: &Ordered) -> Result<(), AllocError>
     requires { size_of (bag_of values.old) + size_of more.now < 2 ^ 64 }
     ensures { OnOk result (AddsBag (bag_of values.old) (bag_of values.new) more.now) }
 {
+    if let Some(numbers) = more.numbers() {
+        return merge_list(alloc, values, numbers, more.ends());
+    }
+    let numbers = more.left(alloc, 0)?;
+    merge_list(alloc, values, &numbers, more.ends())
+}
+
+// Adds numbers with these ends, each once: behind those of a narrow list at once.
+fn merge_list(
+    alloc: Global,
+    values: &mut Values,
+    numbers: &[i32],
+    ends: (i32, i32),
+) -> Result<(), AllocError>
+    requires ends { HasEnds (once_each numbers.now) ends.0 ends.1 }
+    requires fits { size_of (bag_of values.old) + size_of (once_each numbers.now) < 2 ^ 64 }
+    ensures { OnOk result (AddsBag (bag_of values.old) (bag_of values.new) (once_each numbers.now)) }
+{
     if let Values::Narrow(narrow) = values
-        && narrow.append(more)?
+        && narrow.append_list(numbers, ends)?
     {
         return Ok(());
     }
-    merge_numbers(alloc, values, more.numbers())
+    merge_numbers(alloc, values, numbers)
 }
 
 // Adds numbers, each once.
@@ -385,6 +450,7 @@ fn add_value(alloc: Global, values: &mut Values, value: i64, times: u64) -> Resu
         Values::One(single) => add_to_single(alloc, single, more),
         Values::Few(short) => add_to_short(alloc, short, more),
         Values::Narrow(narrow) => add_to_narrow(alloc, narrow, more),
+        Values::Ordered(ordered) => add_to_ordered(alloc, ordered, more),
         Values::Logged(log) => add_to_log(alloc, log, more),
         Values::Many(table) => return table.add(value, times),
     }?;
@@ -411,8 +477,8 @@ fn add_to_single(
     Ok(Some(two_of(alloc, single.pair(), more)?))
 }
 
-// Two numbers, each with how often it is held: a narrow list where each is of 32 bits and is held once, and else a short
-// one.
+// Two numbers, each with how often it is held: a narrow list where each is of 32 bits and is held once, and else a
+// short one.
 #[cold]
 fn two_of(alloc: Global, first: (i64, u64), second: (i64, u64)) -> Result<Values, AllocError>
     requires first { 0 < first.1 }
@@ -458,21 +524,41 @@ fn add_to_narrow(
     if narrow.add(more.0, more.1)? {
         return Ok(None);
     }
-    Ok(Some(widened(alloc, narrow, more)?))
+    Ok(Some(counted_each(alloc, narrow.numbers(), more)?))
 }
 
-// The numbers of a narrow list and another, so many times, in a form that counts how often each is held.
-#[cold]
-fn widened(alloc: Global, narrow: &Narrow, more: (i64, u64)) -> Result<Values, AllocError>
+// Adds a number so many times to a list that was brought in order. Where that doesn't take it, answers all in a form
+// that counts how often each is held.
+fn add_to_ordered(
+    alloc: Global,
+    ordered: &mut Ordered,
+    more: (i64, u64),
+) -> Result<Option<Values>, AllocError>
     requires some { 0 < more.1 }
-    requires fits { size_of narrow.now + more.1 < 2 ^ 64 }
-    ensures { IfOk result (λ values. AddsTimes narrow.now (bag_of values) more.0 more.1) }
+    requires fits { size_of ordered.old + more.1 < 2 ^ 64 }
+    ensures added { IfOk result (λ grown. AddsTimes ordered.old (bag_left ordered.new grown) more.0 more.1) }
+    ensures err { OnErr result (ordered.new ≡ ordered.old) }
 {
-    counted_each(alloc, narrow.numbers(), more)
+    if ordered.add(more.0, more.1)? {
+        return Ok(None);
+    }
+    Ok(Some(counted_left(alloc, ordered, more)?))
 }
 
-// Numbers that are each held once and another, so many times, in a form that counts how often each is held: a short list
-// where it has place for all, a table where the numbers repeat, and else a log.
+// The numbers of a list that was brought in order and another, so many times, in a form that counts how often each is
+// held.
+fn counted_left(alloc: Global, ordered: &Ordered, more: (i64, u64)) -> Result<Values, AllocError>
+    requires some { 0 < more.1 }
+    requires fits { size_of ordered.now + more.1 < 2 ^ 64 }
+    ensures { IfOk result (λ values. AddsTimes ordered.now (bag_of values) more.0 more.1) }
+{
+    let numbers = ordered.left(alloc, 0)?;
+    counted_each(alloc, &numbers, more)
+}
+
+// Numbers that are each held once and another, so many times, in a form that counts how often each is held: a short
+// list where it has place for all, a table where the numbers repeat, and else a log.
+#[cold]
 fn counted_each(alloc: Global, numbers: &[i32], more: (i64, u64)) -> Result<Values, AllocError>
     requires some { 0 < more.1 }
     requires fits { size_of (once_each numbers.now) + more.1 < 2 ^ 64 }
@@ -540,6 +626,7 @@ fn holds_value(values: &Values, value: i64) -> bool
         Values::One(single) => single.holds(value),
         Values::Few(short) => short.holds(value),
         Values::Narrow(narrow) => narrow.holds(value),
+        Values::Ordered(ordered) => ordered.holds(value),
         Values::Logged(log) => log.holds(value),
         Values::Many(table) => table.holds(value),
     }
@@ -579,6 +666,10 @@ fn take_value(alloc: Global, values: &mut Values, value: i64)
             Some(left) => left,
             None => return,
         },
+        Values::Ordered(ordered) => match take_ordered(alloc, ordered, value) {
+            Some(left) => left,
+            None => return,
+        },
         Values::Logged(log) => {
             log.take(value);
             return;
@@ -598,17 +689,47 @@ fn take_narrow(alloc: Global, narrow: &mut Narrow, value: i64) -> Option<Values>
     ensures other { IfSome result (λ left. AddsOne (bag_of left) narrow.old value) }
     ensures same_form { IfNone result (AddsOne narrow.new narrow.old value) }
 {
-    let numbers = narrow.numbers();
-    if numbers.len() <= 1 {
+    let count = narrow.numbers().len();
+    if count <= 1 {
         return Some(Values::One(Single::none()));
     }
-    if numbers.len() > SEARCHED
-        && let Ok(log) = log_without(alloc, numbers, value)
+    if count > SEARCHED
+        && let Ok(log) = log_without(alloc, narrow.numbers(), value)
     {
         return Some(Values::Logged(log));
     }
     narrow.take(value);
     None
+}
+
+// Takes one `value` away, which is held; answers what is left where that is of another form.
+fn take_ordered(alloc: Global, ordered: &mut Ordered, value: i64) -> Option<Values>
+    requires held { 0 < held_of ordered.old value }
+    requires fits { size_of ordered.old < 2 ^ 64 }
+    ensures other { IfSome result (λ left. AddsOne (bag_of left) ordered.old value) }
+    ensures same_form { IfNone result (AddsOne ordered.new ordered.old value) }
+{
+    if ordered.count() <= 1 {
+        return Some(Values::One(Single::none()));
+    }
+    if ordered.gives_way(value)
+        && let Ok(log) = log_left(alloc, ordered, value)
+    {
+        return Some(Values::Logged(log));
+    }
+    ordered.take(value);
+    None
+}
+
+// A log of the numbers of a list that was brought in order, without one `value`, which is held.
+#[cold]
+fn log_left(alloc: Global, ordered: &Ordered, value: i64) -> Result<Box<Log>, AllocError>
+    requires held { 0 < held_of ordered.now value }
+    requires fits { size_of ordered.now < 2 ^ 64 }
+    ensures { IfOk result (λ log. AddsOne log.value ordered.now value) }
+{
+    let numbers = ordered.left(alloc, 0)?;
+    log_without(alloc, &numbers, value)
 }
 
 // A log of numbers that are each held once, without one `value`, which is held.

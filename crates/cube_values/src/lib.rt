@@ -14,6 +14,8 @@ pub mod laws;
 mod log;
 mod narrow;
 mod numbers;
+mod ordered;
+mod paid;
 mod percentile;
 mod repeats;
 mod short;

@@ -467,8 +467,8 @@ fn counts_more(pairs: &[(i64, u64)], value: i64, times: u64) -> bool
     false
 }
 
-// Puts `value` on a list of fewer than `most` numbers; answers whether it did.
-fn owe(taken: &mut Vec<i64>, value: i64, most: usize) -> bool
+/// Puts a number on a list of fewer than `most` numbers; answers whether it did.
+pub fn owe<X: Drop>(taken: &mut Vec<X>, value: X, most: usize) -> bool
     ensures owed { OnTrue result (taken.new.items ≡ taken.old.items ++ value ∷ []) }
     ensures unchanged { OnFalse result (taken.new.items ≡ taken.old.items) }
 {

@@ -1,18 +1,12 @@
-//! A bag of many numbers of 32 bits: a list of them, of which the first may be in order.
-ghost use Rattle.std.specs.Prelude.{true, false, Ok, ◌≡◌, ◌<◌, ◌≤◌, ◌*◌, ◌^◌, ◌≤ℤ◌, ◌∷◌, ◌↔◌, [], All, Contains, IsNone, IfNone, IfSome, IfOk, OnErr, length};
+//! A bag of many numbers of 32 bits: a list of them as they came.
+ghost use Rattle.std.specs.Prelude.{true, false, Ok, ◌≡◌, ◌<◌, ◌≤ℤ◌, ◌∷◌, ◌↔◌, [], All, Contains, IsNone, IfNone, IfSome, IfOk, OnErr, length};
 ghost use Rattle.std.specs.Ordering.{int_eq};
 ghost use Rattle.std.specs.Bool.{OnTrue, OnFalse};
 ghost use Rattle.std.specs.List.{HoldsAt};
-ghost use Rattle.cube_values.specs.Bag.{AddsBag, AddsOne, AddsTimes, SameHeld, held_of, size_of, HasLeast, HasGreatest};
+ghost use Rattle.cube_values.specs.Bag.{AddsBag, AddsOne, AddsTimes, held_of, size_of, HasLeast, HasGreatest, HasEnds};
 ghost use Rattle.cube_values.specs.Narrow.{once_each};
-ghost use Rattle.cube_values.specs.Statistics.{AreInOrder, size_up_to, squares_held};
 
-use crate::log::numbers_in_order;
 use crate::repeats::is_repetitive;
-use crate::squares::narrow_squares;
-use crate::trace::Trace;
-use crate::up_to::{narrow_up_to, sorted_up_to};
-use cube_core::Wide;
 use std::alloc::{AllocError, Global};
 use std::marker::Model;
 
@@ -22,38 +16,23 @@ const ROOM: usize = 8;
 /// How many numbers a list has at least that is looked at before it grows.
 const MANY: usize = 16;
 
-/// How many numbers a list has at least that is brought in order where nothing is added for a while.
-const SORTED: usize = 256;
-
-/// How many numbers stand at least behind those in order before all are brought in order again.
-const BEHIND: usize = 512;
-
-/// How many numbers there are at most for each of those.
-const SHARE: usize = 64;
-
-/// Many numbers of 32 bits, each as often as it is held, with their ends. There is one at least.
-///
-/// A number is put behind the others, which may be brought in order.
+/// Many numbers of 32 bits as they came, each as often as it is held, with their ends. There is one at least.
 #[derive(Drop)]
 pub struct Narrow {
     numbers: Vec<i32>,
-    // How many of the numbers, from the first one on, are in order.
-    sorted: usize,
     least: i32,
     greatest: i32,
-    // The numbers as they came.
-    trace: Trace,
 }
 
 impl Model for Narrow {
-    ghost use Rattle.cube_values.specs.Bag.{Bag};
-    ghost use Rattle.cube_values.specs.Narrow.{IsNarrow};
+    ghost use Rattle.cube_values.specs.Bag.{Bag, HasEnds};
+    ghost use Rattle.cube_values.specs.Narrow.{once_each};
 
     ghost Value = { Bag };
 
-    ghost view = { λ n. n.trace.bag };
+    ghost view = { λ n. once_each n.numbers.items };
 
-    ghost invariant = { λ n. IsNarrow n.trace.bag n.numbers.items n.sorted n.least n.greatest };
+    ghost invariant = { λ n. HasEnds (once_each n.numbers.items) n.least n.greatest };
 }
 
 impl Narrow {
@@ -70,18 +49,15 @@ impl Narrow {
         };
         let mut numbers = Vec::with_capacity(alloc, ROOM)?;
         numbers.extend_from_slice(&[first, second])?;
-        let trace = Trace::list(&numbers);
         let narrow = Narrow {
             numbers,
-            sorted: 0,
             least: first.min(second),
             greatest: first.max(second),
-            trace,
         };
         Ok(Some(Box::new(alloc, narrow)?))
     }
 
-    /// A list of the same numbers, with room for so many more; none of them count as in order until room is given back.
+    /// A list of the same numbers, with room for so many more.
     pub fn copy(&self, alloc: Global, more: usize) -> Result<Box<Narrow>, AllocError>
         ensures { IfOk result (λ narrow. narrow.value ≡ self.now) }
     {
@@ -89,43 +65,49 @@ impl Narrow {
         numbers.extend_from_slice(&self.numbers)?;
         let copied = Narrow {
             numbers,
-            sorted: 0,
             least: self.least,
             greatest: self.greatest,
-            trace: self.trace.copy(),
         };
         Ok(Box::new(alloc, copied)?)
     }
 
+    /// A list of numbers with these ends.
+    pub(crate) fn of_list(
+        alloc: Global,
+        numbers: Vec<i32>,
+        ends: (i32, i32),
+    ) -> Result<Box<Narrow>, AllocError>
+        requires { HasEnds (once_each numbers.items) ends.0 ends.1 }
+        ensures { IfOk result (λ narrow. narrow.value ≡ once_each numbers.items) }
+    {
+        let narrow = Narrow {
+            numbers,
+            least: ends.0,
+            greatest: ends.1,
+        };
+        Ok(Box::new(alloc, narrow)?)
+    }
+
+    /// The numbers, and the least and the greatest of them.
+    pub(crate) fn into_parts(self) -> (Vec<i32>, (i32, i32))
+        ensures numbers { self ≡ once_each result.0.items }
+        ensures ends { HasEnds self result.1.0 result.1.1 }
+    {
+        (self.numbers, (self.least, self.greatest))
+    }
+
+    /// The least and the greatest number.
+    pub(crate) fn ends(&self) -> (i32, i32)
+        ensures { HasEnds self.now result.0 result.1 }
+    {
+        (self.least, self.greatest)
+    }
+
     /// The numbers, each as often as it is held.
     pub fn numbers(&self) -> &[i32]
-        ensures { SameHeld self.now (once_each result.now) }
+        ensures { self.now ≡ once_each result.now }
     {
         &self.numbers
-    }
-
-    /// The numbers in order, each different one with how often it is held.
-    pub fn in_order(&self, alloc: Global) -> Result<Vec<(i64, u64)>, AllocError>
-        requires { size_of self.now < 2 ^ 64 }
-        ensures { IfOk result (λ pairs. AreInOrder self.now pairs.items) }
-    {
-        numbers_in_order(alloc, &self.numbers)
-    }
-
-    /// How many numbers are at most `value`; it looks at each of those that aren't in order.
-    pub fn up_to(&self, value: i64) -> u64
-        ensures { result ≡ size_up_to self.now value }
-    {
-        let (sorted, others) = self.numbers.split_at(self.sorted);
-        sorted_up_to(sorted, value) + narrow_up_to(others, value)
-    }
-
-    /// The sum of the squares of the numbers; it looks at each.
-    pub fn squares(&self) -> Wide
-        ensures value { result ≡ squares_held self.now }
-        ensures bound { result ≤ 2 ^ 126 * size_of self.now }
-    {
-        narrow_squares(&self.numbers)
     }
 
     /// Adds `value` `times` times, and answers whether it did: not where it is wider than 32 bits or comes more than
@@ -144,24 +126,7 @@ impl Narrow {
         self.numbers.push(number)?;
         self.least = self.least.min(number);
         self.greatest = self.greatest.max(number);
-        self.trace = self.trace.and(&Trace::one(value));
-        self.settle();
         Ok(true)
-    }
-
-    // Brings the numbers in order where the first are and many came since; where there is no memory for that, they stay as
-    // they are.
-    fn settle(&mut self)
-        ensures { self.new ≡ self.old }
-    {
-        let count = self.numbers.len();
-        let behind = count - self.sorted;
-        if self.sorted == 0 || behind < BEHIND || behind < count / SHARE {
-            return;
-        }
-        if let Ok(()) = self.numbers.sort() {
-            self.sorted = count;
-        }
     }
 
     /// Adds the numbers of another list, and answers whether it did: not where a form that counts how often each number
@@ -170,14 +135,23 @@ impl Narrow {
         ensures added { result ≡ Ok true → AddsBag self.old self.new more.now }
         ensures refused { result ≡ Ok false → self.new ≡ self.old }
     {
+        self.append_list(&more.numbers, more.ends())
+    }
+
+    /// Adds numbers with these ends, and answers whether it did: not where a form that counts how often each number is
+    /// held would be much smaller.
+    pub(crate) fn append_list(&mut self, more: &[i32], ends: (i32, i32)) -> Result<bool, AllocError>
+        requires { HasEnds (once_each more.now) ends.0 ends.1 }
+        ensures added { result ≡ Ok true → AddsBag self.old self.new (once_each more.now) }
+        ensures refused { result ≡ Ok false → self.new ≡ self.old }
+    {
         let room = self.numbers.capacity() - self.numbers.len();
-        if more.numbers.len() > room && numbers_repeat(&self.numbers) {
+        if more.len() > room && numbers_repeat(&self.numbers) {
             return Ok(false);
         }
-        self.numbers.extend_from_slice(&more.numbers)?;
-        self.least = self.least.min(more.least);
-        self.greatest = self.greatest.max(more.greatest);
-        self.trace = self.trace.and(&more.trace);
+        self.numbers.extend_from_slice(more)?;
+        self.least = self.least.min(ends.0);
+        self.greatest = self.greatest.max(ends.1);
         Ok(true)
     }
 
@@ -186,17 +160,6 @@ impl Narrow {
         ensures { self.new ≡ self.old }
     {
         self.numbers.shrink_to_fit();
-    }
-
-    /// Brings the numbers in order, where they are many.
-    pub fn bring_in_order(&mut self)
-        ensures { self.new ≡ self.old }
-    {
-        let count = self.numbers.len();
-        if count >= SORTED && self.sorted < count {
-            self.numbers.sort_unstable();
-            self.sorted = count;
-        }
     }
 
     /// Takes one `value` away, which is held beside another number; it looks at each number.
@@ -209,8 +172,6 @@ impl Narrow {
             return;
         };
         let _ = self.numbers.swap_remove(place);
-        self.sorted = 0;
-        self.trace = Trace::list(&self.numbers);
         if let (Some(least), Some(greatest)) = (
             least_number(&self.numbers),
             greatest_number(&self.numbers),
@@ -250,8 +211,8 @@ pub fn numbers_repeat(numbers: &[i32]) -> bool {
     numbers.len() >= MANY && is_repetitive(numbers, |number| i64::from(*number))
 }
 
-// The number of a pair, where it is of 32 bits and is held once.
-fn narrowed(pair: (i64, u64)) -> Option<i32>
+/// The number of a pair, where it is of 32 bits and is held once.
+pub fn narrowed(pair: (i64, u64)) -> Option<i32>
     ensures { IfSome result (λ number. pair ≡ (number, 1)) }
 {
     let fits = i64::from(i32::MIN) <= pair.0 && pair.0 <= i64::from(i32::MAX);
@@ -262,8 +223,8 @@ fn narrowed(pair: (i64, u64)) -> Option<i32>
     }
 }
 
-// The place of the first number that is `value`.
-fn place_of(numbers: &[i32], value: i64) -> Option<usize>
+/// The place of the first number that is `value`.
+pub fn place_of(numbers: &[i32], value: i64) -> Option<usize>
     ensures absent { IfNone result (All (λ x. int_eq value x ≡ false) numbers.now) }
     ensures within { IfSome result (λ place. place < length numbers.now) }
     ensures found { IfSome result (HoldsAt (λ x. x ≡ value) numbers.now) }

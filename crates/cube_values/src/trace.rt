@@ -2,6 +2,7 @@
 ghost use Rattle.std.specs.Prelude.{◌≡◌, ◌∷◌, ◌++◌, [], ℤ, ℕ};
 ghost use Rattle.std.specs.Borrow.{ftrue};
 ghost use Rattle.cube_values.specs.Bag.{Bag};
+ghost use Rattle.cube_values.specs.Log.{without_one};
 ghost use Rattle.cube_values.specs.Narrow.{once_each};
 
 use std::marker::{Model, PhantomData};
@@ -57,11 +58,11 @@ impl Trace {
         Trace::of(&Listed { numbers })
     }
 
-    /// The trace of the same numbers.
-    pub fn copy(&self) -> Trace
-        ensures { result.bag ≡ self.now.bag }
+    /// The trace of these numbers without one `value`, where they have one.
+    pub fn without(&self, value: i64) -> Trace
+        ensures { result.bag ≡ without_one value self.now.bag }
     {
-        Trace::of(&Same { old: self })
+        Trace::of(&Less { old: self, value })
     }
 
     /// The trace of these numbers and others.
@@ -98,12 +99,13 @@ impl<'a> Traced for Listed<'a> {
 }
 
 #[derive(Drop)]
-struct Same<'a> {
+struct Less<'a> {
     old: &'a Trace,
+    value: i64,
 }
 
-impl<'a> Traced for Same<'a> {
-    ghost bag = { λ x. x.old.now.bag };
+impl<'a> Traced for Less<'a> {
+    ghost bag = { λ x. without_one x.value x.old.now.bag };
 }
 
 #[derive(Drop)]

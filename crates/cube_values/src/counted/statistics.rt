@@ -6,9 +6,9 @@ ghost use Rattle.cube_values.specs.Statistics.{AreInOrder, HasDifferent, IsAtPla
 ghost use Rattle.cube_values.specs.Values.{bag_of};
 
 use super::{Counted, Values};
-use crate::log::put_in_order;
-use crate::squares::{pair_squares, pairs_squares};
-use crate::up_to::{pair_up_to, pairs_up_to};
+use crate::log::{numbers_in_order, put_in_order};
+use crate::squares::{narrow_squares, pair_squares, pairs_squares};
+use crate::up_to::{narrow_up_to, pair_up_to, pairs_up_to};
 use cube_core::{Squares, Wide};
 use std::alloc::{AllocError, Global};
 
@@ -25,13 +25,16 @@ impl Counted {
     pub fn different(&self) -> Result<u64, AllocError>
         ensures { IfOk result (HasDifferent self.now) }
     {
+        if let Values::Ordered(ordered) = &self.values {
+            return ordered.different(self.alloc);
+        }
         let pairs = self.in_order()?;
         Ok(pairs.len() as u64)
     }
 
     /// The number at a place, counted from 1, of the numbers in order. It takes no memory and sorts nothing: where they
     /// aren't kept in order, it halves the span from the least to the greatest number, and each time counts the numbers
-    /// up to the middle, which takes a search of those that a narrow list has in order.
+    /// up to the middle, which takes a search of those that were brought in order.
     pub fn at_place(&self, place: u64) -> i64
         requires first { 1 ≤ place }
         requires last { place ≤ size_of self.now }
@@ -67,7 +70,8 @@ fn in_order(alloc: Global, values: &Values) -> Result<Vec<(i64, u64)>, AllocErro
     let pairs = match values {
         Values::One(single) => Vec::from_slice(alloc, &[single.pair()])?,
         Values::Few(short) => Vec::from_slice(alloc, short.pairs())?,
-        Values::Narrow(narrow) => return narrow.in_order(alloc),
+        Values::Narrow(narrow) => return numbers_in_order(alloc, narrow.numbers()),
+        Values::Ordered(ordered) => return ordered.in_order(alloc),
         Values::Logged(log) => return log.in_order(alloc),
         Values::Many(table) => table.pairs(alloc)?,
     };
@@ -82,7 +86,8 @@ fn up_to(values: &Values, value: i64) -> u64
     match values {
         Values::One(single) => pair_up_to(single.pair(), value),
         Values::Few(short) => pairs_up_to(short.pairs(), value),
-        Values::Narrow(narrow) => narrow.up_to(value),
+        Values::Narrow(narrow) => narrow_up_to(narrow.numbers(), value),
+        Values::Ordered(ordered) => ordered.up_to(value),
         Values::Logged(log) => log.up_to(value),
         Values::Many(table) => table.up_to(value),
     }
@@ -97,7 +102,8 @@ fn squares(values: &Values) -> Wide
     match values {
         Values::One(single) => pair_squares(single.pair()),
         Values::Few(short) => pairs_squares(short.pairs()),
-        Values::Narrow(narrow) => narrow.squares(),
+        Values::Narrow(narrow) => narrow_squares(narrow.numbers()),
+        Values::Ordered(ordered) => ordered.squares(),
         Values::Logged(log) => log.squares(),
         Values::Many(table) => table.squares(),
     }

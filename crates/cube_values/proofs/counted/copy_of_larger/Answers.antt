@@ -5,6 +5,7 @@ use Rattle.cube_values.proofs.GrownLaws.{SameHeld-from_equal}
 use Rattle.cube_values.proofs.counted.copy_of_larger.Goals.{
   in-One-Few+in_ok-copy-in-One-Few,
   in-One-Narrow+in_ok-copy-in-One-Narrow,
+  in-One-Ordered+in_ok-copy-in-One-Ordered,
   in-Few-Few+in_ok-of_both-in-Few-Few,
   in-One-Logged+in_ok-copy-in-One-Logged,
 }
@@ -16,6 +17,7 @@ returns c = elim c.match-values.branch [
       SameHeld-from_equal (bag_of c.args.more.now) (bag_of c.match-values.copy) (search rules)
   | in-One-Narrow+in_ok-copy-in-One-Narrow w ↦
       SameHeld-from_equal (bag_of c.args.more.now) (bag_of c.match-values.copy) (search rules)
+  | in-One-Ordered+in_ok-copy-in-One-Ordered w ↦ search rules
   | in-Few-Few+in_ok-of_both-in-Few-Few w ↦
       SameHeld-AddsBag_nothing (bag_of c.args.more.now) (bag_of c.match-values.copy) (search rules)
   | in-One-Logged+in_ok-copy-in-One-Logged w ↦

@@ -1,24 +1,10 @@
-use Rattle.std.proofs.Common.{◌≡◌, rules, w64, to_z, of_z}
-use Rattle.std.proofs.lemmas.Int.{to_z-of_z}
-use Rattle.cube_values.specs.Bag.{HasEnds}
+use Rattle.cube_values.specs.Narrow.{once_each}
 use Rattle.cube_values.proofs.EndLaws.{held_of-size_of}
-use Rattle.cube_values.proofs.NarrowLaws.{IsNarrow-ends}
 use Rattle.cube_values.proofs.narrow.Narrow.least.Goals as goal
 
 pub returns-clause-none : goal.returns-clause-none
-returns-clause-none c =
-    let ends : HasEnds c.self.inside.trace.bag c.self.inside.least c.self.inside.greatest =
-    IsNarrow-ends c.self.inside.trace.bag c.self.inside.numbers.items c.self.inside.sorted c.self.inside.least
-    c.self.inside.greatest c.self.invariant in
-    rw (← c.self.view_is) (
-      λ h. cc,
-      λ none. absurd (held_of-size_of c.self.inside.trace.bag c.self.inside.least ends.least.held none),
-    )
-
-pub returns-clause-least : goal.returns-clause-least
-returns-clause-least c =
-    let ends : HasEnds c.self.inside.trace.bag c.self.inside.least c.self.inside.greatest =
-    IsNarrow-ends c.self.inside.trace.bag c.self.inside.numbers.items c.self.inside.sorted c.self.inside.least
-    c.self.inside.greatest c.self.invariant in
-    let value : to_z w64 (of_z w64 c.from.result) ≡ c.self.inside.least = search (rules, to_z-of_z) in
-    rw (← c.self.view_is, value) ends.least
+returns-clause-none c = rw (← c.self.view_is) (
+  λ h. cc,
+  λ none. absurd
+      (held_of-size_of (once_each c.self.inside.numbers.items) c.self.inside.least c.self.invariant.least.held none),
+)

@@ -1,8 +1,7 @@
 use Rattle.std.proofs.Common.{ℤ, ◌≡◌, ◌∷◌, [], rules, w32, to_z, of_z}
 use Rattle.std.specs.Int.{int_min, int_max}
 use Rattle.std.proofs.lemmas.Int.{to_z-of_z}
-use Rattle.cube_values.specs.Narrow.{once_each}
-use Rattle.cube_values.proofs.NarrowLaws.{HasEnds-two, IsNarrow-list}
+use Rattle.cube_values.proofs.NarrowLaws.{HasEnds-two}
 use Rattle.cube_values.proofs.narrow.Narrow.of_two.Goals as goal
 
 pub invariant_of-narrow : goal.invariant_of-narrow
@@ -12,6 +11,4 @@ invariant_of-narrow c =
     let items : c.extend_from_slice.new.self.items ≡ first ∷ second ∷ [] = search rules in
     let low : to_z w32 (of_z w32 c.min.result) ≡ int_min first second = search (rules, to_z-of_z) in
     let high : to_z w32 (of_z w32 c.max.result) ≡ int_max first second = search (rules, to_z-of_z) in
-    let trace : c.list-trace.result.bag ≡ once_each (first ∷ second ∷ []) = search rules in
-    rw (trace, items, low, high)
-    (IsNarrow-list (first ∷ second ∷ []) (int_min first second) (int_max first second) (HasEnds-two first second))
+    rw (items, low, high) (HasEnds-two first second)

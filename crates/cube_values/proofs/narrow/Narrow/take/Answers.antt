@@ -3,24 +3,17 @@ use Rattle.std.specs.Prelude.{All, Contains, ◌≤ℤ◌}
 use Rattle.std.specs.List.{HoldsAt}
 use Rattle.std.specs.Ordering.{int_eq}
 use Rattle.std.proofs.lemmas.Int.{to_z-of_z}
-use Rattle.cube_values.specs.Bag.{held_of, size_of}
+use Rattle.cube_values.specs.Bag.{held_of}
 use Rattle.cube_values.specs.Narrow.{once_each}
-use Rattle.cube_values.proofs.BagLaws.{size_of_same}
-use Rattle.cube_values.proofs.NarrowLaws.{held_of-absent_once, takes_once, HasEnds-numbers, IsNarrow-list}
-use Rattle.cube_values.proofs.NarrowLaws.{size_of-once_each}
-use Rattle.cube_values.proofs.OwedLaws.{held_of-paid, AddsOne-paid}
+use Rattle.cube_values.proofs.NarrowLaws.{held_of-absent_once, takes_once, HasEnds-numbers}
 use Rattle.cube_values.proofs.narrow.Narrow.take.Goals as goal
 
 pub returns-in_default : goal.returns-in_default
 returns-in_default c =
     let numbers : List ℤ = c.self.inside.numbers.items in
-    let held : 0 < held_of c.self.inside.trace.bag c.args.value = rw (← c.self.view_is) at c.requires.held in
+    let held : 0 < held_of (once_each numbers) c.args.value = rw (← c.self.view_is) at c.requires.held in
     let none : All (λ x. int_eq c.args.value x ≡ false) numbers = search rules in
-    absurd (omega (
-      arith,
-      held_of-paid c.self.inside.trace.bag (once_each numbers) c.args.value c.self.invariant.same held,
-      held_of-absent_once numbers c.args.value none,
-    ))
+    absurd (omega (arith, held, held_of-absent_once numbers c.args.value none))
 
 pub invariant_of-self : goal.invariant_of-self
 invariant_of-self c =
@@ -31,46 +24,15 @@ invariant_of-self c =
     let above : All (λ x. x ≤ℤ c.in-Some-Some.greatest) left = search rules in
     let low_fits : FitsSigned w32 c.in-Some-Some.least = search rules in
     let high_fits : FitsSigned w32 c.in-Some-Some.greatest = search rules in
-    let trace : c.list-self-inside.result.bag ≡ once_each left = search rules in
     rw (
       to_z-of_z w32 c.in-Some-Some.least low_fits,
       to_z-of_z w32 c.in-Some-Some.greatest high_fits,
-      trace,
-    ) (IsNarrow-list left c.in-Some-Some.least c.in-Some-Some.greatest
-    (HasEnds-numbers left c.in-Some-Some.least c.in-Some-Some.greatest low below high above))
+    ) (HasEnds-numbers left c.in-Some-Some.least c.in-Some-Some.greatest low below high above)
 
 pub returns-in-Some-Some : goal.returns-in-Some-Some
 returns-in-Some-Some c =
     let numbers : List ℤ = c.self.inside.numbers.items in
-    let left : List ℤ = c.swap_remove.new.self.items in
     let within : c.in-Some.place < length numbers = search rules in
     let found : HoldsAt (λ x. x ≡ c.args.value) numbers c.in-Some.place = search rules in
-    let trace : c.list-self-inside.result.bag ≡ once_each left = search rules in
-    let taken = takes_once numbers c.in-Some.place c.swap_remove.result c.args.value within c.swap_remove.ensures.value
-    found in
-    rw (trace, c.swap_remove.ensures.items, ← c.self.view_is)
-    (AddsOne-paid c.self.inside.trace.bag (once_each numbers) _ c.args.value c.self.invariant.same taken)
-
-pub invariant_of-self-in_default-2-2 : goal.invariant_of-self-in_default-2-2
-invariant_of-self-in_default-2-2 c =
-    let numbers : List ℤ = c.self.inside.numbers.items in
-    let more : 1 < size_of c.self.inside.trace.bag = rw (← c.self.view_is) at c.requires.more in
-    let many : 1 < length numbers = omega (
-      arith,
-      more,
-      size_of_same c.self.inside.trace.bag (once_each numbers) c.self.invariant.same,
-      size_of-once_each numbers,
-    ) in
-    search rules
-
-pub returns-in-Some-2 : goal.returns-in-Some-2
-returns-in-Some-2 c =
-    let numbers : List ℤ = c.self.inside.numbers.items in
-    let more : 1 < size_of c.self.inside.trace.bag = rw (← c.self.view_is) at c.requires.more in
-    let many : 1 < length numbers = omega (
-      arith,
-      more,
-      size_of_same c.self.inside.trace.bag (once_each numbers) c.self.invariant.same,
-      size_of-once_each numbers,
-    ) in
-    search rules
+    rw (c.swap_remove.ensures.items, ← c.self.view_is)
+    (takes_once numbers c.in-Some.place c.swap_remove.result c.args.value within c.swap_remove.ensures.value found)
