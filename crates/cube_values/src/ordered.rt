@@ -198,10 +198,17 @@ impl Ordered {
         self.least = self.least.min(number);
         self.greatest = self.greatest.max(number);
         self.trace = self.trace.and(&Trace::one(value));
+        self.settle_where_due();
+        Ok(true)
+    }
+
+    // Brings the numbers in order where many stand behind the others.
+    fn settle_where_due(&mut self)
+        ensures { self.new ≡ self.old }
+    {
         if self.numbers.len() - self.sorted > self.most() {
             self.settle();
         }
-        Ok(true)
     }
 
     // How many numbers may stand behind those in order, and how many may be owed.
@@ -264,10 +271,9 @@ impl Ordered {
         self.taken.clear();
         self.sorted = self.numbers.len();
         self.trace = Trace::list(&self.numbers);
-        if let Some((least, greatest)) = ends_in_order(&self.numbers) {
-            self.least = least;
-            self.greatest = greatest;
-        }
+        let (least, greatest) = ends_in_order(&self.numbers);
+        self.least = least;
+        self.greatest = greatest;
     }
 
     // How often in a row the list will have been brought in order early, where it is now.

@@ -1,5 +1,5 @@
 //! Lists of numbers of 32 bits that are brought in order, and what is taken out of them.
-ghost use Rattle.std.specs.Prelude.{◌≡◌, ◌<◌, ◌≤◌, [], ℤ, IfSome, IfNone, length, take, slice_index_or};
+ghost use Rattle.std.specs.Prelude.{◌≡◌, ◌<◌, ◌≤◌, ℤ, length, take, slice_index_or};
 ghost use Rattle.std.specs.Bool.{OnTrue, OnFalse};
 ghost use Rattle.std.specs.List.Sorted.{IsSorted};
 ghost use Rattle.std.specs.Ordering.{int_cmp};
@@ -78,15 +78,12 @@ pub fn remove_one(numbers: &mut Vec<i32>, value: i64)
 }
 
 /// The first and the last of numbers in order.
-pub fn ends_in_order(numbers: &[i32]) -> Option<(i32, i32)>
-    requires { IsSorted int_cmp numbers.now }
-    ensures none { IfNone result (numbers.now ≡ []) }
-    ensures some { IfSome result (λ ends. HasEnds (once_each numbers.now) ends.0 ends.1) }
+pub fn ends_in_order(numbers: &[i32]) -> (i32, i32)
+    requires sorted { IsSorted int_cmp numbers.now }
+    requires some { 0 < length numbers.now }
+    ensures { HasEnds (once_each numbers.now) result.0 result.1 }
 {
-    if numbers.is_empty() {
-        return None;
-    }
-    Some((numbers[0], numbers[numbers.len() - 1]))
+    (numbers[0], numbers[numbers.len() - 1])
 }
 
 /// How many different numbers there are in a list in order.

@@ -1,4 +1,5 @@
-use Rattle.std.proofs.Common.{ℤ, ℕ, List, ◌≡◌, ◌<◌, ◌∙◌, pos, length, get_or, sym, ap, arith, rules, FitsSigned, w32, of_z, to_z}
+use Rattle.std.proofs.Common.{ℤ, ℕ, List, ◌≡◌, ◌<◌, ◌∙◌, pos, length, get_or, sym}
+use Rattle.std.proofs.Common.{ap, arith, rules, FitsSigned, w32, of_z, to_z}
 use Rattle.std.proofs.lemmas.Int.{to_z-of_z}
 use Rattle.std.proofs.lemmas.List.{get_or_default}
 use Rattle.cube_values.proofs.OrderedLaws.{IsKeeping-paid, IsKeeping-kept}

@@ -22,22 +22,12 @@ invariant_of-self-2 c =
     rw (items, low, high, trace) (IsListed-push bag old c.self.inside.taken.items number c.self.inside.sorted
     c.self.inside.least c.self.inside.greatest c.self.invariant)
 
-pub returns-then-len-self-clause-added : goal.returns-then-len-self-clause-added
-returns-then-len-self-clause-added c =
+pub returns-clause-added : goal.returns-clause-added
+returns-clause-added c =
     let bag : Bag = c.self.inside.trace.bag in
     let number : ℤ = c.in-Some.number in
     let pair : (c.args.value, c.args.times) ≡ (number, 1) = search (rules, to_z-of_z) in
     let value : c.args.value ≡ number = ap (λ (p : ℤ × ℕ). p.0) pair in
     let times : c.args.times ≡ 1 = ap (λ (p : ℤ × ℕ). p.1) pair in
     let trace : c.and-self-inside.result.bag ≡ bag ++ (number, 1) ∷ [] = search (rules, to_z-of_z) in
-    λ h. rw (c.settle.ensures, trace, ← c.self.view_is, value, times) (adds_pair bag number 1)
-
-pub returns-else-len-self-clause-added : goal.returns-else-len-self-clause-added
-returns-else-len-self-clause-added c =
-    let bag : Bag = c.self.inside.trace.bag in
-    let number : ℤ = c.in-Some.number in
-    let pair : (c.args.value, c.args.times) ≡ (number, 1) = search (rules, to_z-of_z) in
-    let value : c.args.value ≡ number = ap (λ (p : ℤ × ℕ). p.0) pair in
-    let times : c.args.times ≡ 1 = ap (λ (p : ℤ × ℕ). p.1) pair in
-    let trace : c.and-self-inside.result.bag ≡ bag ++ (number, 1) ∷ [] = search (rules, to_z-of_z) in
-    λ h. rw (trace, ← c.self.view_is, value, times) (adds_pair bag number 1)
+    λ h. rw (c.settle_where_due.ensures, trace, ← c.self.view_is, value, times) (adds_pair bag number 1)
