@@ -14,16 +14,15 @@ use Rattle.cube_cells.specs.Cube.{IsNewLattice, Lattice, SameSets}
 use Rattle.cube_cells.specs.Fill.{IsCubeOfAll}
 use Rattle.std.proofs.lemmas.List.{length-replicate}
 use Rattle.cube_ledger.specs.Interest.{ledger_of_interest}
-use Rattle.cube_ledger.specs.Ledger.{AllFit, LedgerStandsAt, LedgerView, all_facts, ledger_without_facts, new_account}
-use Rattle.cube_ledger.proofs.LedgerLaws.{refusals-without_facts}
+use Rattle.cube_ledger.specs.Ledger.{AllFit, LedgerStandsAt, LedgerView, all_facts, new_account}
 use Rattle.cube_rings.specs.FeedingAll.{TakesFeeds}
 use Rattle.cube_rings.specs.declared.gatherer.Gatherer.{Gatherer}
 use Rattle.cube_rings.proofs.PlaceLaws.{some_of}
 use Rattle.cube_rings.proofs.TakeLaws.{all_zip-at}
 use Rattle.cube_build.specs.Builder.{BuilderView, HasFacts}
 use Rattle.cube_build.specs.CountedRun.{CountsFeeds}
-use Rattle.cube_build.specs.Counting.{AreCounts, AreCountsOf, AreFilledFrom, AreFinestCounts, CounterStandsFrom}
-use Rattle.cube_build.specs.Counting.{CounterView, CountsAt, HaveFactsOf}
+use Rattle.cube_build.specs.Counting.{AreCounts, AreCountsOf, AreFilledFrom, AreFinestCounts, AreRefusedOf}
+use Rattle.cube_build.specs.Counting.{CounterStandsFrom, CounterView, CountsAt, HaveFactsOf}
 use Rattle.cube_build.specs.Drafts.{DraftView, StandsFrom}
 use Rattle.cube_build.specs.Interest.{BuildsWhere, PartStandsWhere}
 use Rattle.cube_build.specs.Parted.{IsPartOver}
@@ -54,11 +53,11 @@ counts-cells refused ledger cube cells are schema all = record {
   has = record { cells = all.cells; facts_are = all.facts_are };
 }
 
--- what has the refusals of a ledger, without its facts, has the counts of these
-pub counts-new : (refused ledger seen : LedgerView) (cube : Lattice) → refused ≡ ledger_without_facts ledger
+-- what has the refusals of a ledger, with its facts or without them, has the counts of these
+pub counts-new : (refused ledger seen : LedgerView) (cube : Lattice) → AreRefusedOf refused ledger
     → seen ≡ ledger → HaveFactsOf ledger cube → AreCounts refused seen cube
-counts-new refused ledger seen cube forgotten same has = rw (forgotten, same) (record {
-  noted = record { schema = refl; refusals = refusals-without_facts ledger.accounts };
+counts-new refused ledger seen cube refusals same has = rw same (record {
+  noted = refusals;
   schema = has.schema;
   fit = subst (λ (s : Layout). AllFit s (all_facts ledger.accounts)) has.schema has.facts.fit;
   has = record { cells = has.facts.cells; facts_are = has.facts.facts_are };

@@ -12,7 +12,7 @@ use crate::joined::{DrillDown, Slice, count_parts, ordered_parts, row_above, row
 use crate::making::{Links, Making};
 use cube_cells::OrderedCells;
 use cube_core::{Key, Pattern, QueryFault, Row, Schema};
-use cube_rings::{Inlet, Parcel};
+use cube_rings::LotInlet;
 use std::alloc::AllocError;
 use std::marker::Model;
 
@@ -77,7 +77,7 @@ impl Built {
     }
 
     /// The inlets of a builder, counted from 0; inlet s - 1 is source s.
-    pub fn inlets(&self, builder: usize) -> &[Inlet<Parcel>]
+    pub fn inlets(&self, builder: usize) -> &[LotInlet]
         requires { builder < length self.now.inlets }
         ensures { result.now ≡ slice_index_or self.now.inlets builder [] }
     {

@@ -2,7 +2,7 @@
 ghost use Rattle.std.specs.Prelude.{◌≡◌, ◌≤◌, ◌<◌, ◌++◌, ◌∷◌, [], flat_map, length, sum_by, IfOk, OnOk, OnErr};
 ghost use Rattle.std.specs.List.{All};
 ghost use Rattle.cube_core.specs.Arrival.{Arrivals};
-ghost use Rattle.cube_build.specs.Counting.{AreFinestCounts};
+ghost use Rattle.cube_build.specs.Counting.{AreFinestCounts, AreRefusedOf};
 ghost use Rattle.cube_build.specs.Drafts.{DraftView, StandsFrom, IsNewDraft, AreNewDrafts, IsDraftOf, IsMadeOf};
 ghost use Rattle.cube_build.specs.Interest.{draft_of_interest};
 ghost use Rattle.cube_build.specs.Parted.{IsPartOver};
@@ -18,6 +18,9 @@ use cube_ledger::Ledger;
 use std::alloc::{AllocError, Global};
 use std::marker::Model;
 use std::thread::Threads;
+
+/// How many facts there are at least for each cell over the finest grouping set where cells are few.
+const FACTS_A_CELL: u64 = 8;
 
 /// A ledger, and the cube that is filled with the facts of its books when all feeds have ended.
 #[derive(Drop)]
@@ -136,17 +139,37 @@ impl Draft<Counted> {
 }
 
 impl<N: Numbers + Send + Sync> Draft<N> {
-    /// The counts of the ledger over the finest grouping set alone, made by so many threads; the books are let go of. The only
-    /// error is that memory ran out.
+    /// The counts of the ledger over the finest grouping set alone, made by so many threads; where the cells are many, the
+    /// books are let go of. The only error is that memory ran out.
     pub fn finest<T: Threads + Sync>(self, rt: &T, threads: usize) -> Result<Counts<N>, AllocError>
         ensures { IfOk result (AreFinestCounts self.ledger) }
     {
         let cube = finest_with(rt, threads.max(1), &self.cube, &self.ledger)?;
         let trace = LedgerTrace::of(&self.ledger);
-        let mut refused = self.ledger;
-        refused.forget();
+        let refused = refusals_of(self.ledger, has_few_cells(&cube));
         Ok(Counts::new(refused, cube, trace))
     }
+}
+
+// Whether cells over the finest grouping set are few beside their facts.
+fn has_few_cells<N: Numbers>(cube: &Cube<N>) -> bool {
+    match cube.count_cells() {
+        Ok(cells) => cells.saturating_mul(FACTS_A_CELL) <= cube.facts(),
+        Err(_) => false,
+    }
+}
+
+// A ledger with the refusals of this one. Where the cells that were made of it are few, its books stay: to let go of each of
+// their facts would take longer than the room is worth that the text of the cells takes.
+fn refusals_of(ledger: Ledger, has_few_cells: bool) -> Ledger
+    ensures { AreRefusedOf result ledger }
+{
+    if has_few_cells {
+        return ledger;
+    }
+    let mut refused = ledger;
+    refused.forget();
+    refused
 }
 
 /// The drafts of so many parts, in their order. The only error is that memory ran out.

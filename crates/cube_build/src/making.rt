@@ -5,7 +5,7 @@ ghost use Rattle.cube_build.specs.Drafts.{IsMadePart};
 use crate::counts::Counts;
 use crate::draft::Draft;
 use cube_cells::{Counted, Numbers};
-use cube_rings::{Gatherer, Inlet, Parcel};
+use cube_rings::{Gatherer, LotInlet};
 use std::alloc::{AllocError, Global};
 use std::thread;
 use std::thread::Threads;
@@ -14,7 +14,7 @@ use std::thread::Threads;
 #[derive(Drop)]
 pub(crate) struct MadePart<N: Numbers = Counted> {
     pub builder: Counts<N>,
-    pub inlets: Vec<Inlet<Parcel>>,
+    pub inlets: Vec<LotInlet>,
 }
 
 // The builder of a part, whose cells over the finest grouping set so many threads make, unless memory runs out.
@@ -56,7 +56,7 @@ pub(crate) fn make_all<T: Threads + Sync>(
 // The inlets of a builder, from the first source's.
 #[derive(Drop)]
 pub(crate) struct Links {
-    pub inlets: Vec<Inlet<Parcel>>,
+    pub inlets: Vec<LotInlet>,
 }
 
 /// What was counted of the first parts, in their order, with their inlets.

@@ -17,7 +17,7 @@ use crate::trace::LedgerTrace;
 use cube_cells::{BaseCuboid, Counted, FinestCells, Numbers, Summary};
 use cube_core::{Condition, Schema};
 use cube_ledger::Ledger;
-use cube_rings::{FeedingFault, Gate, Gatherer, Inlet, Parcel, Settings};
+use cube_rings::{FeedingFault, Gate, Gatherer, LotInlet, Settings};
 use std::alloc::{AllocError, Global};
 use std::io::Read;
 use std::marker::Model;
@@ -34,7 +34,7 @@ pub struct Taken {
     cells: BaseCuboid,
     facts: u64,
     trace: LedgerTrace,
-    inlets: Vec<Inlet<Parcel>>,
+    inlets: Vec<LotInlet>,
 }
 
 impl Model for Taken {
@@ -135,7 +135,7 @@ impl Taken {
     }
 
     /// The inlets; inlet s - 1 is source s.
-    pub fn inlets(&self) -> &[Inlet<Parcel>]
+    pub fn inlets(&self) -> &[LotInlet]
         ensures { result.now ≡ self.now.inlets }
     {
         self.inlets.as_slice()

@@ -336,7 +336,7 @@ const RING: Word = Word {
     name: "ring",
     form: Form::Number(65536, &["64"]),
     is_needed: false,
-    help: "How many records may wait between a feed and a builder, 1 to 65536",
+    help: "How many lots of records may wait between a feed and a builder, 1 to 65536; fewer than 64 are of one record each",
 };
 
 // The share of the feeds that is read.

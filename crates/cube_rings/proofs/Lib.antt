@@ -1,4 +1,5 @@
 pub mod PlaceLaws
+mod LotLaws
 mod SendLaws
 mod GatherLaws
 mod SettleLaws

@@ -3,6 +3,7 @@ pub mod Ends
 pub mod Feeding
 pub mod Gathering
 pub mod Parcels
+pub mod Lots
 pub mod Settling
 pub mod Wholes
 pub mod Starting

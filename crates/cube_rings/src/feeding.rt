@@ -4,9 +4,9 @@ ghost use Rattle.cube_rings.specs.Feeding.{SendsAll, AreReceipts, Feeds};
 
 use crate::copies::next_copies;
 use crate::gate::Gate;
-use crate::link_ends::{Outlet, Receipt};
+use crate::lots::{LotOutlet, LotReceipt};
 use crate::offering::{Offering, offer_copies, offer_end};
-use crate::parcel::{FeederEnd, Parcel};
+use crate::parcel::FeederEnd;
 use cube_feed::{Feed, FeedFault};
 use std::alloc::Global;
 use std::io::Read;
@@ -18,7 +18,7 @@ fn send_all<W: Wait, R: Read + Drop, G: Gate>(
     alloc: Global,
     source: u32,
     feed: &mut Feed<'_, R>,
-    outlets: &mut [Outlet<Parcel>],
+    outlets: &mut [LotOutlet],
     gate: &G,
 ) -> Option<FeedFault>
     requires { (1 ≤ length outlets.old) × (length outlets.old ≤ 8) }
@@ -27,7 +27,7 @@ fn send_all<W: Wait, R: Read + Drop, G: Gate>(
     let mut copies = Vec::new(alloc);
     let mut offering = Offering::new(source, gate);
     for _ in rt.forever() {
-        let stop = match next_copies(alloc, feed, outlets.len(), &mut copies) {
+        let stop = match next_copies(alloc, feed, outlets, &mut copies) {
             Ok(Some(item)) => {
                 offer_copies(rt, &mut offering, outlets, item, &mut copies);
                 continue;
@@ -42,7 +42,7 @@ fn send_all<W: Wait, R: Read + Drop, G: Gate>(
 }
 
 // Finishes each outlet.
-fn finish_all(outlets: Vec<Outlet<Parcel>>) -> [Option<Receipt<Parcel>>; 8]
+fn finish_all(outlets: Vec<LotOutlet>) -> [Option<LotReceipt>; 8]
     requires { vec_len outlets ≤ 8 }
     ensures { AreReceipts outlets.items result }
 {
@@ -56,15 +56,15 @@ fn finish_all(outlets: Vec<Outlet<Parcel>>) -> [Option<Receipt<Parcel>>; 8]
 
 /// Sends each item of a feed to each builder, then the end, and finishes the links; outlet j leads to builder j.
 ///
-/// Before it offers any copy of an item it makes all of them, none for one builder; a copy that finds no memory
-/// stops it with F1, and that item is in no link. While a link is full it yields, and after a while sleeps for less
-/// than a millisecond at a time, where the link has room for 64 parcels or more.
+/// Before it offers any copy of an item it makes room for it in each lot, and all copies, none for one builder; room or a copy
+/// that finds no memory stops it with F1, and that item is in no link. While a link is full it yields, and after a while
+/// sleeps for less than a millisecond at a time, where the link has room for 64 lots or more.
 pub fn feed_out<W: Wait, R: Read + Drop, G: Gate>(
     rt: &W,
     alloc: Global,
     source: u32,
     feed: Feed<'_, R>,
-    outlets: Vec<Outlet<Parcel>>,
+    outlets: Vec<LotOutlet>,
     gate: &G,
 ) -> FeederEnd
     requires { (1 ≤ vec_len outlets) × (vec_len outlets ≤ 8) }

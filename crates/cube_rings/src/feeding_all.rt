@@ -19,7 +19,7 @@ use std::sync::Wait;
 use std::thread::Threads;
 
 /// Feeds 1 to 64 sources, a reader each, to 1 to 8 builders that have taken nothing, and gives these back with their
-/// links, in their order; `capacity` is the room of each link, 1 to 65536 parcels.
+/// links, in their order; `capacity` is the room of each link, 1 to 65536 lots.
 ///
 /// Each feeder runs on a thread of its own, the first builder on the caller's, and each other on its own. On Ok every
 /// feed is good, the builders have all taken the same items of them, and from each link came a line for each item of its

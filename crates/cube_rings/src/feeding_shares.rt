@@ -32,7 +32,7 @@ fn whole_of<B: Drop>(
 
 /// Feeds 1 to 64 sources, a reader each, to 1 to 8 builders that have taken nothing, each of which takes the feeds of
 /// sources of its own: the first those of the first readers, as many as it has sources, and so on. They are given back
-/// together, as one builder with the links of all sources; `capacity` is the room of each link, 1 to 65536 parcels.
+/// together, as one builder with the links of all sources; `capacity` is the room of each link, 1 to 65536 lots.
 ///
 /// Each feeder runs on a thread of its own, the first builder on the caller's, and each other on its own. The gate is told
 /// of one builder, 0, and each source is known by its number among all. Answers and faults are those of

@@ -1,6 +1,5 @@
 //! A builder that gathers, and its place.
-use crate::link_ends::Inlet;
-use crate::parcel::Parcel;
+use crate::lots::LotInlet;
 
 /// What a gate is told of the links of a builder: its number, from 0, and how many sources come before its first.
 #[derive(Clone, Copy, Debug)]
@@ -14,6 +13,6 @@ pub struct Place {
 pub struct Gatherer<B: Drop> {
     pub builder: B,
     pub place: Place,
-    pub inlets: Vec<Inlet<Parcel>>,
+    pub inlets: Vec<LotInlet>,
     pub wanting: bool,
 }

@@ -7,7 +7,7 @@ ghost use Rattle.cube_rings.specs.declared.parcel.Parcel.{Parcel as TheParcel};
 
 use crate::gate::{Gate, GatedLink};
 use crate::gatherer::Place;
-use crate::link_ends::Inlet;
+use crate::lots::LotInlet;
 use crate::parcel::Parcel;
 use crate::patience::EmptyRounds;
 use cube_feed::{FeedItem, TakesItems};
@@ -67,7 +67,7 @@ fn look<W: Wait, B: TakesItems, G: Gate>(
     rt: &W,
     link: &GatedLink<'_, G>,
     builder: &mut B,
-    inlet: &mut Inlet<Parcel>,
+    inlet: &mut LotInlet,
     taken: &mut Taken,
     wanting: &mut bool,
 ) -> bool
@@ -94,7 +94,7 @@ fn visit<W: Wait, B: TakesItems, G: Gate>(
     rt: &W,
     link: &GatedLink<'_, G>,
     builder: &mut B,
-    inlet: &mut Inlet<Parcel>,
+    inlet: &mut LotInlet,
     taken: &mut Taken,
     wanting: &mut bool,
 ) -> bool
@@ -119,7 +119,7 @@ fn look_round<W: Wait, B: TakesItems, G: Gate>(
     rt: &W,
     place: Place,
     builder: &mut B,
-    inlets: &mut [Inlet<Parcel>],
+    inlets: &mut [LotInlet],
     taken: &mut [Taken; MOST_SOURCES],
     wanting: &mut bool,
     gate: &G,
@@ -164,13 +164,13 @@ fn have_ended(taken: &[Taken; MOST_SOURCES], count: usize) -> bool
 ///
 /// It goes round the links and takes up to 32 parcels from each. After rounds in which nothing was found it yields, 200 times
 /// at most, and then naps, for a microsecond at first and twice as long each time, up to half a millisecond; where the links
-/// have room for less than 64 parcels, it only yields. The only error is that memory ran out: from the item on that finds none it
+/// have room for less than 64 lots, it only yields. The only error is that memory ran out: from the item on that finds none it
 /// goes on taking, and drops what comes. Where the builder is full it waits for good.
 pub fn gather<W: Wait, B: TakesItems, G: Gate>(
     rt: &W,
     place: Place,
     builder: &mut B,
-    inlets: &mut [Inlet<Parcel>],
+    inlets: &mut [LotInlet],
     gate: &G,
 ) -> Result<(), AllocError>
     requires sources { length inlets.old ≡ B.sources builder.old }

@@ -4,7 +4,8 @@
 //! (Lamport 1977). Only [`link`] takes memory, and no call waits or takes a lock. The outlet's `finish` gives a receipt, which
 //! names every item sent; held against the inlet, it tells what hasn't arrived yet (this project's choice).
 //!
-//! [`feed_out`] sends the items of one feed to each builder as [`Parcel`]s, and [`gather`] takes them in; [`settle`] holds the
+//! [`feed_out`] sends the items of one feed to each builder as [`Parcel`]s, which go over a link in lots, and [`gather`] takes
+//! them in; [`settle`] holds the
 //! receipts of all links against what was taken. [`feed_all`] runs the feeds of all sources into whatever
 //! [takes items](cube_feed::TakesItems), and [`feed_shares`] does where each builder has sources of its own.
 #![tactic(auto)]
@@ -19,6 +20,7 @@ mod gate;
 mod gatherer;
 mod gathering;
 mod link_ends;
+mod lots;
 mod offering;
 mod parcel;
 mod patience;
@@ -42,6 +44,7 @@ pub use gate::{Gate, OpenGate};
 pub use gatherer::{Gatherer, Place};
 pub use gathering::gather;
 pub use link_ends::{Inlet, Outlet, Receipt, link};
+pub use lots::{Lot, LotInlet, LotOutlet, LotReceipt};
 pub use parcel::{FeederEnd, Parcel};
 pub use settings::Settings;
 pub use settling::settle;

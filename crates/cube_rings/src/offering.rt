@@ -7,7 +7,7 @@ ghost use Rattle.cube_rings.specs.declared.parcel.Parcel.{Parcel as TheParcel};
 ghost use Rattle.cube_rings.specs.declared.parcel.Parcel.TheVariants.{Line, End};
 
 use crate::gate::Gate;
-use crate::link_ends::Outlet;
+use crate::lots::LotOutlet;
 use crate::parcel::Parcel;
 use crate::patience::Patience;
 use cube_feed::FeedItem;
@@ -48,7 +48,7 @@ impl<'g, G: Gate> Offering<'g, G> {
 // Offers a parcel again until the link has room for it.
 fn offer_until_taken<W: Wait>(
     rt: &W,
-    outlet: &mut Outlet<Parcel>,
+    outlet: &mut LotOutlet,
     parcel: Parcel,
     patience: &mut Patience,
 )
@@ -70,7 +70,7 @@ fn offer_item<W: Wait, G: Gate>(
     rt: &W,
     offering: &mut Offering<'_, G>,
     builder: usize,
-    outlets: &mut [Outlet<Parcel>],
+    outlets: &mut [LotOutlet],
     item: FeedItem,
 )
     requires { (builder < length outlets.old) × (length outlets.old ≤ 8) }
@@ -90,7 +90,7 @@ fn offer_item<W: Wait, G: Gate>(
 pub(crate) fn offer_copies<W: Wait, G: Gate>(
     rt: &W,
     offering: &mut Offering<'_, G>,
-    outlets: &mut [Outlet<Parcel>],
+    outlets: &mut [LotOutlet],
     item: FeedItem,
     copies: &mut Vec<FeedItem>,
 )
@@ -112,7 +112,7 @@ pub(crate) fn offer_copies<W: Wait, G: Gate>(
 pub(crate) fn offer_end<W: Wait, G: Gate>(
     rt: &W,
     offering: &mut Offering<'_, G>,
-    outlets: &mut [Outlet<Parcel>],
+    outlets: &mut [LotOutlet],
 )
     requires { length outlets.old ≤ 8 }
     ensures { outlets.new ≡ map (sends (End ∷ [])) outlets.old }

@@ -1,5 +1,5 @@
 //! What goes over a link, and what a feeder leaves.
-use crate::link_ends::Receipt;
+use crate::lots::LotReceipt;
 use cube_feed::{FeedFault, FeedItem};
 
 /// What a feeder sends: an item of its feed, or the end, after which nothing comes (this project's choice).
@@ -13,7 +13,7 @@ pub enum Parcel {
 #[derive(Drop)]
 pub struct FeederEnd {
     /// Entry j is the receipt of the link to builder j, where one was given; none past the last builder.
-    pub receipts: [Option<Receipt<Parcel>>; 8],
+    pub receipts: [Option<LotReceipt>; 8],
     /// The fault of the feed, or of the copies of an item; none where the feed came to its end.
     pub stop: Option<FeedFault>,
 }

@@ -1,18 +1,17 @@
 //! How long a feeder waits at full links, and a builder at empty ones.
 ghost use Rattle.std.specs.Prelude.{◌≡◌};
 
-use crate::link_ends::{Inlet, Outlet};
-use crate::parcel::Parcel;
+use crate::lots::{LotInlet, LotOutlet};
 use std::sync::Wait;
 use std::thread;
 use std::thread::Parker;
 use std::time::Duration;
 
 /// How often a feeder yields at a full link, and a builder at empty ones, before it naps: about as long as the shortest nap
-/// takes, in which the other end goes through a ring of a hundred parcels.
+/// takes, in which the other end goes through a hundred parcels.
 const YIELDS: u32 = 200;
 
-/// The fewest parcels that a link has room for where its ends nap: a smaller one would run empty or full meanwhile.
+/// The fewest lots that a link has room for where its ends nap: a smaller one would run empty or full meanwhile.
 const NAPPING_RING: usize = 64;
 
 /// The microseconds of a feeder's shortest nap, and of its longest.
@@ -42,7 +41,7 @@ impl Patience {
 
     /// Waits for room in a link that has none. A feeder that yields does so until half of it is free, so that the two ends
     /// don't wait for each other at every parcel.
-    pub(crate) fn wait<W: Wait>(&mut self, rt: &W, outlet: &mut Outlet<Parcel>)
+    pub(crate) fn wait<W: Wait>(&mut self, rt: &W, outlet: &mut LotOutlet)
         ensures { outlet.new ≡ outlet.old }
     {
         let capacity = outlet.capacity();
@@ -70,7 +69,7 @@ impl Patience {
 }
 
 // Yields until the link has this much room, or for long; answers whether it has.
-fn yield_for_room(outlet: &mut Outlet<Parcel>, room: usize) -> bool
+fn yield_for_room(outlet: &mut LotOutlet, room: usize) -> bool
     ensures { outlet.new ≡ outlet.old }
 {
     for _ in 0..YIELDS {
@@ -96,7 +95,7 @@ impl EmptyRounds {
 
     /// Waits for parcels after one more of them: a builder yields at first, since all feeders wait for it, and then naps, at
     /// first as briefly as the system lets it.
-    pub(crate) fn wait<W: Wait>(&mut self, rt: &W, inlets: &[Inlet<Parcel>]) {
+    pub(crate) fn wait<W: Wait>(&mut self, rt: &W, inlets: &[LotInlet]) {
         let naps = inlets
             .first()
             .is_some_and(|inlet| inlet.capacity() >= NAPPING_RING);

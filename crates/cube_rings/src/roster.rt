@@ -1,7 +1,8 @@
 //! Who takes part in a run, and what is kept of them.
 use crate::gatherer::Gatherer;
 use crate::link_ends::{Inlet, Outlet};
-use crate::parcel::{FeederEnd, Parcel};
+use crate::lots::LotOutlet;
+use crate::parcel::FeederEnd;
 use crate::words::Word;
 use cube_feed::Feed;
 use std::io::Read;
@@ -10,7 +11,7 @@ use std::io::Read;
 #[derive(Drop)]
 pub struct Feeder<'e, R: Read + Drop> {
     pub feed: Feed<'e, R>,
-    pub outlets: Vec<Outlet<Parcel>>,
+    pub outlets: Vec<LotOutlet>,
 }
 
 /// The ends of the links for the threads' words, and what the joined threads gave back.

@@ -25,7 +25,7 @@ impl Model for Settings {
 }
 
 impl Settings {
-    /// Settings of links with room for 1 to 65536 parcels, 1 to 8 builders, and 1 to 16 threads that work side by
+    /// Settings of links with room for 1 to 65536 lots, 1 to 8 builders, and 1 to 16 threads that work side by
     /// side once the feeds have ended, and take the feeds where there is one builder; `None` where a number is out of
     /// these bounds.
     pub fn new(capacity: usize, builders: u32, threads: usize) -> Option<Settings>
@@ -47,7 +47,7 @@ impl Settings {
         }
     }
 
-    /// The room of each link in parcels.
+    /// The room of each link in lots.
     pub fn capacity(&self) -> usize
         ensures value { result ≡ self.now.capacity }
         ensures bounds { (1 ≤ result) × (result ≤ 65536) }

@@ -7,11 +7,11 @@ ghost use Rattle.cube_rings.specs.Settling.{received_on, received_by, kept_of, r
 use crate::ends::first_unsealed;
 use crate::fault::FeedingFault;
 use crate::gatherer::Gatherer;
-use crate::link_ends::Inlet;
-use crate::parcel::{FeederEnd, Parcel};
+use crate::lots::LotInlet;
+use crate::parcel::FeederEnd;
 
 // Holds the receipt of the link to a builder, if one was given, against the link's inlet.
-fn hold(builder: usize, end: &mut FeederEnd, inlet: &mut Inlet<Parcel>)
+fn hold(builder: usize, end: &mut FeederEnd, inlet: &mut LotInlet)
     requires builder { builder < 8 }
     requires fits { IfSome (receipt_of end.old builder) (IsOfLink (received_on inlet.old)) }
     ensures end { end.new ≡ end.old }
@@ -19,12 +19,12 @@ fn hold(builder: usize, end: &mut FeederEnd, inlet: &mut Inlet<Parcel>)
     ensures begins { IfSome (receipt_of end.old builder) (Begins (received_on inlet.old)) }
 {
     if let Some(receipt) = &mut end.receipts[builder] {
-        let _left = inlet.left_after(receipt);
+        inlet.see_all(receipt);
     }
 }
 
 // Holds the receipts of all sources' links to a builder against its inlets.
-fn hold_builder(builder: usize, ends: &mut Vec<FeederEnd>, inlets: &mut Vec<Inlet<Parcel>>)
+fn hold_builder(builder: usize, ends: &mut Vec<FeederEnd>, inlets: &mut Vec<LotInlet>)
     requires builder { builder < 8 }
     requires fit { FitLinks builder ends.old.items (map received_on inlets.old.items) }
     ensures ends { ends.new.items ≡ ends.old.items }

@@ -4,8 +4,7 @@ ghost use Rattle.std.specs.List.{All};
 ghost use Rattle.cube_rings.specs.Wholes.{IsWholeOf};
 
 use crate::gatherer::{Gatherer, Place};
-use crate::link_ends::Inlet;
-use crate::parcel::Parcel;
+use crate::lots::LotInlet;
 use cube_feed::TakesItems;
 use std::alloc::{AllocError, Global};
 
@@ -53,7 +52,7 @@ pub fn put_together<B: Drop>(
     ensures { IfOk result (IsWholeOf shares.items) }
 {
     let mut builders = Vec::with_capacity(alloc, shares.len())?;
-    let mut inlets: Vec<Inlet<Parcel>> = Vec::new(alloc);
+    let mut inlets: Vec<LotInlet> = Vec::new(alloc);
     let mut wanting = false;
     for share in shares {
         let mut share = share;

@@ -6,7 +6,7 @@ ghost use Rattle.cube_rings.specs.Wiring.{Grows, Connects, AreLinked};
 
 use crate::gatherer::{Gatherer, Place};
 use crate::link_ends::{Inlet, Outlet, link};
-use crate::parcel::Parcel;
+use crate::lots::{LotOutlet, lot_link, lot_size};
 use crate::roster::Feeder;
 use crate::words::Word;
 use cube_core::Schema;
@@ -14,16 +14,17 @@ use cube_feed::Feed;
 use std::alloc::{AllocError, Global};
 use std::io::Read;
 
-// A link to a builder.
+// A link to a builder, over which so many lines go in a lot.
 fn link_to<B: Drop>(
     alloc: Global,
     capacity: usize,
+    size: usize,
     gatherer: &mut Gatherer<B>,
-) -> Result<Outlet<Parcel>, AllocError>
+) -> Result<LotOutlet, AllocError>
     requires { (1 ≤ capacity) × (capacity ≤ 65536) }
     ensures { IfOk result (Grows gatherer.old gatherer.new) }
 {
-    let (outlet, inlet) = link(alloc, capacity)?;
+    let (outlet, inlet) = lot_link(alloc, capacity, size)?;
     gatherer.inlets.push(inlet)?;
     Ok(outlet)
 }
@@ -32,14 +33,15 @@ fn link_to<B: Drop>(
 fn connect<B: Drop>(
     alloc: Global,
     capacity: usize,
+    size: usize,
     gatherers: &mut [Gatherer<B>],
-) -> Result<Vec<Outlet<Parcel>>, AllocError>
+) -> Result<Vec<LotOutlet>, AllocError>
     requires { (1 ≤ capacity) × (capacity ≤ 65536) }
     ensures { IfOk result (λ outlets. Connects gatherers.old gatherers.new outlets.items) }
 {
     let mut outlets = Vec::with_capacity(alloc, gatherers.len())?;
     for gatherer in gatherers.iter_mut() {
-        let outlet = link_to(alloc, capacity, gatherer)?;
+        let outlet = link_to(alloc, capacity, size, gatherer)?;
         outlets.push(outlet)?;
     }
     Ok(outlets)
@@ -51,6 +53,7 @@ fn feeder_of<'e, R: Read + Drop, B: Drop>(
     schema: &'e Schema,
     reader: R,
     capacity: usize,
+    size: usize,
     gatherers: &mut [Gatherer<B>],
 ) -> Result<Feeder<'e, R>, AllocError>
     requires { (1 ≤ capacity) × (capacity ≤ 65536) }
@@ -59,7 +62,7 @@ fn feeder_of<'e, R: Read + Drop, B: Drop>(
     ensures feed { IfOk result (λ feeder.
         feeder.feed.to_come ≡ rest_of_feed schema.now (R.Read.remaining reader)) }
 {
-    let outlets = connect(alloc, capacity, gatherers)?;
+    let outlets = connect(alloc, capacity, size, gatherers)?;
     let feed = Feed::new(alloc, schema, reader);
     Ok(Feeder { feed, outlets })
 }
@@ -82,8 +85,9 @@ pub(crate) fn feeders_of<'e, R: Read + Drop, B: Drop>(
         ≡ map (λ gatherer. gatherer.builder) gatherers.old) }
 {
     let mut feeders = Vec::with_capacity(alloc, readers.len())?;
+    let size = lot_size(capacity, readers.len());
     for reader in readers {
-        let feeder = feeder_of(alloc, schema, reader, capacity, gatherers)?;
+        let feeder = feeder_of(alloc, schema, reader, capacity, size, gatherers)?;
         feeders.push(feeder)?;
     }
     Ok(feeders)

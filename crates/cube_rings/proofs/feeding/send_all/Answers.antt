@@ -13,7 +13,7 @@ pub loop-preserved : goal.loop-preserved
 loop-preserved g c =
     let loop = c.loop in
     let item = c.in-Ok-Some.item in
-    let sent = c.offer_copies.ensures in (
+    let sent = rw c.next_copies.ensures.outlets at c.offer_copies.ensures in (
       ap length sent ∙ length-map loop.outlets (sends (Line item ∷ [])) ∙ loop.invariant.0,
       has_sent-more c.args.feed.now.to_come loop.feed.to_come c.next_copies.new.feed.to_come c.args.outlets.now
           loop.outlets c.offer_copies.new.outlets item loop.invariant.1
@@ -28,10 +28,10 @@ returns-in-loop g c =
           rw w.stop-is
           (sends_all-end c.args.feed.now.to_come loop.feed.to_come c.next_copies.new.feed.to_come c.args.outlets.now
           loop.outlets c.offer_end.new.outlets loop.invariant.1
-          (rw w.in-Ok-None.field-0-is at w.in-Ok-None.ensures.gives) c.offer_end.ensures)
+          (rw w.in-Ok-None.field-0-is at w.in-Ok-None.ensures.gives) (rw c.next_copies.ensures.outlets at c.offer_end.ensures))
       | in-Err w ↦
           rw w.stop-is
           (sends_all-fault c.args.feed.now.to_come loop.feed.to_come c.next_copies.new.feed.to_come c.args.outlets.now
           loop.outlets c.offer_end.new.outlets w.in-Err.fault loop.invariant.1
-          w.in-Err.ensures.gives c.offer_end.ensures)
+          w.in-Err.ensures.gives (rw c.next_copies.ensures.outlets at c.offer_end.ensures))
     ]

@@ -6,7 +6,7 @@ returns g c = record {
   inlet = c.in_ok-outlet.inlet;
   inlets = c.in_ok-push.ensures.items;
   link = c.in_ok-outlet.ensures.link;
-  unreceived = c.in_ok-outlet.ensures.received.0;
+  unreceived = c.in_ok-outlet.ensures.received;
   unsent = c.in_ok-outlet.ensures.sent;
   builder = refl;
 }
