@@ -1,3 +1,4 @@
+pub mod AnswerLaws
 pub mod AnswerTextsLaws
 mod AppendLaws
 mod LongUnitLaws

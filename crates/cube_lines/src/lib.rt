@@ -23,5 +23,5 @@ mod write;
 
 pub use parse::{empty_row, parse_row};
 pub use pieces::Pieces;
-pub use text::{end_line, push_answer, push_field, push_header, push_line};
+pub use text::{end_line, push_answer, push_answers, push_field, push_header, push_line};
 pub use write::{WriteFault, write_pieces, write_whole};

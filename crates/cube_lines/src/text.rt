@@ -61,7 +61,13 @@ fn push_texts(text: &mut Vec<u8>, texts: &[Text]) -> Result<(), AllocError>
     Ok(())
 }
 
-fn push_answers(text: &mut Vec<u8>, schema: &Schema, answers: &[Answer]) -> Result<(), AllocError>
+/// Puts what a row shows of answers under a schema, each with a comma. The only error is that memory ran out, and then a part
+/// of it may stand there.
+pub fn push_answers(
+    text: &mut Vec<u8>,
+    schema: &Schema,
+    answers: &[Answer],
+) -> Result<(), AllocError>
     ensures { OnOk result (AddsParts (answer_texts (digits_of_answers schema.now) answers.now)
         text.old.items text.new.items) }
 {

@@ -1,5 +1,4 @@
 mod TotalLaws
-mod AnswerLaws
 mod SourceLaws
 mod GatherLaws
 mod SquaresLaws

@@ -30,7 +30,7 @@ use Rattle.cube_merge.specs.Made.{AreMadeOfRows, AreOrderly, IsOrderly}
 use Rattle.cube_merge.specs.Source.{IsSourceOf}
 use Rattle.cube_merge.specs.Values.{IsAnswerOf}
 use Rattle.cube_merge.specs.declared.source.Source.TheVariants as source
-use Rattle.cube_merge.proofs.AnswerLaws.{pair-Decides}
+use Rattle.cube_lines.proofs.AnswerLaws.{pair-Decides}
 
 -- ---- pairs that list values
 -- pairs of so many values list them

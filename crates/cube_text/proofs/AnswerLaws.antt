@@ -1,4 +1,4 @@
--- Laws of answers: those that compare equal are the same, and those of a cell are taken one by one.
+-- Laws of answers: those of a cell are taken one by one.
 use Rattle.std.proofs.Common.{◌≡◌, ◌∙◌, ◌&&◌, ◌+◌, ◌/◌, ◌%◌, ◌^◌, ◌++◌, ◌<◌, ◌≤◌, ◌∷◌, [], ℕ, ℤ, List, length, take, get_or}
 use Rattle.std.proofs.Common.{arith, false, true, refl, ap, ap₂, sym, rules, length-append}
 use Rattle.std.specs.Prelude.{nat_eq}
@@ -23,43 +23,6 @@ use Rattle.cube_cells.specs.Tally.{Tally}
 use Rattle.cube_lines.specs.Parts.{AddsParts, parts}
 use Rattle.cube_text.specs.Rows.{IsAnswerOf}
 use Rattle.cube_text.proofs.FieldLaws.{AddsParts-answer}
-
--- pairs of a value and a count
-pair-Decides : (a b : ℤ × ℕ) → Decides (int_eq a.0 b.0 && nat_eq a.1 b.1) (a ≡ b)
-pair-Decides (x, n) (y, k) = (
-  λ on.
-      let parts = and_parts (int_eq x y) (nat_eq n k) on in
-      ap₂ (λ (v : ℤ) (m : ℕ). (v, m)) ((Decides-int_eq x y).0 parts.0) ((Decides-eqb n k).0 parts.1),
-  λ same. and_from (int_eq x y) (nat_eq n k)
-      ((Decides-int_eq x y).1 (ap (λ (pair : ℤ × ℕ). pair.0) same))
-      ((Decides-eqb n k).1 (ap (λ (pair : ℤ × ℕ). pair.1) same)),
-)
-
--- the comparison that answers derive tells whether they are the same
-pub Answer-eq : (a b : Answer) → (AnswerPartialEq.eq-value).it a b ≡ true → a ≡ b
-Answer-eq answer.Null answer.Null h = refl
-Answer-eq answer.Null b h = let clash : false ≡ true = h in absurd (cc)
-Answer-eq (answer.Count n) (answer.Count k) h = let same : nat_eq n k ≡ true = h in ap answer.Count ((Decides-eqb n k).0 same)
-Answer-eq (answer.Count n) b h = let clash : false ≡ true = h in absurd (cc)
-Answer-eq (answer.Whole n) (answer.Whole k) h = let same : int_eq n k ≡ true = h in ap answer.Whole ((Decides-int_eq n k).0 same)
-Answer-eq (answer.Whole n) b h = let clash : false ≡ true = h in absurd (cc)
-Answer-eq (answer.Ratio p q) (answer.Ratio r s) h =
-    let same = and_parts (int_eq p r) (nat_eq q s) h in
-    ap₂ (λ (z : ℤ) (n : ℕ). answer.Ratio z n) ((Decides-int_eq p r).0 same.0) ((Decides-eqb q s).0 same.1)
-Answer-eq (answer.Ratio p q) b h = let clash : false ≡ true = h in absurd (cc)
-Answer-eq (answer.Squares n) (answer.Squares k) h = let same : n ≡ k = search rules in ap answer.Squares same
-Answer-eq (answer.Squares n) b h = let clash : false ≡ true = h in absurd (cc)
-Answer-eq (answer.Variance p q) (answer.Variance r s) h =
-    let halves = nat_eq (p / 2 ^ 128) (r / 2 ^ 128) && nat_eq (p % 2 ^ 128) (r % 2 ^ 128) in
-    let same = and_parts halves (nat_eq q s) h in
-    let both = and_parts (nat_eq (p / 2 ^ 128) (r / 2 ^ 128)) (nat_eq (p % 2 ^ 128) (r % 2 ^ 128)) same.0 in
-    let high : p / 2 ^ 128 ≡ r / 2 ^ 128 = (Decides-eqb (p / 2 ^ 128) (r / 2 ^ 128)).0 both.0 in
-    let low : p % 2 ^ 128 ≡ r % 2 ^ 128 = (Decides-eqb (p % 2 ^ 128) (r % 2 ^ 128)).0 both.1 in
-    let number : p ≡ r = omega (arith, high, low) in
-    ap₂ answer.Variance number ((Decides-eqb q s).0 same.1)
-Answer-eq (answer.Variance p q) b h = let clash : false ≡ true = h in absurd (cc)
-Answer-eq (answer.Values xs) (answer.Values ys) h = ap answer.Values ((slice_eq-Decides pair-Decides xs ys true (sym h)).0 refl)
-Answer-eq (answer.Values xs) b h = let clash : false ≡ true = h in absurd (cc)
 
 -- no answers have no texts
 pub answer_texts-none : (digits : List ℕ) → answer_texts digits [] ≡ []

@@ -1,14 +1,13 @@
 //! What rows show of their answers: it is kept, and put again for as long as rows have the same answers.
 ghost use Rattle.std.specs.Prelude.{◌≡◌, ◌+◌, ◌≤◌, ◌∷◌, ◌++◌, [], ℕ, List, length, take, true, IfOk, OnOk};
-ghost use Rattle.cube_core.specs.Text.{answer_texts, digits_of_answers};
+ghost use Rattle.cube_core.specs.Text.{digits_of_answers};
 ghost use Rattle.cube_cells.specs.Rows.{AreAnswersOf};
-ghost use Rattle.cube_lines.specs.Parts.{AddsParts};
 ghost use Rattle.cube_text.specs.Answers.{ShowsAnswers};
 ghost use Rattle.cube_text.specs.Walked.{AddsAnswers};
 
 use cube_cells::{Cell, FinestCells, Numbers};
-use cube_core::{Answer, Schema};
-use cube_lines::push_answer;
+use cube_core::Answer;
+use cube_lines::{push_answer, push_answers};
 use itoa::Buffer;
 use std::alloc::{AllocError, Global};
 
@@ -66,7 +65,7 @@ impl AnswersText {
             return Ok(());
         }
         self.text.clear();
-        put_answers(&mut self.text, cells.schema(), &self.answers)
+        push_answers(&mut self.text, cells.schema(), &self.answers)
     }
 }
 
@@ -119,20 +118,6 @@ fn put_answers_of<N: Numbers>(
     for aggregate in schema.aggregates() {
         let digits = schema.digits_of(aggregate);
         push_answer(text, &mut number, digits, &cell.try_answer(aggregate)?)?;
-    }
-    Ok(())
-}
-
-// Puts what a row shows of answers under a schema, each with a comma.
-fn put_answers(text: &mut Vec<u8>, schema: &Schema, answers: &[Answer]) -> Result<(), AllocError>
-    ensures { OnOk result (AddsParts (answer_texts (digits_of_answers schema.now) answers.now)
-        text.old.items text.new.items) }
-{
-    let aggregates = schema.aggregates();
-    let mut number = Buffer::new();
-    for place in 0..aggregates.len().min(answers.len()) {
-        let digits = schema.digits_of(&aggregates[place]);
-        push_answer(text, &mut number, digits, &answers[place])?;
     }
     Ok(())
 }

@@ -8,12 +8,10 @@ ghost use Rattle.cube_cells.specs.WalkParts.{cells_of_lists, put_together};
 use super::bottom_up::{Item, Lent, raised, united};
 use super::codes::Codes;
 use super::shares::all_made;
+use super::sorting::FEW;
 use cube_values::Numbers;
 use std::alloc::{AllocError, Global};
 use std::thread::{Threads, map_indices};
-
-// How many items are too few for several threads.
-const FEW: usize = 4_096;
 
 // How many marks are in a range.
 const EACH: usize = 32;

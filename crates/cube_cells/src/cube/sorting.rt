@@ -10,8 +10,8 @@ use cube_values::Numbers;
 use std::alloc::AllocError;
 use std::thread::{Threads, join_mut};
 
-// How many items are too few for several threads.
-const FEW: usize = 4_096;
+/// How many items are too few for several threads.
+pub const FEW: usize = 4_096;
 
 /// Puts items in the order of their codes. Each of about so many threads puts a piece of them in order, and the pieces are
 /// merged; with one thread, or few items, no thread is started. The only error is that memory ran out.

@@ -1,6 +1,6 @@
 use Rattle.std.proofs.Common.{◌∙◌, ap, get_or, sym}
 use Rattle.cube_core.specs.declared.aggregate.Answer.TheVariants as answer
-use Rattle.cube_merge.proofs.AnswerLaws.{Answer-eq}
+use Rattle.cube_lines.proofs.AnswerLaws.{Answer-eq}
 use Rattle.cube_merge.proofs.consistent.is_at_place.Goals as goal
 
 pub returns : goal.returns

@@ -1,5 +1,5 @@
 use Rattle.std.proofs.Common.{◌∙◌, sym}
-use Rattle.cube_merge.proofs.AnswerLaws.{Answer-eq}
+use Rattle.cube_lines.proofs.AnswerLaws.{Answer-eq}
 use Rattle.cube_merge.proofs.consistent.is_same_answer.Goals as goal
 
 pub returns-else-ne : goal.returns-else-ne

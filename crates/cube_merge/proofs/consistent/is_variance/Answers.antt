@@ -1,5 +1,5 @@
 use Rattle.std.proofs.Common.{◌≡◌, ◌∙◌, sym}
-use Rattle.cube_merge.proofs.AnswerLaws.{Answer-eq}
+use Rattle.cube_lines.proofs.AnswerLaws.{Answer-eq}
 use Rattle.cube_merge.proofs.LawfulLaws.{IsVarianceBeside-at, IsVarianceBeside-no_count, IsVarianceBeside-no_sum}
 use Rattle.cube_merge.proofs.LawfulLaws.{IsVarianceBeside-no_squares}
 use Rattle.cube_merge.proofs.consistent.is_variance.Goals as goal

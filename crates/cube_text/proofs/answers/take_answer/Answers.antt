@@ -2,7 +2,7 @@ use Rattle.std.proofs.Common.{◌≡◌, ◌∙◌, ◌<◌, ◌++◌, ◌∷◌
 use Rattle.std.proofs.lemmas.List.{get_or_read, take_more}
 use Rattle.cube_core.specs.declared.aggregate.Answer.{Answer}
 use Rattle.cube_core.specs.declared.aggregate.Answer.TheVariants as answer
-use Rattle.cube_text.proofs.AnswerLaws.{Answer-eq}
+use Rattle.cube_lines.proofs.AnswerLaws.{Answer-eq}
 use Rattle.cube_text.proofs.answers.take_answer.Goals as goal
 
 pub returns-then-eq-clause-taken : goal.returns-then-eq-clause-taken

@@ -21,6 +21,7 @@ pair-Decides (x, n) (y, k) = (
       ((Decides-eqb n k).1 (ap (λ (pair : ℤ × ℕ). pair.1) same)),
 )
 
+-- answers that compare equal are the same
 pub Answer-eq : (a b : Answer) → (AnswerPartialEq.eq-value).it a b ≡ true → a ≡ b
 Answer-eq answer.Null answer.Null h = refl
 Answer-eq answer.Null b h = let clash : false ≡ true = h in absurd (cc)
