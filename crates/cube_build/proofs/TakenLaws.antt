@@ -14,7 +14,8 @@ use Rattle.cube_cells.specs.Cube.{IsNewLattice, Lattice, SameSets}
 use Rattle.cube_cells.specs.Fill.{IsCubeOfAll}
 use Rattle.std.proofs.lemmas.List.{length-replicate}
 use Rattle.cube_ledger.specs.Interest.{ledger_of_interest}
-use Rattle.cube_ledger.specs.Ledger.{AllFit, LedgerStandsAt, LedgerView, all_facts, new_account}
+use Rattle.cube_ledger.specs.Ledger.{AllFit, LedgerStandsAt, LedgerView, all_facts, ledger_without_facts, new_account}
+use Rattle.cube_ledger.proofs.LedgerLaws.{refusals-without_facts}
 use Rattle.cube_rings.specs.FeedingAll.{TakesFeeds}
 use Rattle.cube_rings.specs.declared.gatherer.Gatherer.{Gatherer}
 use Rattle.cube_rings.proofs.PlaceLaws.{some_of}
@@ -53,7 +54,15 @@ counts-cells refused ledger cube cells are schema all = record {
   has = record { cells = all.cells; facts_are = all.facts_are };
 }
 
--- what has the refusals of a ledger, with its facts or without them, has the counts of these
+-- a ledger has its own refusals, with its facts and without them
+pub refused_with : (ledger : LedgerView) → AreRefusedOf ledger ledger
+refused_with ledger = record { schema = refl; refusals = refl }
+
+pub refused_without : (now ledger : LedgerView) → now ≡ ledger_without_facts ledger → AreRefusedOf now ledger
+refused_without now ledger forgotten =
+    rw forgotten (record { schema = refl; refusals = refusals-without_facts ledger.accounts })
+
+-- what has the refusals of a ledger has the counts of its facts
 pub counts-new : (refused ledger seen : LedgerView) (cube : Lattice) → AreRefusedOf refused ledger
     → seen ≡ ledger → HaveFactsOf ledger cube → AreCounts refused seen cube
 counts-new refused ledger seen cube refusals same has = rw same (record {

@@ -161,6 +161,7 @@ fn has_few_cells<N: Numbers>(cube: &Cube<N>) -> bool {
 
 // A ledger with the refusals of this one. Where the cells that were made of it are few, its books stay: to let go of each of
 // their facts would take longer than the room is worth that the text of the cells takes.
+#[tactic(auto, using(crate::proofs::TakenLaws::refused_with, crate::proofs::TakenLaws::refused_without))]
 fn refusals_of(ledger: Ledger, has_few_cells: bool) -> Ledger
     ensures { AreRefusedOf result ledger }
 {
