@@ -39,11 +39,11 @@ const SORTED: usize = 256;
 /// question of the order searches those in order, and looks at each of the few others. Where an end goes again and
 /// again, the list gives way to a log.
 ///
-/// Of these forms, a short list takes few numbers. More are a log of what was added, with a list of what was taken
-/// away since; it answers its least and greatest number at once, and looks at each of its pairs for `holds`. When one
-/// of its ends is taken, or very much is, the log is sorted and what was taken leaves it. If that was little, as with
-/// a client that always takes the least number, the pairs stay sorted, and the next add makes a table of them, in the
-/// order of the numbers. Where the numbers of a log repeat, a table takes its place too.
+/// Of the forms that count, a short list takes few numbers. More are a log of what was added, with a list of what was
+/// taken away since; it answers its least and greatest number at once, and looks at each of its pairs for `holds`. When
+/// one of its ends is taken, or very much is, the log is sorted and what was taken leaves it. If that was little, as
+/// with a client that always takes the least number, the pairs stay sorted, and the next add makes a table of them, in
+/// the order of the numbers. Where the numbers of a log repeat, a table takes its place too.
 #[derive(Drop)]
 pub struct Counted {
     len: u64,
