@@ -28,6 +28,7 @@ OPTIONS = {
     "--threads": {"type": int, "default": os.cpu_count(), "help": "of the program and of each peer; all processors where left out"},
     "--peers": {"default": ",".join(PEERS), "help": "names with commas between; '' for none"},
     "--beside": {"metavar": "COMMAND", "help": "another program with the words of ours"},
+    "--busy": {"type": int, "default": 0, "help": "how many programs run beside, each of which uses a processor"},
     "--most": {"type": float, "default": plots.SCALES[-1], "help": "the most times the records of a workload"},
     "--lines": {"type": int, "default": 1_080_000, "help": "of the file"},
     "--facts": {"type": int, "default": 300_000, "help": "of the feed"},
@@ -42,7 +43,7 @@ OPTIONS = {
 }
 # (what runs a command, and its options; those that take workloads end with None)
 COMMANDS = {
-    "print": (runs.compare, "--runs", "--scale", "--threads", "--peers", "--beside", None),
+    "print": (runs.compare, "--runs", "--scale", "--threads", "--peers", "--beside", "--busy", None),
     "statistics": (runs.statistics, "--runs", "--scale", "--threads", "--peers", "--beside"),
     "growth": (plots.growth, "--runs", "--most", None),
     "threads": (plots.threads, "--runs", "--scale", "--peers", None),

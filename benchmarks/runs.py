@@ -152,7 +152,20 @@ def compare(asked):
     before each text that isn't ALL; our text is made of that outside of the time. Then each answer of the first round has to be ours,
     byte for byte; the status is 1 where one isn't. A server's memory is that of all its processes together. PostgreSQL is on a socket in
     a folder of its own, ClickHouse on a port of 127.0.0.1."""
-    return compared(asked, asked.workloads or WORKLOADS, PEERS)
+    with busy(asked.busy):
+        return compared(asked, asked.workloads or WORKLOADS, PEERS)
+
+
+@contextlib.contextmanager
+def busy(count):
+    """Runs so many programs that use a processor each."""
+    programs = [subprocess.Popen([sys.executable, "-c", "while True: pass"]) for _ in range(count)]
+    try:
+        yield
+    finally:
+        for it in programs:
+            it.kill()
+            it.wait()
 
 
 def statistics(asked):
