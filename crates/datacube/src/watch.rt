@@ -12,14 +12,14 @@ pub(crate) struct Watch<'p, T: Wait + Clock> {
 }
 
 impl<T: Wait + Clock> Gate for Watch<'_, T> {
-    fn before_offer(&self, _source: u32, _builder: u32, _k: u64) {}
-
-    // Each builder takes each line, so those of one are counted.
-    fn after_take(&self, _source: u32, builder: u32, _k: u64) {
+    // Each line is sent to each builder, so those to one are counted, as they are read.
+    fn before_offer(&self, _source: u32, builder: u32, _k: u64) {
         if builder == 0 {
             self.progress.take_line();
         }
     }
+
+    fn after_take(&self, _source: u32, _builder: u32, _k: u64) {}
 }
 
 impl<T: Wait + Clock> Reporter for Watch<'_, T> {
