@@ -14,8 +14,8 @@ has g c = record {
 
 pub new-requires : goal.new-requires
 new-requires g c =
-    counts-new c.refusals_of-refused.result c.self.inside.ledger c.of-trace.result.ledger c.in_ok-cube.cube c.refusals_of-refused.ensures
-    c.of-trace.ensures
+    counts-new c.refusals_of-refused.result c.self.inside.ledger c.of-trace.result.ledger c.in_ok-cube.cube
+    c.refusals_of-refused.ensures c.of-trace.ensures
     (has g (goal.at.new-requires g c).In_ok-cube)
 
 pub returns : goal.returns
