@@ -15,7 +15,7 @@ complete -c datacube -n __fish_use_subcommand -a merge -d 'Prints the cube of al
 complete -c datacube -n __fish_use_subcommand -a explain -d 'Says what a code means, what causes it, and how to mend it'
 complete -c datacube -n '__fish_seen_subcommand_from table' -l by -x -d 'The columns that are dimensions, 1 to 8, with `:` and a number the first so many characters; guessed where left out'
 complete -c datacube -n '__fish_seen_subcommand_from table' -l of -x -d 'The columns that are measures, 1 to 4, with `:` and a number that many decimals; guessed where left out'
-complete -c datacube -n '__fish_seen_subcommand_from table' -l ring -x -d 'How many records may wait between a feed and a builder, 1 to 65536 [default: 64]'
+complete -c datacube -n '__fish_seen_subcommand_from table' -l ring -x -d 'How many lots of records may wait between a feed and a builder, 1 to 65536; fewer than 64 are of one record each [default: 64]'
 complete -c datacube -n '__fish_seen_subcommand_from table' -l shard -x -d 'Reads only the lines whose id is in share J of N, N up to 65536; the prints of all shares, made with --partial, merge to the whole'
 complete -c datacube -n '__fish_seen_subcommand_from table' -l max-record -x -d 'How many bytes a record of a feed may have before its line end, as 500, 64K, 1M or 2G, 1024G at most; a longer one is the fault F6. Where left out 1M with columns by name, else as many as there are'
 complete -c datacube -n '__fish_seen_subcommand_from table' -l builders -x -d 'How many threads build the cube, 1 to 8; what is printed is the same [default: 1]'
@@ -36,7 +36,7 @@ complete -c datacube -n '__fish_seen_subcommand_from schema' -s h -l help -d 'Pr
 complete -c datacube -n '__fish_seen_subcommand_from check' -l why -d 'Says more where it fails: the file, the line, the column, the value, what was wanted and how to mend it; on a terminal it does so anyway'
 complete -c datacube -n '__fish_seen_subcommand_from check' -s h -l help -d 'Print help'
 complete -c datacube -n '__fish_seen_subcommand_from check' -F
-complete -c datacube -n '__fish_seen_subcommand_from print' -l ring -x -d 'How many records may wait between a feed and a builder, 1 to 65536 [default: 64]'
+complete -c datacube -n '__fish_seen_subcommand_from print' -l ring -x -d 'How many lots of records may wait between a feed and a builder, 1 to 65536; fewer than 64 are of one record each [default: 64]'
 complete -c datacube -n '__fish_seen_subcommand_from print' -l shard -x -d 'Reads only the lines whose id is in share J of N, N up to 65536; the prints of all shares, made with --partial, merge to the whole'
 complete -c datacube -n '__fish_seen_subcommand_from print' -l max-record -x -d 'How many bytes a record of a feed may have before its line end, as 500, 64K, 1M or 2G, 1024G at most; a longer one is the fault F6. Where left out 1M with columns by name, else as many as there are'
 complete -c datacube -n '__fish_seen_subcommand_from print' -l builders -x -d 'How many threads build the cube, 1 to 8; what is printed is the same [default: 1]'
@@ -54,7 +54,7 @@ complete -c datacube -n '__fish_seen_subcommand_from print' -l strict -d 'Fails 
 complete -c datacube -n '__fish_seen_subcommand_from print' -l max-cells -x -d 'Fails where the whole cube has more than N cells, and writes nothing then; N is 1 to 9223372036854775807'
 complete -c datacube -n '__fish_seen_subcommand_from print' -s h -l help -d 'Print help'
 complete -c datacube -n '__fish_seen_subcommand_from print' -F
-complete -c datacube -n '__fish_seen_subcommand_from refusals' -l ring -x -d 'How many records may wait between a feed and a builder, 1 to 65536 [default: 64]'
+complete -c datacube -n '__fish_seen_subcommand_from refusals' -l ring -x -d 'How many lots of records may wait between a feed and a builder, 1 to 65536; fewer than 64 are of one record each [default: 64]'
 complete -c datacube -n '__fish_seen_subcommand_from refusals' -l shard -x -d 'Reads only the lines whose id is in share J of N, N up to 65536; the prints of all shares, made with --partial, merge to the whole'
 complete -c datacube -n '__fish_seen_subcommand_from refusals' -l max-record -x -d 'How many bytes a record of a feed may have before its line end, as 500, 64K, 1M or 2G, 1024G at most; a longer one is the fault F6. Where left out 1M with columns by name, else as many as there are'
 complete -c datacube -n '__fish_seen_subcommand_from refusals' -l builders -x -d 'How many threads build the cube, 1 to 8; what is printed is the same [default: 1]'
@@ -65,7 +65,7 @@ complete -c datacube -n '__fish_seen_subcommand_from refusals' -l store -r -F -d
 complete -c datacube -n '__fish_seen_subcommand_from refusals' -l wary -d 'Supposes nothing of what a torn write leaves of the store, and syncs twice a commit; does nothing without --store'
 complete -c datacube -n '__fish_seen_subcommand_from refusals' -s h -l help -d 'Print help'
 complete -c datacube -n '__fish_seen_subcommand_from refusals' -F
-complete -c datacube -n '__fish_seen_subcommand_from slice' -l ring -x -d 'How many records may wait between a feed and a builder, 1 to 65536 [default: 64]'
+complete -c datacube -n '__fish_seen_subcommand_from slice' -l ring -x -d 'How many lots of records may wait between a feed and a builder, 1 to 65536; fewer than 64 are of one record each [default: 64]'
 complete -c datacube -n '__fish_seen_subcommand_from slice' -l shard -x -d 'Reads only the lines whose id is in share J of N, N up to 65536; the prints of all shares, made with --partial, merge to the whole'
 complete -c datacube -n '__fish_seen_subcommand_from slice' -l max-record -x -d 'How many bytes a record of a feed may have before its line end, as 500, 64K, 1M or 2G, 1024G at most; a longer one is the fault F6. Where left out 1M with columns by name, else as many as there are'
 complete -c datacube -n '__fish_seen_subcommand_from slice' -l builders -x -d 'How many threads build the cube, 1 to 8; what is printed is the same [default: 1]'
@@ -82,7 +82,7 @@ complete -c datacube -n '__fish_seen_subcommand_from slice' -l strict -d 'Fails 
 complete -c datacube -n '__fish_seen_subcommand_from slice' -l max-cells -x -d 'Fails where the whole cube has more than N cells, and writes nothing then; N is 1 to 9223372036854775807'
 complete -c datacube -n '__fish_seen_subcommand_from slice' -s h -l help -d 'Print help'
 complete -c datacube -n '__fish_seen_subcommand_from slice' -F
-complete -c datacube -n '__fish_seen_subcommand_from drill' -l ring -x -d 'How many records may wait between a feed and a builder, 1 to 65536 [default: 64]'
+complete -c datacube -n '__fish_seen_subcommand_from drill' -l ring -x -d 'How many lots of records may wait between a feed and a builder, 1 to 65536; fewer than 64 are of one record each [default: 64]'
 complete -c datacube -n '__fish_seen_subcommand_from drill' -l shard -x -d 'Reads only the lines whose id is in share J of N, N up to 65536; the prints of all shares, made with --partial, merge to the whole'
 complete -c datacube -n '__fish_seen_subcommand_from drill' -l max-record -x -d 'How many bytes a record of a feed may have before its line end, as 500, 64K, 1M or 2G, 1024G at most; a longer one is the fault F6. Where left out 1M with columns by name, else as many as there are'
 complete -c datacube -n '__fish_seen_subcommand_from drill' -l builders -x -d 'How many threads build the cube, 1 to 8; what is printed is the same [default: 1]'
@@ -99,7 +99,7 @@ complete -c datacube -n '__fish_seen_subcommand_from drill' -l strict -d 'Fails 
 complete -c datacube -n '__fish_seen_subcommand_from drill' -l max-cells -x -d 'Fails where the whole cube has more than N cells, and writes nothing then; N is 1 to 9223372036854775807'
 complete -c datacube -n '__fish_seen_subcommand_from drill' -s h -l help -d 'Print help'
 complete -c datacube -n '__fish_seen_subcommand_from drill' -F
-complete -c datacube -n '__fish_seen_subcommand_from rollup' -l ring -x -d 'How many records may wait between a feed and a builder, 1 to 65536 [default: 64]'
+complete -c datacube -n '__fish_seen_subcommand_from rollup' -l ring -x -d 'How many lots of records may wait between a feed and a builder, 1 to 65536; fewer than 64 are of one record each [default: 64]'
 complete -c datacube -n '__fish_seen_subcommand_from rollup' -l shard -x -d 'Reads only the lines whose id is in share J of N, N up to 65536; the prints of all shares, made with --partial, merge to the whole'
 complete -c datacube -n '__fish_seen_subcommand_from rollup' -l max-record -x -d 'How many bytes a record of a feed may have before its line end, as 500, 64K, 1M or 2G, 1024G at most; a longer one is the fault F6. Where left out 1M with columns by name, else as many as there are'
 complete -c datacube -n '__fish_seen_subcommand_from rollup' -l builders -x -d 'How many threads build the cube, 1 to 8; what is printed is the same [default: 1]'
@@ -116,7 +116,7 @@ complete -c datacube -n '__fish_seen_subcommand_from rollup' -l strict -d 'Fails
 complete -c datacube -n '__fish_seen_subcommand_from rollup' -l max-cells -x -d 'Fails where the whole cube has more than N cells, and writes nothing then; N is 1 to 9223372036854775807'
 complete -c datacube -n '__fish_seen_subcommand_from rollup' -s h -l help -d 'Print help'
 complete -c datacube -n '__fish_seen_subcommand_from rollup' -F
-complete -c datacube -n '__fish_seen_subcommand_from live' -l ring -x -d 'How many records may wait between a feed and a builder, 1 to 65536 [default: 64]'
+complete -c datacube -n '__fish_seen_subcommand_from live' -l ring -x -d 'How many lots of records may wait between a feed and a builder, 1 to 65536; fewer than 64 are of one record each [default: 64]'
 complete -c datacube -n '__fish_seen_subcommand_from live' -l shard -x -d 'Reads only the lines whose id is in share J of N, N up to 65536; the prints of all shares, made with --partial, merge to the whole'
 complete -c datacube -n '__fish_seen_subcommand_from live' -l max-record -x -d 'How many bytes a record of a feed may have before its line end, as 500, 64K, 1M or 2G, 1024G at most; a longer one is the fault F6. Where left out 1M with columns by name, else as many as there are'
 complete -c datacube -n '__fish_seen_subcommand_from live' -l threads -x -d 'How many threads, 1 to 16, fill, sort and print the cube, and for one builder take the feeds, 8 at most; where left out as many as the machine has, in live half as many more, and at most 16'
