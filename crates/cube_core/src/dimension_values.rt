@@ -17,6 +17,12 @@ const BLOCK: usize = 40;
 /// The most values that lie in the value itself.
 pub const VALUES_IN_PLACE: usize = 4;
 
+/// How many bytes of texts, and how many values, there is room for at first where they lie on the heap: a fact has up to 8
+/// dimensions.
+const FIRST_BLOCK: usize = 80;
+
+const FIRST_VALUES: usize = 8;
+
 // Where a value lies in the block.
 #[derive(Clone, Copy, Debug, Default)]
 enum Span<N> {
@@ -287,7 +293,7 @@ fn add_on_heap(
 fn widened(alloc: Global, spans: &[Span<u8>]) -> Result<Vec<Span<u32>>, AllocError>
     ensures { IfOk result (λ wide. wide.items ≡ spans.now) }
 {
-    let mut wide = Vec::with_capacity(alloc, spans.len())?;
+    let mut wide = Vec::with_capacity(alloc, FIRST_VALUES)?;
     for span in spans {
         wide.push(match span {
             Span::Null => Span::Null,
@@ -331,10 +337,14 @@ fn moved_to_heap(
     ensures { IfOk result (λ moved. Adds block.now spans.now (block_of moved) (spans_of moved)
         (option_map (λ text. text.now) value.entry)) }
 {
-    let mut block = Vec::from_slice(alloc, block)?;
+    let mut texts = Vec::with_capacity(alloc, FIRST_BLOCK)?;
+    texts.extend_from_slice(block)?;
     let mut spans = widened(alloc, spans)?;
-    add_on_heap(&mut block, &mut spans, value)?;
-    Ok(StoredValues::Long { block, spans })
+    add_on_heap(&mut texts, &mut spans, value)?;
+    Ok(StoredValues::Long {
+        block: texts,
+        spans,
+    })
 }
 
 /// The text of a value; None of null.

@@ -2,7 +2,7 @@
 ghost use Rattle.std.specs.Prelude.{◌≡◌, IfOk};
 ghost use Rattle.cube_feed.specs.FeedItems.{SomeSchemaTakes};
 
-use cube_core::Item;
+use cube_core::{Change, Item, LineFault};
 use std::alloc::{AllocError, Global};
 use std::marker::Model;
 
@@ -38,6 +38,14 @@ impl FeedItem {
         ensures { result ≡ self.now.number }
     {
         self.item.number
+    }
+
+    /// What it says: a change, or the fault of its line.
+    pub fn what(&self) -> &Result<Change, LineFault>
+        ensures what { result.now ≡ self.now.what }
+        ensures taken { SomeSchemaTakes result.now }
+    {
+        &self.item.what
     }
 
     /// The item itself.

@@ -154,9 +154,8 @@ impl Ledger {
             LedgerStandsAt self.new (arrivals ++ (source, item) ∷ [])) }
         ensures err { OnErr result (self.new ≡ self.old) }
     {
-        let item = item.into_item();
-        let is_taken = has_shape(&self.schema, &item.what);
-        self.enter(source, item, is_taken)
+        let is_taken = has_shape(&self.schema, item.what());
+        self.enter(source, item.into_item(), is_taken)
     }
 
     /// The same of an item whose change, where it says one, the schema takes, as a feed's items are.
@@ -223,8 +222,8 @@ impl Ledger {
     {
         if !is_taken {
             let code = shape_code(&self.schema);
-            let Item { number, what } = item;
-            drop(what);
+            let number = item.number;
+            drop(item);
             return self.refuse(source, number, code);
         }
         self.enter_taken(source, item)

@@ -7,8 +7,7 @@ ghost use Rattle.cube_rings.specs.declared.parcel.Parcel.{Parcel as TheParcel};
 
 use crate::gate::{Gate, GatedLink};
 use crate::gatherer::Place;
-use crate::lots::LotInlet;
-use crate::parcel::Parcel;
+use crate::lots::{LotInlet, Seen};
 use crate::patience::EmptyRounds;
 use cube_feed::{FeedItem, TakesItems};
 use std::alloc::AllocError;
@@ -62,7 +61,15 @@ fn wait_if_full<W: Wait, B: TakesItems>(rt: &W, builder: &B)
     }
 }
 
-// Looks once at a link that hasn't ended. Whether a parcel was there.
+// Counts one parcel more of a link, and tells the gate.
+fn count_one<G: Gate>(link: &GatedLink<'_, G>, taken: &mut Taken)
+    ensures { taken.new.ended ≡ taken.old.ended }
+{
+    taken.parcels = taken.parcels.saturating_add(1);
+    link.tell(taken.parcels);
+}
+
+// Looks once at a link that hasn't ended: takes a parcel, or a lot of which one is to be taken next. Whether one was there.
 fn look<W: Wait, B: TakesItems, G: Gate>(
     rt: &W,
     link: &GatedLink<'_, G>,
@@ -77,16 +84,20 @@ fn look<W: Wait, B: TakesItems, G: Gate>(
     ensures looks { Looks B.stands link.now.source inlet.old inlet.new taken.new.ended
         builder.old builder.new wanting.old wanting.new }
 {
-    let Some(parcel) = inlet.take() else {
-        return false;
-    };
-    taken.parcels = taken.parcels.saturating_add(1);
-    link.tell(taken.parcels);
-    match parcel {
-        Parcel::Line(item) => accept(rt, builder, link.source, item, wanting),
-        Parcel::End => taken.ended = true,
+    if let Some(item) = inlet.next_line() {
+        count_one(link, taken);
+        accept(rt, builder, link.source, item, wanting);
+        return true;
     }
-    true
+    match inlet.take_lot() {
+        Seen::Nothing => false,
+        Seen::Lines => true,
+        Seen::End => {
+            count_one(link, taken);
+            taken.ended = true;
+            true
+        }
+    }
 }
 
 // Looks at a link that hasn't ended, and again while parcels are there. Whether one was there.

@@ -44,7 +44,7 @@ pub use gate::{Gate, OpenGate};
 pub use gatherer::{Gatherer, Place};
 pub use gathering::gather;
 pub use link_ends::{Inlet, Outlet, Receipt, link};
-pub use lots::{Lot, LotInlet, LotOutlet, LotReceipt};
+pub use lots::{LotInlet, LotOutlet, LotReceipt};
 pub use parcel::{FeederEnd, Parcel};
 pub use settings::Settings;
 pub use settling::settle;

@@ -1,28 +1,40 @@
 //! Links over which the lines of a feed go in lots, so that two threads meet once a lot and not at every line.
-ghost use Rattle.std.specs.Prelude.{◌≡◌, ◌≤◌, [], ◌∷◌, ◌++◌, IfOk, IfErr, OnOk, IfSome, IfNone, IsTrue, IsFalse};
-ghost use Rattle.cube_rings.specs.Lots.{unpacked};
-ghost use Rattle.cube_rings.specs.Parcels.{lines_of};
-ghost use Rattle.cube_rings.specs.declared.parcel.Parcel.TheVariants.{End};
+ghost use Rattle.std.specs.Prelude.{◌≡◌, ◌<◌, ◌≤◌, [], ◌∷◌, ◌++◌, IfOk, IfSome, IfNone, IsTrue, IsFalse, vec_len, vec_capacity};
+ghost use Rattle.cube_rings.specs.Lots.{parcels_seen, unpacked};
+ghost use Rattle.cube_rings.specs.Parcels.{lines_of, sends};
+ghost use Rattle.cube_rings.specs.declared.parcel.Parcel.TheVariants.{Line, End};
 
 use crate::link_ends::{Inlet, Outlet, Receipt, link};
-use crate::parcel::Parcel;
+use crate::patience::Patience;
 use cube_feed::FeedItem;
 use std::alloc::{AllocError, Global};
 use std::marker::Model;
 use std::mem;
+use std::sync::Wait;
 use std::vec::IntoIter;
 
 /// The fewest lots that a link has room for where a lot has several lines: at a smaller one the two ends are to meet at
 /// every line.
 const MANY_LOTS: usize = 64;
 
-/// How many lines there are in the lots of all sources together, one lot each.
+/// How many lines there are in the lots of all sources together, one lot each, where these aren't many.
 const LINES: usize = 128;
+
+/// The fewest lines of a lot, at any number of sources: a lot is an allocation, which is shared among so many lines.
+const FEWEST_LINES: usize = 16;
 
 /// What goes over a link at once: some lines of a feed, or its end (this project's choice).
 #[derive(Debug, Drop)]
-pub enum Lot {
+pub(crate) enum Lot {
     Lines(Vec<FeedItem>),
+    End,
+}
+
+/// What was seen on a link: no lot, the lines of one, or the end of the feed, which was taken.
+#[derive(Clone, Copy, Debug)]
+pub(crate) enum Seen {
+    Nothing,
+    Lines,
     End,
 }
 
@@ -91,13 +103,13 @@ impl Model for LotReceipt {
     ghost view = { λ r. record { link = r.receipt.link; sent = unpacked r.receipt.sent } };
 }
 
-/// How many lines a lot has room for, where each of so many sources has links with room for `capacity` lots: so many that
-/// what waits in the links takes about as much memory however many sources there are.
+/// How many lines a lot has room for, where each of so many sources has links with room for `capacity` lots: the fewer the
+/// more sources there are, as what waits in their links takes memory. No contract speaks of the answer.
 pub fn lot_size(capacity: usize, sources: usize) -> usize {
     if capacity < MANY_LOTS || sources == 0 {
         return 1;
     }
-    (LINES / sources).max(1)
+    (LINES / sources).max(FEWEST_LINES)
 }
 
 /// The two ends of a new link with room for `capacity` lots of so many lines, 1 to 65536 (this project's choice).
@@ -147,6 +159,49 @@ fn send_lot(outlet: &mut Outlet<Lot>, lot: &mut Vec<FeedItem>) -> bool
     }
 }
 
+// Whether a line has a place in a lot, and where it fills that, the link has room for it.
+fn has_place(outlet: &mut Outlet<Lot>, lot: &Vec<FeedItem>) -> bool
+    ensures outlet { outlet.new ≡ outlet.old }
+    ensures place { IsTrue result → vec_len lot.now < vec_capacity lot.now }
+{
+    let places = lot.capacity() - lot.len();
+    places > 1 || (places == 1 && outlet.room() > 0)
+}
+
+// Waits until a line has a place in a lot, and where it fills that, until the link has room for it.
+fn wait_for_place<W: Wait>(
+    rt: &W,
+    patience: &mut Patience,
+    outlet: &mut Outlet<Lot>,
+    lot: &Vec<FeedItem>,
+)
+    ensures outlet { outlet.new ≡ outlet.old }
+    ensures place { vec_len lot.now < vec_capacity lot.now }
+{
+    for _ in rt.forever() {
+        if has_place(outlet, lot) {
+            return;
+        }
+        patience.wait(rt, outlet);
+    }
+    unreachable!()
+}
+
+// Puts a line, for which there is room, behind those that wait, and sends them where the lot is full then.
+fn put_line(outlet: &mut Outlet<Lot>, lot: &mut Vec<FeedItem>, item: FeedItem)
+    requires { vec_len lot.old < vec_capacity lot.old }
+    ensures link { outlet.new.link ≡ outlet.old.link }
+    ensures sent { unpacked outlet.new.sent ++ lines_of lot.new.items
+        ≡ (unpacked outlet.old.sent ++ lines_of lot.old.items) ++ Line item ∷ [] }
+{
+    let Ok(()) = lot.push(item) else {
+        unreachable!()
+    };
+    if lot.len() == lot.capacity() {
+        let _is_sent = send_lot(outlet, lot);
+    }
+}
+
 impl LotOutlet {
     /// Makes room for one more line. The only error is that memory ran out.
     pub fn make_room(&mut self, alloc: Global) -> Result<(), AllocError>
@@ -158,45 +213,26 @@ impl LotOutlet {
         Ok(())
     }
 
-    /// Sends a parcel, or gives it back where the link has no room, which the inlet may make at any time, or where no room
-    /// was made for a line.
-    pub fn offer(&mut self, parcel: Parcel) -> Result<(), Parcel>
-        ensures link { self.new.link ≡ self.old.link }
-        ensures sent { OnOk result (self.new.sent ≡ self.old.sent ++ parcel ∷ []) }
-        ensures back { IfErr result (λ back. (back ≡ parcel) × (self.new ≡ self.old)) }
+    /// Sends a line: waits until it has a place among those that wait, and, where it is the last that has one, until the link
+    /// has room for all of them. Where no room was made for a line it waits for good.
+    pub(crate) fn send_line<W: Wait>(&mut self, rt: &W, patience: &mut Patience, item: FeedItem)
+        ensures { self.new ≡ sends (Line item ∷ []) self.old }
     {
-        match parcel {
-            Parcel::Line(item) => match self.offer_line(item) {
-                Ok(()) => Ok(()),
-                Err(back) => Err(Parcel::Line(back)),
-            },
-            Parcel::End => {
-                if self.offer_end() {
-                    Ok(())
-                } else {
-                    Err(Parcel::End)
-                }
-            }
-        }
+        wait_for_place(rt, patience, &mut self.outlet, &self.lot);
+        put_line(&mut self.outlet, &mut self.lot, item);
     }
 
-    // Puts a line behind those that wait, and sends them where the lot is full then.
-    fn offer_line(&mut self, item: FeedItem) -> Result<(), FeedItem>
-        ensures link { self.new.link ≡ self.old.link }
-        ensures sent { OnOk result (self.new.sent ≡ self.old.sent ++ lines_of (item ∷ [])) }
-        ensures back { IfErr result (λ back. (back ≡ item) × (self.new ≡ self.old)) }
+    /// Sends the lines that wait and then the end; waits until the link has room.
+    pub(crate) fn send_end<W: Wait>(&mut self, rt: &W, patience: &mut Patience)
+        ensures { self.new ≡ sends (End ∷ []) self.old }
     {
-        let room = self.lot.capacity() - self.lot.len();
-        if room == 0 || (room == 1 && self.outlet.room() == 0) {
-            return Err(item);
+        for _ in rt.forever() {
+            if self.offer_end() {
+                return;
+            }
+            patience.wait(rt, &mut self.outlet);
         }
-        let Ok(()) = self.lot.push(item) else {
-            unreachable!()
-        };
-        if room == 1 {
-            let _is_sent = send_lot(&mut self.outlet, &mut self.lot);
-        }
-        Ok(())
+        unreachable!()
     }
 
     // Sends the lines that wait and then the end; answers whether the link had room.
@@ -209,18 +245,6 @@ impl LotOutlet {
             return false;
         }
         self.outlet.offer(Lot::End).is_ok()
-    }
-
-    /// How many lots the link has room for. No contract speaks of the answer.
-    pub fn capacity(&self) -> usize {
-        self.outlet.capacity()
-    }
-
-    /// How many lots the link has room for now; the inlet may make more at any time. No contract speaks of the answer.
-    pub fn room(&mut self) -> usize
-        ensures { self.new ≡ self.old }
-    {
-        self.outlet.room()
     }
 
     /// Ends the sending, and gives a receipt for all that was sent. None where the inlet was dropped before, or has no room
@@ -249,23 +273,32 @@ impl LotInlet {
         self.inlet.capacity()
     }
 
-    /// Takes the next parcel where one is seen. None says nothing of the outlet, which may send more.
-    pub fn take(&mut self) -> Option<Parcel>
+    /// Takes the next line of the lot that was taken last; None where none of it is left.
+    pub(crate) fn next_line(&mut self) -> Option<FeedItem>
         ensures link { self.new.link ≡ self.old.link }
-        ensures received { IfSome result (λ parcel.
-            self.new.received ≡ self.old.received ++ parcel ∷ []) }
+        ensures received { IfSome result (λ item.
+            self.new.received ≡ self.old.received ++ Line item ∷ []) }
         ensures none { IfNone result (self.new.received ≡ self.old.received) }
     {
-        if let Some(item) = self.lot.next() {
-            return Some(Parcel::Line(item));
+        self.lot.next()
+    }
+
+    /// Takes the next lot where one is seen and no line of the last one is left: its lines are the next ones. Nothing says
+    /// nothing of the outlet, which may send more.
+    pub(crate) fn take_lot(&mut self) -> Seen
+        ensures link { self.new.link ≡ self.old.link }
+        ensures received { self.new.received ≡ self.old.received ++ parcels_seen result }
+    {
+        if self.lot.len() != 0 {
+            return Seen::Lines;
         }
-        match self.inlet.take()? {
-            Lot::Lines(lines) => {
+        match self.inlet.take() {
+            None => Seen::Nothing,
+            Some(Lot::Lines(lines)) => {
                 self.lot = lines.into_iter();
-                let item = self.lot.next()?;
-                Some(Parcel::Line(item))
+                Seen::Lines
             }
-            Lot::End => Some(Parcel::End),
+            Some(Lot::End) => Seen::End,
         }
     }
 

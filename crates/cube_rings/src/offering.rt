@@ -8,7 +8,6 @@ ghost use Rattle.cube_rings.specs.declared.parcel.Parcel.TheVariants.{Line, End}
 
 use crate::gate::Gate;
 use crate::lots::LotOutlet;
-use crate::parcel::Parcel;
 use crate::patience::Patience;
 use cube_feed::FeedItem;
 use std::sync::Wait;
@@ -45,26 +44,6 @@ impl<'g, G: Gate> Offering<'g, G> {
     }
 }
 
-// Offers a parcel again until the link has room for it.
-fn offer_until_taken<W: Wait>(
-    rt: &W,
-    outlet: &mut LotOutlet,
-    parcel: Parcel,
-    patience: &mut Patience,
-)
-    ensures { outlet.new ≡ sends (parcel ∷ []) outlet.old }
-{
-    let mut parcel = parcel;
-    for _ in rt.forever() {
-        match outlet.offer(parcel) {
-            Ok(()) => return,
-            Err(back) => parcel = back,
-        }
-        patience.wait(rt, outlet);
-    }
-    unreachable!()
-}
-
 // Sends an item to a builder, as the next parcel of its link.
 fn offer_item<W: Wait, G: Gate>(
     rt: &W,
@@ -78,12 +57,7 @@ fn offer_item<W: Wait, G: Gate>(
         set outlets.old builder (sends (Line item ∷ []) (get_or outlets.old builder d)) }
 {
     offering.pass_gate(builder as u32);
-    offer_until_taken(
-        rt,
-        &mut outlets[builder],
-        Parcel::Line(item),
-        &mut offering.patience,
-    );
+    outlets[builder].send_line(rt, &mut offering.patience, item);
 }
 
 /// Sends an item to each builder, in their order, as the next parcel of each link: its copies, and itself to the last.
@@ -121,7 +95,7 @@ pub(crate) fn offer_end<W: Wait, G: Gate>(
     let mut builder = 0u32;
     for outlet in outlets.iter_mut() {
         offering.pass_gate(builder);
-        offer_until_taken(rt, outlet, Parcel::End, &mut offering.patience);
+        outlet.send_end(rt, &mut offering.patience);
         builder += 1;
     }
 }

@@ -1,7 +1,8 @@
 //! How long a feeder waits at full links, and a builder at empty ones.
 ghost use Rattle.std.specs.Prelude.{◌≡◌};
 
-use crate::lots::{LotInlet, LotOutlet};
+use crate::link_ends::Outlet;
+use crate::lots::{Lot, LotInlet};
 use std::sync::Wait;
 use std::thread;
 use std::thread::Parker;
@@ -41,7 +42,7 @@ impl Patience {
 
     /// Waits for room in a link that has none. A feeder that yields does so until half of it is free, so that the two ends
     /// don't wait for each other at every parcel.
-    pub(crate) fn wait<W: Wait>(&mut self, rt: &W, outlet: &mut LotOutlet)
+    pub(crate) fn wait<W: Wait>(&mut self, rt: &W, outlet: &mut Outlet<Lot>)
         ensures { outlet.new ≡ outlet.old }
     {
         let capacity = outlet.capacity();
@@ -69,7 +70,7 @@ impl Patience {
 }
 
 // Yields until the link has this much room, or for long; answers whether it has.
-fn yield_for_room(outlet: &mut LotOutlet, room: usize) -> bool
+fn yield_for_room(outlet: &mut Outlet<Lot>, room: usize) -> bool
     ensures { outlet.new ≡ outlet.old }
 {
     for _ in 0..YIELDS {

@@ -129,15 +129,6 @@ impl Narrow {
         Ok(true)
     }
 
-    /// Adds the numbers of another list, and answers whether it did: not where a form that counts how often each number
-    /// is held would be much smaller.
-    pub fn append(&mut self, more: &Narrow) -> Result<bool, AllocError>
-        ensures added { result ≡ Ok true → AddsBag self.old self.new more.now }
-        ensures refused { result ≡ Ok false → self.new ≡ self.old }
-    {
-        self.append_list(&more.numbers, more.ends())
-    }
-
     /// Adds numbers with these ends, and answers whether it did: not where a form that counts how often each number is
     /// held would be much smaller.
     pub(crate) fn append_list(&mut self, more: &[i32], ends: (i32, i32)) -> Result<bool, AllocError>

@@ -7,12 +7,12 @@ use Rattle.cube_rings.proofs.offering.offer_end.Goals as goal
 pub loop-outlet-preserved : goal.loop-outlet-preserved
 loop-outlet-preserved g c =
     let loop = c.loop-outlet in
-    let next : c.offer_until_taken.new.outlet
+    let next : c.send_end.new.self
     ≡ sends (End ∷ []) (get_or loop.outlets loop.outlet-index c.outlet-item.result) =
-    search (rules, c.offer_until_taken.ensures) in (
+    search (rules, c.send_end.ensures) in (
       search rules,
       first_mapped-more (sends (End ∷ [])) loop.outlet-index c.args.outlets.now loop.outlets c.outlet-item.result
-          c.offer_until_taken.new.outlet loop.invariant.1 (omega arith) next,
+          c.send_end.new.self loop.invariant.1 (omega arith) next,
     )
 
 pub returns : goal.returns

@@ -6,4 +6,4 @@ pub returns-clause-stands : goal.returns-clause-stands
 returns-clause-stands c =
     on_ok_weaker c.enter.result
     (λ at. LedgerStandsAt-Enters _ _ c.args.source c.args.item c.requires.first c.requires.last at)
-    (rw c.into_item-item.ensures.item at c.enter.ensures.enters)
+    (rw c.into_item.ensures.item at c.enter.ensures.enters)
