@@ -3,7 +3,8 @@ pub mod FillLaws
 pub mod FinerLaws
 pub mod FilledLaws
 pub mod LevelLaws
-pub mod ShareLaws
+pub mod MovedLaws
+pub mod GatheredLaws
 pub mod MergedLaws
 pub mod BottomUpLaws
 pub mod BottomUpCellLaws

@@ -12,7 +12,7 @@ pub mod Levels
 pub mod Fill
 pub mod Count
 pub mod Places
-pub mod Shares
+pub mod Gathered
 pub mod Merged
 pub mod BottomUp
 pub mod Ranges

@@ -1,11 +1,28 @@
 -- The cells of one cube merged into those of another: its texts get codes in the other's dictionaries,
 -- and its cells have these (this project's choice).
-use Rattle.std.specs.Prelude.{◌≡◌, ◌<◌, ◌++◌, ℕ, List, [], ◌∷◌, length, map, get_or, Some}
-use Rattle.cube_cells.specs.Codes.{Dictionaries, IsDictionary}
+use Rattle.std.specs.Prelude.{◌≡◌, ◌<◌, ◌++◌, ℕ, true, List, [], ◌∷◌, length, map, get_or, Option, Some}
+use Rattle.cube_cells.specs.Codes.{Dictionaries, IsCodeOf, IsDictionary, coord_at, coord_of_value, is_code, texts_with}
 use Rattle.cube_cells.specs.Coded.{CodedCells}
-use Rattle.cube_cells.specs.Shares.{IsCodeIn}
 use Rattle.cube_cells.specs.declared.cube.codes.Codes.{Codes}
-use Rattle.cube_cells.specs.declared.cube.shares.Column.{Column}
+use Rattle.cube_cells.specs.declared.cube.merged.Column.{Column}
+
+-- this is the code of a value, or of null, in a dimension with these texts
+pub record IsCodeIn (texts : List (List ℕ)) (value : Option (List ℕ)) (code : ℕ) : Type 0 where
+  pub valid : is_code texts code ≡ true
+  pub stands : coord_at texts code ≡ coord_of_value value
+
+-- the code of one value more stands last, and its text is there
+pub record PutsCode (value : Option (List ℕ)) (old new : Column) : Type 0 where
+  pub code : ℕ
+  pub codes_are : new.codes.items ≡ old.codes.items ++ code ∷ []
+  pub texts : new.dictionary ≡ texts_with value old.dictionary
+  pub dictionary : IsDictionary new.dictionary
+  pub valid : is_code new.dictionary code ≡ true
+  pub alone : IsCodeOf new.dictionary (coord_of_value value) code
+
+-- the texts of each dimension
+abbrev pub dictionaries_of : List Column → Dictionaries
+dictionaries_of columns = map (λ column. column.dictionary) columns
 
 -- a column has old texts at their places, and the code of each of others
 pub record IsRecoded (old more : List (List ℕ)) (column : Column) : Type 0 where

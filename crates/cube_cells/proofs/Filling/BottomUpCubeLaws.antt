@@ -20,7 +20,7 @@ use Rattle.std.proofs.lemmas.Map.Lookups.{exact_bytes}
 use Rattle.cube_cells.specs.BottomUp.{CanWalk, IsWalkable}
 use Rattle.cube_cells.proofs.Codes.RankLaws.{Less-from_is_lt}
 use Rattle.cube_cells.proofs.Filling.BottomUpLaws.{apart-same_codes}
-use Rattle.cube_cells.proofs.Filling.ShareLaws.{HaveAll-IsPermutation}
+use Rattle.cube_cells.proofs.Filling.MovedLaws.{HaveAll-IsPermutation}
 use Rattle.std.proofs.Math.Nat.{pow-succ'}
 use Rattle.std.proofs.lemmas.Bool.{and_parts, and_from, both_ways, cases_eq, eqb-true, eq-eqb, false_from_ne_true, lt-ltb}
 use Rattle.std.proofs.lemmas.Bool.{ltb-true, ne_eqb, or_left, or_right}

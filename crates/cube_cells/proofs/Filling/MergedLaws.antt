@@ -1,8 +1,8 @@
 -- Laws of cubes over the finest grouping set that are merged: cells under the codes of other dictionaries are the cells
 -- of the same keys, and those into which they are merged have the facts of both.
-use Rattle.std.proofs.Common.{◌≡◌, ℕ, zero, suc, ◌+◌, ◌-◌, ◌*◌, ◌^◌, ◌<◌, ◌==◌, ◌%◌, ◌/◌, List, [], ◌∷◌, ◌++◌}
+use Rattle.std.proofs.Common.{◌≡◌, ℕ, zero, suc, ◌+◌, ◌-◌, ◌*◌, ◌^◌, ◌<◌, ◌≤◌, ◌==◌, ◌%◌, ◌/◌, List, [], ◌∷◌, ◌++◌}
 use Rattle.std.proofs.Common.{true, false, refl, sym, ap, ◌∙◌, subst, arith, inl, inr, length, get_or, set, take}
-use Rattle.std.proofs.Common.{append_assoc, nat_lt, Some}
+use Rattle.std.proofs.Common.{append_assoc, nat_lt, Option, Some}
 use Rattle.std.specs.Int.Bits.{and_self}
 use Rattle.std.specs.Prelude.{All}
 use Rattle.std.specs.List.{AllByRecursion, list_all}
@@ -22,31 +22,48 @@ use Rattle.cube_core.specs.Layout.{Layout}
 use Rattle.cube_core.specs.Takes.{fits}
 use Rattle.cube_core.specs.declared.fact.Fact.{Fact}
 use Rattle.cube_core.specs.declared.key.Coord.{Coord}
-use Rattle.cube_cells.specs.Codes.{Dictionaries, IsDictionary, all_code, are_codes, coord_at, coords_at, is_code}
+use Rattle.cube_cells.specs.Codes.{Dictionaries, IsCodeOf, IsDictionary, all_code, are_codes, coord_at, coord_of_value}
+use Rattle.cube_cells.specs.Codes.{coords_at, is_code}
 use Rattle.cube_cells.specs.Codes.{key_at, kept_codes, null_code, texts_with}
 use Rattle.cube_cells.specs.Coded.{CodedCells, IsCoded, IsCodedCell, decoded, is_total_code, lattice_of, same_codes}
 use Rattle.cube_cells.specs.Cube.{Cells}
 use Rattle.cube_cells.specs.Fill.{FillsSet, HaveOneWidth, IsCubeOfAll, finest_set}
 use Rattle.cube_cells.specs.Levels.{IsLeveled, cells_of}
-use Rattle.cube_cells.specs.Merged.{AreRecoded, IsRecoded, recoded, recoded_cells, recoded_codes}
-use Rattle.cube_cells.specs.Shares.{PutsCode, dictionaries_of}
+use Rattle.cube_cells.specs.Merged.{AreRecoded, IsCodeIn, IsRecoded, PutsCode, dictionaries_of}
+use Rattle.cube_cells.specs.Merged.{recoded, recoded_cells, recoded_codes}
 use Rattle.cube_cells.specs.Tally.{Tally}
 use Rattle.cube_cells.specs.Walk.{AreApart, key_in}
 use Rattle.cube_cells.specs.declared.cube.codes.Codes.{Codes}
 use Rattle.cube_cells.specs.declared.cube.levels.Level.{Level}
-use Rattle.cube_cells.specs.declared.cube.shares.Column.{Column}
+use Rattle.cube_cells.specs.declared.cube.merged.Column.{Column}
 use Rattle.cube_cells.proofs.Cells.JoinLaws.{AreApart-nil}
 use Rattle.cube_cells.proofs.Cells.LeveledLaws.{sole_level}
 use Rattle.cube_cells.proofs.Cells.WalkLaws.{same_codes-IsEquivalence, same_codes-exact}
 use Rattle.cube_cells.proofs.Codes.DictionaryLaws.{coord_at-place, is_code-cases}
-use Rattle.cube_cells.proofs.Codes.GrowthLaws.{AreGrown, IsCodedCell-AreGrown, texts_with-append}
+use Rattle.cube_cells.proofs.Codes.GrowthLaws.{AreGrown, IsCodedCell-AreGrown, is_code-append, texts_with-append}
 use Rattle.cube_cells.proofs.Codes.KeyLaws.{AreCodesOf-alone, coded_at-width}
 use Rattle.cube_cells.proofs.Filling.FilledLaws.{HaveAll, HaveAll-FillsSet, IsBase, IsCubeOfAll-HaveAll}
 use Rattle.cube_cells.proofs.Filling.LevelLaws.{IsLeveled-alone}
-use Rattle.cube_cells.proofs.Filling.ShareLaws.{IsCodeIn-IsCodeOf, IsCodeIn-more, finest_set-below}
 use Rattle.cube_cells.proofs.Tallies.GroupLaws.{AreCodesOf-coords_at}
 
 -- ---- codes
+-- a code that is valid is that of one coordinate
+pub IsCodeIn-IsCodeOf : (texts : List (List ℕ)) (value : Option (List ℕ)) (code : ℕ)
+    → IsCodeOf texts (coord_of_value value) code → is_code texts code ≡ true → IsCodeIn texts value code
+IsCodeIn-IsCodeOf texts value code of valid = record { valid = valid; stands = (of.alone code valid).1 refl }
+
+-- it stays so where texts are added
+pub IsCodeIn-more : (old new more : List (List ℕ)) (value : Option (List ℕ)) (code : ℕ) → new ≡ old ++ more
+    → IsDictionary new → IsCodeIn old value code → IsCodeIn new value code
+IsCodeIn-more old new more value code is dictionary before =
+    let same = is_code-append old more new code is dictionary before.valid in
+    record { valid = same.0; stands = same.1 ∙ before.stands }
+
+-- the finest set is one of those of as many dimensions, and not the empty one
+pub finest_set-below : (n : ℕ) → 1 ≤ n → (0 < finest_set n) × (finest_set n < 2 ^ n)
+finest_set-below zero some = absurd (omega (arith, some))
+finest_set-below (suc n) some = (omega (arith, pow-succ' 2 n, pow_pos n), omega (arith, pow-succ' 2 n, pow_pos n))
+
 -- what stands in the place of a code stands for the same coordinate
 coord_at-IsRecoded : (old more : List (List ℕ)) (column : Column) (code : ℕ) → IsRecoded old more column
     → IsDictionary more → is_code more code ≡ true

@@ -3,18 +3,19 @@ use Rattle.std.proofs.Common.{◌≡◌, ℕ, zero, suc, ◌+◌, ◌*◌, ◌/�
 use Rattle.std.proofs.Common.{Bool, true, false, not}
 use Rattle.std.proofs.Common.{refl, sym, ap, ◌∙◌, subst, add-one, arith, inl, inr}
 use Rattle.std.proofs.Common.{length, get_or, take, map, filter, cond, ltb}
-use Rattle.std.specs.Prelude.{All, Contains}
+use Rattle.std.specs.Prelude.{All, Contains, IfOk, Ok, Result}
 use Rattle.std.specs.Cmp.Lexicographic.{slice_cmp}
 use Rattle.std.specs.Global.{Vec}
 use Rattle.std.specs.List.Sorted.{IsPermutation, IsStrictlySortedBy}
 use Rattle.std.specs.Ordering.{nat_cmp, is_lt}
+use Rattle.std.specs.declared.alloc.AllocError.{AllocError}
 use Rattle.std.specs.declared.cmp.Ordering.{Ordering}
 use Rattle.std.specs.declared.cmp.Ordering.TheVariants.{Less, Equal, Greater}
 use Rattle.std.proofs.lemmas.Bool.{and_from, and_parts, cases_Bool, lt-ltb, ltb-true, not_from_false}
 use Rattle.std.proofs.lemmas.Bool.{and_left, le-ltb, true≢false}
 use Rattle.std.proofs.Math.Bool.{and_comm}
 use Rattle.std.proofs.lemmas.Cmp.{nat_list_cmp_total}
-use Rattle.std.proofs.lemmas.List.{append-nil, get_or-map, get_or_default, map-append, take_more, take_all}
+use Rattle.std.proofs.lemmas.List.{append-nil, get_or-map, get_or_default, length-map, map-append, take_more, take_all}
 use Rattle.std.proofs.lemmas.List.Concat.{flat_map-append}
 use Rattle.std.proofs.lemmas.List.Elements.{All-append, All-contains, All-map, All-nil, filter_passes}
 use Rattle.std.proofs.lemmas.List.Elements.{Contains-append_left, Contains-append_right, recursion_from_All}
@@ -22,6 +23,7 @@ use Rattle.std.proofs.lemmas.List.Sorted.{All-permutation, Contains-permutation,
 use Rattle.std.proofs.lemmas.List.Sorted.{IsPermutation-map, IsPermutation-sym, ranks_by, sorted_far}
 use Rattle.std.proofs.lemmas.List.Sorted.{sum_by-IsPermutation}
 use Rattle.cube_core.proofs.ListLaws.{filter-all}
+use Rattle.cube_cells.specs.Fill.{AreMade}
 use Rattle.cube_cells.specs.BottomUp.{AreRaised, IsItem, all_at, cells_of_items, codes_cmp}
 use Rattle.cube_cells.specs.Coded.{CodedCells}
 use Rattle.cube_cells.specs.Ranges.{AreInOrder, AreRaisedIn, is_from, is_in_range, items_in}
@@ -261,3 +263,19 @@ AreRaised-lists {N} marks from items lists in_order long each =
     by_list range (list ∷ lists) inside is =
         subst (AreRaised from (items_in marks from range (cells_of_items items)))
         (sym (get_or-map (λ (l : Vec (Item N)). cells_of_items l.items) (list ∷ lists) range list [] inside)) (is list)
+
+-- results of which each was made
+pub made_each : {X : Type 0} (is : ℕ → X → Type 0) (xs : List X) (made : List (Result X AllocError)) (number : ℕ)
+    → map Ok xs ≡ made → AreMade is number made
+    → (length xs ≡ number) × ((i : ℕ) (unused : X) → i < number → is i (get_or xs i unused))
+made_each is xs made number are results =
+    (as_many, λ i unused inside. at i unused inside (results.each i (Ok unused) inside))
+  where
+    as_many : length xs ≡ number
+    as_many = sym (length-map xs Ok) ∙ ap length are ∙ results.long
+
+    at : (i : ℕ) (unused : _) → i < number → IfOk (get_or made i (Ok unused)) (is i) → is i (get_or xs i unused)
+    at i unused inside holds =
+        let here : get_or made i (Ok unused) ≡ Ok (get_or xs i unused) = ap (λ ms. get_or ms i (Ok unused)) (sym are)
+        ∙ get_or-map Ok xs i unused (Ok unused) (omega (arith, inside, as_many)) in
+        rw here at holds

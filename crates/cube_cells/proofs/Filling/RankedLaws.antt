@@ -34,7 +34,7 @@ use Rattle.cube_cells.proofs.Codes.RankingLaws.{All-AreSortedTexts, SameCoords-A
 use Rattle.cube_cells.proofs.Codes.RankingLaws.{length-ranks_of}
 use Rattle.cube_cells.proofs.Filling.BottomUpCubeLaws.{AreFinest, AreFinest-IsPermutation, All-IsItem}
 use Rattle.cube_cells.proofs.Filling.BottomUpCubeLaws.{pow-positive, some_finest, sorted_items, strictly_sorted}
-use Rattle.cube_cells.proofs.Filling.ShareLaws.{HaveAll-IsPermutation}
+use Rattle.cube_cells.proofs.Filling.MovedLaws.{HaveAll-IsPermutation}
 use Rattle.cube_cells.proofs.Rows.RowLaws.{IsDistinct-decoded, same_key_as, same_key_as-IsEquivalence}
 
 -- ---- keys

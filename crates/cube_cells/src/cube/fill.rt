@@ -14,20 +14,30 @@ use super::Cube;
 use super::codes::Codes;
 use super::levels::{Cells, Level, new_cells};
 use crate::cell::Cell;
+use cube_core::Schema;
 use cube_values::Numbers;
 use std::alloc::{AllocError, Global};
 
 impl<N: Numbers> Cube<N> {
-    /// The cube of no fact over the finest grouping set alone, that of all dimensions, with the same schema. The
-    /// only error is that memory ran out.
+    /// The cube of no fact over the finest grouping set alone of a schema, that of all dimensions. The only error is that
+    /// memory ran out.
+    pub fn finest_over(alloc: Global, schema: &Schema) -> Result<Cube<N>, AllocError>
+        ensures new { IfOk result (IsNewLattice schema.now
+            (finest_set (length schema.now.dimensions) ∷ [])) }
+        ensures cube { IfOk result (λ cube. IsCubeOf cube []) }
+    {
+        let sets = vec![in alloc; finest_of(schema.dimensions().len())]?;
+        let schema = schema.copy(alloc)?;
+        Cube::over(alloc, schema, sets)
+    }
+
+    /// The same with the schema of this cube.
     pub fn finest(&self) -> Result<Cube<N>, AllocError>
         ensures new { IfOk result (IsNewLattice self.now.schema
             (finest_set (length self.now.schema.dimensions) ∷ [])) }
         ensures cube { IfOk result (λ cube. IsCubeOf cube []) }
     {
-        let sets = vec![in self.alloc; finest_of(self.schema.dimensions().len())]?;
-        let schema = self.schema.copy(self.alloc)?;
-        Cube::over(self.alloc, schema, sets)
+        Cube::finest_over(self.alloc, &self.schema)
     }
 
     /// Fills the cube with the facts of a cube over the finest grouping set, in place of its own, and gives a code to

@@ -1,11 +1,11 @@
 //! Two cubes over the finest grouping set made one: the texts of the second get codes in the first, and its cells these.
-ghost use Rattle.std.specs.Prelude.{◌≡◌, ◌≤◌, ◌∷◌, ◌++◌, [], List, None, length, get_or, All, IfOk, IfSome, OnOk};
+ghost use Rattle.std.specs.Prelude.{◌≡◌, ◌≤◌, ◌∷◌, ◌++◌, [], List, None, length, get_or, option_map, All, IfOk, IfSome, OnOk};
 ghost use Rattle.cube_core.specs.declared.fact.Fact.{Fact};
 ghost use Rattle.cube_cells.specs.Codes.{IsDictionary};
 ghost use Rattle.cube_cells.specs.Coded.{coded_at};
 ghost use Rattle.cube_cells.specs.Cube.{SameSets};
 ghost use Rattle.cube_cells.specs.Fill.{FillsSet, HaveOneWidth, IsCubeOfAll, MergesIn, finest_set};
-ghost use Rattle.cube_cells.specs.Merged.{AreRecoded, IsRecoded, recoded, recoded_cells};
+ghost use Rattle.cube_cells.specs.Merged.{AreRecoded, IsRecoded, PutsCode, dictionaries_of, recoded, recoded_cells};
 ghost use Rattle.cube_cells.specs.Walk.{AreApart, key_in};
 
 use super::Cube;
@@ -13,10 +13,16 @@ use super::codes::Codes;
 use super::dictionary::Dictionary;
 use super::fill::merge_counted;
 use super::levels::{Cells, one_level};
-use super::shares::{Column, dictionaries_of};
 use crate::cell::Cell;
 use cube_values::Numbers;
 use std::alloc::{AllocError, Global};
+
+/// The texts of a dimension of one cube, with the codes that those of another have among them.
+#[derive(Drop)]
+struct Column {
+    dictionary: Dictionary,
+    codes: Vec<u32>,
+}
 
 impl<N: Numbers> Cube<N> {
     /// The cube that has the facts of this one and of another besides, both over the finest grouping set alone.
@@ -62,6 +68,15 @@ impl<N: Numbers> Cube<N> {
 }
 
 impl Column {
+    // Puts the code of a text at the end.
+    fn push(&mut self, alloc: Global, value: Option<&str>) -> Result<(), AllocError>
+        ensures { OnOk result (PutsCode (option_map (λ text. text.now) value.entry) self.old self.new) }
+    {
+        let code = self.dictionary.code_with(alloc, value)?;
+        self.codes.push(code)?;
+        Ok(())
+    }
+
     // The code that stands in the place of one; itself where none does.
     fn recode(&self, code: u32) -> u32
         ensures { result ≡ get_or self.now.codes.items code code }
@@ -106,6 +121,17 @@ fn recoded_column(
         column.push(alloc, Some(more.text(place)))?;
     }
     Ok(column)
+}
+
+// The texts of each dimension.
+fn dictionaries_of(alloc: Global, columns: Vec<Column>) -> Result<Vec<Dictionary>, AllocError>
+    ensures { IfOk result (λ dictionaries. dictionaries.items ≡ dictionaries_of columns.items) }
+{
+    let mut dictionaries = Vec::with_capacity(alloc, columns.len())?;
+    for column in columns {
+        dictionaries.push(column.dictionary)?;
+    }
+    Ok(dictionaries)
 }
 
 // Merges cells into others, each into that of its codes in the columns.

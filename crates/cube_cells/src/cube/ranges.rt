@@ -1,5 +1,5 @@
 //! Items raised on several threads: each thread has those whose codes are in a range of its own.
-ghost use Rattle.std.specs.Prelude.{◌≡◌, ◌+◌, ◌/◌, ◌<◌, ℕ, length, All, IfOk};
+ghost use Rattle.std.specs.Prelude.{◌≡◌, ◌+◌, ◌/◌, ◌<◌, ℕ, length, map, All, IfOk, Ok};
 ghost use Rattle.cube_cells.specs.BottomUp.{AreRaised, IsItem, cells_of_items, cells_of_lent, raise};
 ghost use Rattle.cube_cells.specs.Fill.{AreMade};
 ghost use Rattle.cube_cells.specs.Ranges.{AreInOrder, AreRaisedIn, is_from, is_in_range, items_in};
@@ -7,7 +7,6 @@ ghost use Rattle.cube_cells.specs.WalkParts.{cells_of_lists, put_together};
 
 use super::bottom_up::{Item, Lent, raised, united};
 use super::codes::Codes;
-use super::shares::all_made;
 use super::sorting::FEW;
 use cube_values::Numbers;
 use std::alloc::{AllocError, Global};
@@ -78,6 +77,18 @@ fn made_ranges<T: Threads + Sync, N: Numbers + Send + Sync>(
         marks.len() / EACH + 1,
         &|range| raised_in(alloc, from, items, marks, range),
     )
+}
+
+// What was made, if each of it was.
+fn all_made<X: Drop>(alloc: Global, made: Vec<Result<X, AllocError>>) -> Result<Vec<X>, AllocError>
+    ensures { IfOk result (λ all. map Ok all.items ≡ made.items) }
+{
+    let mut all = Vec::with_capacity(alloc, made.len())?;
+    for one in made {
+        let one = one?;
+        all.push(one)?;
+    }
+    Ok(all)
 }
 
 // The items of a range with ALL in a dimension, in the order of their codes; those of the same codes are merged.

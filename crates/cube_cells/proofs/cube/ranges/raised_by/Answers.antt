@@ -3,8 +3,7 @@ use Rattle.std.proofs.lemmas.Result.{IfOk-weaker}
 use Rattle.cube_cells.specs.BottomUp.{AreRaised, cells_of_items}
 use Rattle.cube_cells.specs.Ranges.{AreRaisedIn}
 use Rattle.cube_cells.specs.WalkParts.{cells_of_lists, put_together}
-use Rattle.cube_cells.proofs.Filling.RangeLaws.{AreRaised-lists}
-use Rattle.cube_cells.proofs.Filling.ShareLaws.{made_each}
+use Rattle.cube_cells.proofs.Filling.RangeLaws.{AreRaised-lists, made_each}
 use Rattle.cube_cells.proofs.cube.ranges.raised_by.Goals as goal
 
 pub returns : goal.returns

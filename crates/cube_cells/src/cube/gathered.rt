@@ -1,0 +1,113 @@
+//! The finest cells of many facts at once: each thread gathers a part of the facts, and what the parts have is merged.
+ghost use Rattle.std.specs.Prelude.{◌≡◌, ◌<◌, ◌∷◌, ◌++◌, [], true, length, map, All, IfOk, OnOk};
+ghost use Rattle.std.specs.Thread.{IsSend, IsSync};
+ghost use Rattle.cube_core.specs.Takes.{fits};
+ghost use Rattle.cube_cells.specs.Fill.{IsCubeOfAll, finest_set};
+ghost use Rattle.cube_cells.specs.Gathered.{GathersMore, HasGathered};
+
+use super::Cube;
+use super::sorting::FEW;
+use cube_core::{Fact, Schema};
+use cube_values::Numbers;
+use std::alloc::{AllocError, Global};
+use std::thread::{Threads, join};
+
+impl<N: Numbers + Send + Sync> Cube<N> {
+    /// The cube of these facts over the finest grouping set alone, with the same schema, made by about as many threads as
+    /// this says.
+    ///
+    /// Each thread gathers a part of the facts into a cube of its own, and two and two of these are merged. With one thread,
+    /// or few facts, no thread is started. The only error is that memory ran out, or numbers to count the facts with.
+    pub fn finest_of<T: Threads + Sync>(
+        &self,
+        rt: &T,
+        threads: usize,
+        facts: &[&Fact],
+    ) -> Result<Cube<N>, AllocError>
+        requires fit { All (λ fact. fits self.now.schema fact ≡ true) (map (λ fact. fact.now) facts.now) }
+        ensures schema { IfOk result (λ cube. cube.schema ≡ self.now.schema) }
+        ensures sets { IfOk result (λ cube.
+            cube.sets ≡ finest_set (length cube.schema.dimensions) ∷ []) }
+        ensures facts { IfOk result (IsCubeOfAll (map (λ fact. fact.now) facts.now)) }
+    {
+        gathered_by(rt, threads, self.alloc, &self.schema, facts)
+    }
+}
+
+// The cube of facts over the finest grouping set, gathered by about so many threads.
+#[cycle(gathering)]
+fn gathered_by<T: Threads + Sync, N: Numbers + Send + Sync>(
+    rt: &T,
+    threads: usize,
+    alloc: Global,
+    schema: &Schema,
+    facts: &[&Fact],
+) -> Result<Cube<N>, AllocError>
+    requires { All (λ fact. fits schema.now fact ≡ true) (map (λ fact. fact.now) facts.now) }
+    ensures { IfOk result (HasGathered schema.now (map (λ fact. fact.now) facts.now)) }
+{
+    if threads < 2 || facts.len() < FEW {
+        return gathered(alloc, schema, facts);
+    }
+    let (low, high) = facts.split_at(facts.len() / 2);
+    gathered_in_halves(rt, threads, alloc, schema, low, high)
+}
+
+// The same of both halves of facts, each gathered by half as many threads.
+#[cycle(gathering)]
+fn gathered_in_halves<T: Threads + Sync, N: Numbers + Send + Sync>(
+    rt: &T,
+    threads: usize,
+    alloc: Global,
+    schema: &Schema,
+    low: &[&Fact],
+    high: &[&Fact],
+) -> Result<Cube<N>, AllocError>
+    requires threads { 1 < threads }
+    requires low { All (λ fact. fits schema.now fact ≡ true) (map (λ fact. fact.now) low.now) }
+    requires high { All (λ fact. fits schema.now fact ≡ true) (map (λ fact. fact.now) high.now) }
+    ensures { IfOk result (HasGathered schema.now
+        (map (λ fact. fact.now) low.now ++ map (λ fact. fact.now) high.now)) }
+{
+    let front = || -> Result<Cube<N>, AllocError>
+        requires { IsSync T.row × IsSend N.row × IsSync N.row × (1 < threads)
+            × All (λ fact. fits schema.now fact ≡ true) (map (λ fact. fact.now) low.now) }
+        ensures { IfOk result (HasGathered schema.entry.now (map (λ fact. fact.now) low.entry.now)) }
+    { gathered_by(rt, threads.div_ceil(2), alloc, schema, low) };
+    let back = || -> Result<Cube<N>, AllocError>
+        requires { IsSync T.row × IsSend N.row × IsSync N.row × (1 < threads)
+            × All (λ fact. fits schema.now fact ≡ true) (map (λ fact. fact.now) high.now) }
+        ensures { IfOk result (HasGathered schema.entry.now (map (λ fact. fact.now) high.entry.now)) }
+    { gathered_by(rt, threads.div_ceil(2), alloc, schema, high) };
+    let (first, second) = join(rt, front, back);
+    let first = first?;
+    let second = second?;
+    first.merged(second)
+}
+
+// The cube of facts over the finest grouping set, into which one after another is gathered.
+fn gathered<N: Numbers>(
+    alloc: Global,
+    schema: &Schema,
+    facts: &[&Fact],
+) -> Result<Cube<N>, AllocError>
+    requires { All (λ fact. fits schema.now fact ≡ true) (map (λ fact. fact.now) facts.now) }
+    ensures { IfOk result (HasGathered schema.now (map (λ fact. fact.now) facts.now)) }
+{
+    let mut cube = Cube::finest_over(alloc, schema)?;
+    for fact in facts {
+        gather_one(&mut cube, *fact)?;
+    }
+    Ok(cube)
+}
+
+// Gathers a fact, unless it couldn't be counted.
+fn gather_one<N: Numbers>(cube: &mut Cube<N>, fact: &Fact) -> Result<(), AllocError>
+    requires { fits cube.old.schema fact.now ≡ true }
+    ensures { OnOk result (GathersMore fact.now cube.old cube.new) }
+{
+    if cube.facts == u64::MAX {
+        return Err(AllocError);
+    }
+    cube.gather(fact)
+}
