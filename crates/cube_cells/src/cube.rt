@@ -11,6 +11,7 @@ ghost use Rattle.cube_core.specs.declared.key.Key.{Key};
 ghost use Rattle.cube_cells.specs.Codes.{IsDictionary, AreCodesOf, are_codes, coord_of_value};
 ghost use Rattle.cube_cells.specs.Count.{HasCellsOver};
 ghost use Rattle.cube_cells.specs.Cube.{Lattice, IsLattice, IsCubeOf, HoldsFact, AddsFact, TakesFact, AddsTexts, MayAddTexts, SameCells, cell_at, count_in, IsNewLattice};
+ghost use Rattle.cube_cells.specs.Gathered.{AreCodesOfFact, OnlyAddsTexts};
 
 mod base_cuboid;
 mod bottom_up;
@@ -207,9 +208,30 @@ impl<N: Numbers> Cube<N> {
             ((facts : List Fact) → IsCubeOf self.old facts → IsCubeOf self.new (fact.now ∷ facts)) }
         ensures schema { self.new.schema ≡ self.old.schema }
     {
-        let codes = add_codes(self.alloc, &mut self.dictionaries, fact)?;
+        let codes = self.code_fact(fact)?;
+        self.count_coded(fact, &codes)
+    }
+
+    // Gives each text of a fact a code, and answers the codes of its values; the cells stay.
+    fn code_fact(&mut self, fact: &Fact) -> Result<Codes, AllocError>
+        requires fits { fits self.old.schema fact.now ≡ true }
+        ensures same { OnlyAddsTexts self.old self.new }
+        ensures codes { IfOk result (AreCodesOfFact self.new.dictionaries fact.now) }
+    {
+        add_codes(self.alloc, &mut self.dictionaries, fact)
+    }
+
+    // Adds a fact by the codes of its values, as `gather` does.
+    fn count_coded(&mut self, fact: &Fact, codes: &Codes) -> Result<(), AllocError>
+        requires fits { fits self.old.schema fact.now ≡ true }
+        requires room { self.old.facts + 1 < 2 ^ 64 }
+        requires codes { AreCodesOfFact self.old.dictionaries fact.now codes.now }
+        ensures added { OnOk result (AddsFact fact.now self.old self.new) }
+        ensures texts { OnOk result (self.new.dictionaries ≡ self.old.dictionaries) }
+        ensures schema { self.new.schema ≡ self.old.schema }
+    {
         let values = fact.measures.as_slice();
-        let Ok(()) = gather_in_sets(self.alloc, &mut self.levels, &codes, values) else {
+        let Ok(()) = gather_in_sets(self.alloc, &mut self.levels, codes, values) else {
             self.sets = Vec::new(self.alloc);
             self.levels = Vec::new(self.alloc);
             self.facts = 0;

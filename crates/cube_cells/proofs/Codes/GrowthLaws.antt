@@ -30,7 +30,7 @@ use Rattle.cube_cells.specs.Tally.{Tally}
 use Rattle.cube_cells.specs.Walk.{key_in, codes_in, weight_of_cells}
 use Rattle.cube_cells.specs.declared.cube.codes.Codes.{Codes}
 use Rattle.cube_cells.proofs.Codes.DictionaryLaws.{is_code-cases, coord_at-place, is_code-place}
-use Rattle.cube_cells.proofs.Codes.KeyLaws.{HasFactCodes, coords_at-AreCodesOf, HasCodes-covering_key}
+use Rattle.cube_cells.proofs.Codes.KeyLaws.{HasFactCodes, coord-IsCodeOf, coords_at-AreCodesOf, HasCodes-covering_key}
 use Rattle.cube_cells.proofs.Cells.WalkLaws.{same_codes-exact}
 
 -- ---- dictionaries that grow
@@ -108,6 +108,25 @@ are_codes-AreGrown (t ∷ old) (u ∷ new) (x ∷ codes) grown all valid =
     let head : coord_at u x ≡ coord_at t x = first.1 in
     let tail : coords_at new codes ≡ coords_at old codes = rest.1 in
     (and_from (is_code u x) (are_codes new codes) first.0 rest.0, cc)
+
+-- codes of coordinates stay theirs
+pub AreCodesOf-AreGrown : (old new : Dictionaries) (coords : List Coord) (codes : List ℕ) → AreGrown old new
+    → All IsDictionary new → are_codes old codes ≡ true → AreCodesOf old coords codes → AreCodesOf new coords codes
+AreCodesOf-AreGrown [] [] [] codes grown all valid are = are
+AreCodesOf-AreGrown [] [] (c ∷ coords) codes grown all valid are = absurd are
+AreCodesOf-AreGrown [] (u ∷ new) coords codes grown all valid are = absurd grown
+AreCodesOf-AreGrown (t ∷ old) [] coords codes grown all valid are = absurd grown
+AreCodesOf-AreGrown (t ∷ old) (u ∷ new) [] codes grown all valid are = absurd are
+AreCodesOf-AreGrown (t ∷ old) (u ∷ new) (c ∷ coords) [] grown all valid are = absurd are
+AreCodesOf-AreGrown (t ∷ old) (u ∷ new) (c ∷ coords) (x ∷ codes) grown all valid are =
+    let parts = and_parts (is_code t x) (are_codes old codes) valid in
+    let dictionary = All-head IsDictionary u new all in
+    let first = is_code-append t grown.0.0 u x grown.0.1 dictionary parts.0 in
+    let found = coord-IsCodeOf u c dictionary in
+    let same : x ≡ found.0 = (found.1.alone x first.0).0 (first.1 ∙ (are.0.alone x parts.0).1 refl) in (
+      subst (IsCodeOf u c) (sym same) found.1,
+      AreCodesOf-AreGrown old new coords codes grown.1 (All-tail IsDictionary u new all) parts.1 are.1,
+    )
 
 -- the cells stay the same cells
 pub IsCodedCell-AreGrown : (old new : Dictionaries) (measures : ℕ) (cells : CodedCells) → AreGrown old new

@@ -80,7 +80,7 @@ coords_at-AreCodesOf (texts ∷ dictionaries) (c ∷ coords) (x ∷ codes) are v
     cc
 
 -- each coordinate has a code
-coord-IsCodeOf : (texts : List (List ℕ)) (c : Coord) → IsDictionary texts → (code : ℕ) × IsCodeOf texts c code
+pub coord-IsCodeOf : (texts : List (List ℕ)) (c : Coord) → IsDictionary texts → (code : ℕ) × IsCodeOf texts c code
 coord-IsCodeOf texts coord.All is = (all_code, code_of_all texts is)
 coord-IsCodeOf texts coord.Null is = (null_code, code_of_null texts is)
 coord-IsCodeOf texts (coord.Text text) is = elim (StandsAt-position_or_len text texts) [

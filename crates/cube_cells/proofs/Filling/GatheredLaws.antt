@@ -1,16 +1,25 @@
 -- Laws of cubes that facts are gathered into, one after another or each half by itself.
-use Rattle.std.proofs.Common.{◌≡◌, ◌+◌, ◌∷◌, ◌++◌, ◌∙◌, List, [], arith, length, true}
-use Rattle.std.specs.Prelude.{All, Err, IfOk, Ok, Result}
-use Rattle.std.proofs.lemmas.List.{length-append}
-use Rattle.std.proofs.lemmas.List.Elements.{All-append, All-cons, All-head, All-nil, All-tail}
+use Rattle.std.proofs.Common.{◌≡◌, ◌+◌, ◌-◌, ◌<◌, ◌≤◌, ◌∷◌, ◌++◌, ◌∙◌, Bor, List, [], ℕ, zero, suc, true}
+use Rattle.std.proofs.Common.{ap, append_assoc, arith, drop, get_or, length, map, refl, subst, sym, take}
+use Rattle.std.specs.List.{AllZip}
+use Rattle.std.specs.Prelude.{All, Err, IfOk, Ok, Result, slice_range}
+use Rattle.std.proofs.lemmas.List.{append-nil, drop-map, drop-take, drop_at, get_or-map, length-append, length-map}
+use Rattle.std.proofs.lemmas.List.{take-append-drop, take-map, take-take, take_at, take_more}
+use Rattle.std.proofs.lemmas.List.Elements.{All-append, All-cons, All-drop, All-get_or, All-nil, All-take}
 use Rattle.std.proofs.lemmas.List.Sorted.{IsPermutation-append_comm}
 use Rattle.cube_core.specs.Layout.{Layout}
 use Rattle.cube_core.specs.Takes.{fits}
 use Rattle.cube_core.specs.declared.fact.Fact.{Fact}
-use Rattle.cube_cells.specs.Cube.{Lattice, IsCubeOf, IsNewLattice, SameSets}
+use Rattle.cube_cells.specs.Codes.{Dictionaries, IsDictionary, coord_of_value}
+use Rattle.cube_cells.specs.Coded.{lattice_of}
+use Rattle.cube_cells.specs.Cube.{AddsFact, Lattice, IsCubeOf, IsNewLattice, SameSets}
 use Rattle.cube_cells.specs.Fill.{IsCubeOfAll, finest_set}
-use Rattle.cube_cells.specs.Gathered.{GathersMore, HasGathered}
-use Rattle.cube_cells.proofs.Cells.CubeLaws.{IsCubeOf-permutation}
+use Rattle.cube_cells.specs.Gathered.{AreCodesOfFact, GathersMore, HasGathered, OnlyAddsTexts}
+use Rattle.cube_cells.specs.Levels.{IsLeveled, cells_of}
+use Rattle.cube_cells.specs.declared.cube.codes.Codes.{Codes}
+use Rattle.cube_cells.specs.declared.cube.levels.Level.{Level}
+use Rattle.cube_cells.proofs.Cells.CubeLaws.{IsCubeOf-AddsFact, IsCubeOf-permutation}
+use Rattle.cube_cells.proofs.Codes.GrowthLaws.{AreCodesOf-AreGrown, AreGrown, IsCodedCell-AreGrown, are_codes-AreGrown}
 
 -- nothing was gathered
 pub HasGathered-none : (schema : Layout) (cube : Lattice)
@@ -33,24 +42,186 @@ moved facts others cube all fit more_fit = record {
 }
 
 -- one fact more
-pub HasGathered-more : (schema : Layout) (facts : List Fact) (fact : Fact) (old new : Lattice)
-    → HasGathered schema facts old → fits schema fact ≡ true → GathersMore fact old new
+HasGathered-AddsFact : (schema : Layout) (facts : List Fact) (fact : Fact) (old new : Lattice)
+    → HasGathered schema facts old → fits schema fact ≡ true → AddsFact fact old new
     → HasGathered schema (facts ++ fact ∷ []) new
-HasGathered-more schema facts fact old new has fit more =
-    let same = more.adds.same.schema ∙ has.schema_is in
+HasGathered-AddsFact schema facts fact old new has fit adds =
+    let same = adds.same.schema ∙ has.schema_is in
     let one : All (λ other. fits new.schema other ≡ true) (fact ∷ []) =
     rw same (All-cons (λ other. fits schema other ≡ true) fact [] fit (All-nil (λ other. fits schema other ≡ true))) in
     let before : All (λ other. fits new.schema other ≡ true) facts = rw same (rw has.schema_is at has.all.fit) in
     record {
       schema_is = same;
-      sets_are = more.adds.same.sets ∙ has.sets_are;
+      sets_are = adds.same.sets ∙ has.sets_are;
       all = moved facts (fact ∷ []) new (record {
         fit = All-append (λ other. fits new.schema other ≡ true) (fact ∷ []) facts one before;
-        cells = more.cube facts has.all.cells;
-        facts_are = omega (arith, more.adds.facts, has.all.facts_are, length-append (fact ∷ []) facts);
+        cells = IsCubeOf-AddsFact fact old new facts (rw has.schema_is fit) adds has.all.cells;
+        facts_are = omega (arith, adds.facts, has.all.facts_are, length-append (fact ∷ []) facts);
       }) before one;
     }
 
+-- no fact more, one more, and the facts of two lists
+pub GathersMore-none : (cube : Lattice) → GathersMore [] cube cube
+GathersMore-none cube = record { gathers = λ schema before has. rw append-nil has }
+
+pub GathersMore-AddsFact : (facts : List Fact) (fact : Fact) (old middle new : Lattice) → GathersMore facts old middle
+    → fits middle.schema fact ≡ true → AddsFact fact middle new → GathersMore (facts ++ fact ∷ []) old new
+GathersMore-AddsFact facts fact old middle new more fit adds = record {
+  gathers = λ schema before has.
+      let mine = more.gathers schema before has in
+      rw (← append_assoc before facts (fact ∷ []))
+      (HasGathered-AddsFact schema (before ++ facts) fact middle new mine (rw mine.schema_is at fit) adds);
+}
+
+-- ---- texts alone
+-- where dictionaries have grown, the cells are those of before, and codes of a fact are its codes
+pub AreCodesOfFact-AreGrown : (old new : Dictionaries) (fact : Fact) (codes : Codes) → AreGrown old new
+    → All IsDictionary new → AreCodesOfFact old fact codes → AreCodesOfFact new fact codes
+AreCodesOfFact-AreGrown old new fact codes grown all of = record {
+  are = AreCodesOf-AreGrown old new (map coord_of_value fact.dims) codes.codes grown all of.valid of.are;
+  eight = of.eight;
+  valid = (are_codes-AreGrown old new codes.codes grown all of.valid).0;
+}
+
+pub OnlyAddsTexts-AreGrown : {N : Type 0} → {schema : Layout} {sets : List ℕ} {facts : ℕ} {old : Dictionaries}
+    {levels : List (Level N)} (new : Dictionaries) → IsLeveled schema sets facts old levels → AreGrown old new
+    → All IsDictionary new → OnlyAddsTexts (lattice_of schema sets facts old (cells_of levels))
+    (lattice_of schema sets facts new (cells_of levels))
+OnlyAddsTexts-AreGrown {schema = schema} {old = old} {levels = levels} new is grown all = record {
+  same = record { schema = refl; sets = refl };
+  facts = refl;
+  cells =
+      (IsCodedCell-AreGrown old new (length schema.measures) (cells_of levels) grown all is.coded.each).1;
+  codes_stay = λ fact codes. AreCodesOfFact-AreGrown old new fact codes grown all;
+}
+
+pub OnlyAddsTexts-refl : (cube : Lattice) → OnlyAddsTexts cube cube
+OnlyAddsTexts-refl cube = record {
+  same = record { schema = refl; sets = refl };
+  facts = refl;
+  cells = refl;
+  codes_stay = λ fact codes of. of;
+}
+
+pub OnlyAddsTexts-trans : (old middle new : Lattice) → OnlyAddsTexts old middle → OnlyAddsTexts middle new
+    → OnlyAddsTexts old new
+OnlyAddsTexts-trans old middle new first second = record {
+  same = record { schema = second.same.schema ∙ first.same.schema; sets = second.same.sets ∙ first.same.sets };
+  facts = second.facts ∙ first.facts;
+  cells = second.cells ∙ first.cells;
+  codes_stay = λ fact codes of. second.codes_stay fact codes (first.codes_stay fact codes of);
+}
+
+-- a fact added after texts is added
+pub AddsFact-OnlyAddsTexts : (fact : Fact) (old middle new : Lattice) → OnlyAddsTexts old middle
+    → AddsFact fact middle new → AddsFact fact old new
+AddsFact-OnlyAddsTexts fact old middle new only adds = record {
+  same = record { schema = adds.same.schema ∙ only.same.schema; sets = adds.same.sets ∙ only.same.sets };
+  facts = omega (arith, adds.facts, only.facts);
+  covering = λ key kept. rw (← only.cells) (adds.covering key (rw only.same.sets kept));
+  others = λ key unkept. rw (← only.cells) (adds.others key (rw only.same.sets unkept));
+}
+
+-- codes of facts stay theirs
+pub AllZip-codes_stay : (old new : Lattice) (facts : List Fact) (codes : List Codes) → OnlyAddsTexts old new
+    → AllZip (AreCodesOfFact old.dictionaries) facts codes → AllZip (AreCodesOfFact new.dictionaries) facts codes
+AllZip-codes_stay old new [] [] only are = tt
+AllZip-codes_stay old new [] (x ∷ codes) only are = absurd are
+AllZip-codes_stay old new (fact ∷ facts) [] only are = absurd are
+AllZip-codes_stay old new (fact ∷ facts) (x ∷ codes) only are =
+    (only.codes_stay fact x are.0, AllZip-codes_stay old new facts codes only are.1)
+
+-- what is gathered after texts were added is gathered
+HasGathered-OnlyAddsTexts : (schema : Layout) (facts : List Fact) (old new : Lattice) → OnlyAddsTexts old new
+    → HasGathered schema facts old → HasGathered schema facts new
+HasGathered-OnlyAddsTexts schema facts old new only has = record {
+  schema_is = only.same.schema ∙ has.schema_is;
+  sets_are = only.same.sets ∙ has.sets_are;
+  all = record {
+    fit = rw only.same.schema has.all.fit;
+    cells = record {
+      keys = λ key. rw (only.cells, only.same.sets, only.same.schema) (has.all.cells.keys key);
+      tallies = λ key. rw only.cells (has.all.cells.tallies key);
+      widths = λ key. rw (only.cells, only.same.schema) (has.all.cells.widths key);
+    };
+    facts_are = only.facts ∙ has.all.facts_are;
+  };
+}
+
+pub GathersMore-OnlyAddsTexts : (facts : List Fact) (old middle new : Lattice) → OnlyAddsTexts old middle
+    → GathersMore facts middle new → GathersMore facts old new
+GathersMore-OnlyAddsTexts facts old middle new only more = record {
+  gathers = λ schema before has.
+      more.gathers schema before (HasGathered-OnlyAddsTexts schema before old middle only has);
+}
+
+-- ---- facts at their places
+AllZip-place : (R : Fact → Codes → Type 0) (facts : List Fact) (codes : List Codes) (i : ℕ) (fact : Fact)
+    (unused : Codes) → AllZip R facts codes → i < length facts → R (get_or facts i fact) (get_or codes i unused)
+AllZip-place R [] codes i fact unused all inside = absurd (omega (arith, inside))
+AllZip-place R (f ∷ facts) [] i fact unused all inside = absurd all
+AllZip-place R (f ∷ facts) (x ∷ codes) zero fact unused all inside = all.0
+AllZip-place R (f ∷ facts) (x ∷ codes) (suc i) fact unused all inside =
+    AllZip-place R facts codes i fact unused all.1 (omega (arith, inside))
+
+module _ (refs : List (Bor Fact)) (i : ℕ) (fact : Bor Fact) (inside : i < length refs)
+    (is : fact ≡ get_or refs i fact) where
+  fact_at : get_or (map (λ r. r.now) refs) i fact.now ≡ fact.now
+  fact_at = get_or-map (λ r. r.now) refs i fact fact.now inside ∙ ap (λ (r : Bor Fact). r.now) (sym is)
+
+  within : i < length (map (λ r. r.now) refs)
+  within = omega (arith, inside, length-map refs (λ (r : Bor Fact). r.now))
+
+  -- what is true of each fact is true of this one
+  pub All-fact : (P : Fact → Type 0) → All P (map (λ r. r.now) refs) → P fact.now
+  All-fact P all = subst P fact_at (All-get_or P (map (λ r. r.now) refs) i fact.now within all)
+
+  -- so is what is true of each and its codes
+  pub AllZip-fact : (R : Fact → Codes → Type 0) (codes : List Codes) (unused : Codes)
+      → AllZip R (map (λ r. r.now) refs) codes → R fact.now (get_or codes i unused)
+  AllZip-fact R codes unused all = subst (λ (f : Fact). R f (get_or codes i unused)) fact_at
+      (AllZip-place R (map (λ r. r.now) refs) codes i fact.now unused all within)
+
+  -- it comes next
+  pub take_fact : take (i + 1) (map (λ r. r.now) refs) ≡ take i (map (λ r. r.now) refs) ++ fact.now ∷ []
+  take_fact = take_more (map (λ r. r.now) refs) i fact.now within
+      ∙ ap (λ (f : Fact). take i (map (λ r. r.now) refs) ++ f ∷ []) fact_at
+
+-- ---- lots of facts
+-- the facts of a range of references
+facts_of_range : (refs : List (Bor Fact)) (start end : ℕ)
+    → map (λ r. r.now) (slice_range refs start end) ≡ take (end - start) (drop start (map (λ r. r.now) refs))
+facts_of_range refs start end =
+    sym (take-map {Y = Fact} (λ (r : Bor Fact). r.now) (end - start) (drop start refs))
+    ∙ ap (λ (facts : List Fact). take (end - start) facts)
+    (sym (drop-map {Y = Fact} (λ (r : Bor Fact). r.now) start refs))
+
+pub All-range : (P : Fact → Type 0) (refs : List (Bor Fact)) (start end : ℕ) → All P (map (λ r. r.now) refs)
+    → All P (map (λ r. r.now) (slice_range refs start end))
+All-range P refs start end all = rw (facts_of_range refs start end)
+    (All-take P (end - start) (drop start (map (λ r. r.now) refs)) (All-drop P start (map (λ r. r.now) refs) all))
+
+-- they come next
+take_range : (facts : List Fact) (start more : ℕ)
+    → take (start + more) facts ≡ take start facts ++ take more (drop start facts)
+take_range facts start more = sym (take-append-drop start (take (start + more) facts))
+    ∙ ap (λ (front : List Fact). front ++ drop start (take (start + more) facts))
+    (take-take start (start + more) facts (omega arith))
+    ∙ ap (λ (back : List Fact). take start facts ++ back) (drop-take start more facts)
+
+pub HasGathered-range : (schema : Layout) (refs : List (Bor Fact)) (start end : ℕ) (old new : Lattice) → start ≤ end
+    → HasGathered schema (take start (map (λ r. r.now) refs)) old
+    → GathersMore (map (λ r. r.now) (slice_range refs start end)) old new
+    → HasGathered schema (take end (map (λ r. r.now) refs)) new
+HasGathered-range schema refs start end old new order has more =
+    let facts : List Fact = map (λ r. r.now) refs in
+    let last : start + (end - start) ≡ end = omega (arith, order) in
+    let all : take end facts ≡ take start facts ++ map (λ r. r.now) (slice_range refs start end) =
+    ap (λ (n : ℕ). take n facts) (sym last) ∙ take_range facts start (end - start)
+    ∙ ap (λ (lot : List Fact). take start facts ++ lot) (sym (facts_of_range refs start end)) in
+    rw all (more.gathers schema (take start facts) has)
+
+-- ---- two cubes
 -- the facts of two cubes
 pub HasGathered-both : (schema : Layout) (facts others : List Fact) (first second whole : Lattice)
     → HasGathered schema facts first → HasGathered schema others second → SameSets first whole
@@ -78,10 +249,9 @@ HasGathered-merged schema facts others first second (Err fault) of of_more same 
 
 -- what is true of all facts is true of those of both halves
 pub All-low : (P : Fact → Type 0) (low high : List Fact) → All P (low ++ high) → All P low
-All-low P [] high all = All-nil P
-All-low P (fact ∷ low) high all =
-    All-cons P fact low (All-head P fact (low ++ high) all) (All-low P low high (All-tail P fact (low ++ high) all))
+All-low P low high all =
+    subst (All P) (take_at low high (length low) refl) (All-take P (length low) (low ++ high) all)
 
 pub All-high : (P : Fact → Type 0) (low high : List Fact) → All P (low ++ high) → All P high
-All-high P [] high all = all
-All-high P (fact ∷ low) high all = All-high P low high (All-tail P fact (low ++ high) all)
+All-high P low high all =
+    subst (All P) (drop_at low high (length low) refl) (All-drop P (length low) (low ++ high) all)

@@ -1,16 +1,22 @@
 //! The finest cells of many facts at once: each thread gathers a part of the facts, and what the parts have is merged.
 ghost use Rattle.std.specs.Prelude.{◌≡◌, ◌<◌, ◌∷◌, ◌++◌, [], true, length, map, All, IfOk, OnOk};
+ghost use Rattle.std.specs.List.{AllZip};
 ghost use Rattle.std.specs.Thread.{IsSend, IsSync};
 ghost use Rattle.cube_core.specs.Takes.{fits};
 ghost use Rattle.cube_cells.specs.Fill.{IsCubeOfAll, finest_set};
-ghost use Rattle.cube_cells.specs.Gathered.{GathersMore, HasGathered};
+ghost use Rattle.cube_cells.specs.Gathered.{AreCodesOfFact, GathersMore, HasGathered, OnlyAddsTexts};
 
 use super::Cube;
+use super::codes::Codes;
 use super::sorting::FEW;
 use cube_core::{Fact, Schema};
 use cube_values::Numbers;
 use std::alloc::{AllocError, Global};
 use std::thread::{Threads, join};
+
+// How many facts are gathered at once. So many facts and codes lie in the first cache, and the loop that counts them
+// is short, so that the processor waits for several cells at a time.
+const AT_ONCE: usize = 256;
 
 impl<N: Numbers + Send + Sync> Cube<N> {
     /// The cube of these facts over the finest grouping set alone, with the same schema, made by about as many threads as
@@ -85,7 +91,7 @@ fn gathered_in_halves<T: Threads + Sync, N: Numbers + Send + Sync>(
     first.merged(second)
 }
 
-// The cube of facts over the finest grouping set, into which one after another is gathered.
+// The cube of facts over the finest grouping set, into which one lot after another is gathered.
 fn gathered<N: Numbers>(
     alloc: Global,
     schema: &Schema,
@@ -95,19 +101,63 @@ fn gathered<N: Numbers>(
     ensures { IfOk result (HasGathered schema.now (map (λ fact. fact.now) facts.now)) }
 {
     let mut cube = Cube::finest_over(alloc, schema)?;
-    for fact in facts {
-        gather_one(&mut cube, *fact)?;
+    let mut codes = Vec::new(alloc);
+    let mut done = 0;
+    while done < facts.len() {
+        let end = done + (facts.len() - done).min(AT_ONCE);
+        gather_lot(&mut cube, &facts[done..end], &mut codes)?;
+        done = end;
     }
     Ok(cube)
 }
 
-// Gathers a fact, unless it couldn't be counted.
-fn gather_one<N: Numbers>(cube: &mut Cube<N>, fact: &Fact) -> Result<(), AllocError>
-    requires { fits cube.old.schema fact.now ≡ true }
-    ensures { OnOk result (GathersMore fact.now cube.old cube.new) }
+// Gathers a lot of facts: first it finds the codes of all, and then it counts them.
+fn gather_lot<N: Numbers>(
+    cube: &mut Cube<N>,
+    facts: &[&Fact],
+    codes: &mut Vec<Codes>,
+) -> Result<(), AllocError>
+    requires { All (λ fact. fits cube.old.schema fact ≡ true) (map (λ fact. fact.now) facts.now) }
+    ensures { OnOk result (GathersMore (map (λ fact. fact.now) facts.now) cube.old cube.new) }
 {
-    if cube.facts == u64::MAX {
-        return Err(AllocError);
+    codes.clear();
+    code_all(cube, facts, codes)?;
+    count_all(cube, facts, codes)
+}
+
+// Puts the codes of the values of each fact into a list that has none.
+fn code_all<N: Numbers>(
+    cube: &mut Cube<N>,
+    facts: &[&Fact],
+    codes: &mut Vec<Codes>,
+) -> Result<(), AllocError>
+    requires fit { All (λ fact. fits cube.old.schema fact ≡ true) (map (λ fact. fact.now) facts.now) }
+    requires none { codes.old.items ≡ [] }
+    ensures same { OnOk result (OnlyAddsTexts cube.old cube.new) }
+    ensures codes { OnOk result
+        (AllZip (AreCodesOfFact cube.new.dictionaries) (map (λ fact. fact.now) facts.now) codes.new.items) }
+{
+    for fact in facts {
+        codes.push(cube.code_fact(*fact)?)?;
     }
-    cube.gather(fact)
+    Ok(())
+}
+
+// Adds each fact by its codes, unless it couldn't be counted.
+fn count_all<N: Numbers>(
+    cube: &mut Cube<N>,
+    facts: &[&Fact],
+    codes: &[Codes],
+) -> Result<(), AllocError>
+    requires fit { All (λ fact. fits cube.old.schema fact ≡ true) (map (λ fact. fact.now) facts.now) }
+    requires codes { AllZip (AreCodesOfFact cube.old.dictionaries) (map (λ fact. fact.now) facts.now) codes.now }
+    ensures { OnOk result (GathersMore (map (λ fact. fact.now) facts.now) cube.old cube.new) }
+{
+    for place in 0..facts.len() {
+        if cube.facts == u64::MAX {
+            return Err(AllocError);
+        }
+        cube.count_coded(facts[place], &codes[place])?;
+    }
+    Ok(())
 }

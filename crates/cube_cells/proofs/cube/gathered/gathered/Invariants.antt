@@ -1,6 +1,12 @@
-use Rattle.std.proofs.Common.{take, map}
+use Rattle.std.proofs.Common.{take, map, length, ◌≤◌, ◌-◌}
 use Rattle.cube_cells.specs.Gathered.{HasGathered}
 use Rattle.cube_cells.proofs.cube.gathered.gathered.Given as goal
 
-abbrev pub invariant-loop-fact : goal.invariant-loop-fact
-invariant-loop-fact g l = HasGathered l.schema (take l.fact-index (map (λ fact. fact.now) l.facts)) l.cube
+abbrev pub invariant-loop-done : goal.invariant-loop-done
+invariant-loop-done g l = record {
+  within : l.done ≤ length l.facts;
+  has : HasGathered l.schema (take l.done (map (λ fact. fact.now) l.facts)) l.cube;
+}
+
+abbrev pub decreases-loop-done : goal.decreases-loop-done
+decreases-loop-done g l = length l.facts - l.done
