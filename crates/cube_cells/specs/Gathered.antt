@@ -1,5 +1,6 @@
 -- Facts that are gathered into a cube over the finest grouping set alone (this project's choice).
-use Rattle.std.specs.Prelude.{◌≡◌, ◌++◌, List, [], ◌∷◌, length, map, true}
+use Rattle.std.specs.Prelude.{◌≡◌, ◌==◌, ◌+◌, ◌-◌, ◌<◌, ◌%◌, ◌++◌, ℕ, List, [], ◌∷◌, filter, get_or, length, map}
+use Rattle.std.specs.Prelude.{sum_by, true, Option, Some, None}
 use Rattle.cube_core.specs.Layout.{Layout}
 use Rattle.cube_core.specs.declared.fact.Fact.{Fact}
 use Rattle.cube_cells.specs.Codes.{Dictionaries, AreCodesOf, are_codes, coord_of_value}
@@ -31,3 +32,22 @@ pub record OnlyAddsTexts (old new : Lattice) : Type 0 where
   pub cells : new.cells ≡ old.cells
   pub codes_stay : (fact : Fact) (codes : Codes) → AreCodesOfFact old.dictionaries fact codes
       → AreCodesOfFact new.dictionaries fact codes
+
+-- the first byte of a text and its last, added; 0 of the empty text and of null
+abbrev pub end_bytes_of : Option (List ℕ) → ℕ
+end_bytes_of None = 0
+end_bytes_of (Some text) = get_or text 0 0 + get_or text (length text - 1) 0
+
+-- the share of a fact, of so many: the sum of the end bytes of its values, modulo their number
+abbrev pub share_of_fact : ℕ → Fact → ℕ
+share_of_fact shares fact = sum_by end_bytes_of fact.dims % shares
+
+-- a cube has the facts of a share, of so many
+abbrev pub HasGatheredShare : Layout → List Fact → ℕ → ℕ → Lattice → Type 0
+HasGatheredShare schema facts shares share cube =
+    HasGathered schema (filter (λ fact. share_of_fact shares fact == share) facts) cube
+
+-- these cubes have the facts of the shares, each those of its place
+pub record AreShares (schema : Layout) (facts : List Fact) (cubes : List Lattice) : Type 0 where
+  pub each : (i : ℕ) (unused : Lattice) → i < length cubes
+      → HasGatheredShare schema facts (length cubes) i (get_or cubes i unused)

@@ -145,6 +145,7 @@ impl Ledger {
     }
 
     /// Takes an item of a feed as [`Ledger::apply`] does, without a look at its texts, which are lawful.
+    #[inline(always)]
     pub fn apply_fed(&mut self, source: u32, item: FeedItem) -> Result<(), AllocError>
         requires first { 1 ≤ source }
         requires last { source ≤ length self.old.accounts }
@@ -212,6 +213,7 @@ impl Ledger {
     }
 
     // What an item does to the account of its source, where it was seen whether the schema takes its change.
+    #[inline(always)]
     fn enter(&mut self, source: u32, item: Item, is_taken: bool) -> Result<(), AllocError>
         requires first { 1 ≤ source }
         requires last { source ≤ length self.old.accounts }
@@ -229,6 +231,7 @@ impl Ledger {
         self.enter_taken(source, item)
     }
 
+    #[inline(always)]
     fn enter_taken(&mut self, source: u32, item: Item) -> Result<(), AllocError>
         requires first { 1 ≤ source }
         requires last { source ≤ length self.old.accounts }

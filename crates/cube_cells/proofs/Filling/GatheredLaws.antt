@@ -1,24 +1,35 @@
--- Laws of cubes that facts are gathered into, one after another or each half by itself.
-use Rattle.std.proofs.Common.{◌≡◌, ◌+◌, ◌-◌, ◌<◌, ◌≤◌, ◌∷◌, ◌++◌, ◌∙◌, Bor, List, [], ℕ, zero, suc, true}
-use Rattle.std.proofs.Common.{ap, append_assoc, arith, drop, get_or, length, map, refl, subst, sym, take}
+-- Laws of cubes that facts are gathered into, one after another or share by share.
+use Rattle.std.proofs.Common.{◌≡◌, ◌==◌, ◌+◌, ◌-◌, ◌<◌, ◌≤◌, ◌∷◌, ◌++◌, ◌∙◌, Bool, Bor, List, [], ℕ, zero, suc, true, false}
+use Rattle.std.proofs.Common.{ap, append_assoc, arith, drop, filter, get_or, inl, inr, length, map, nat_lt, refl, subst, sym, take}
 use Rattle.std.specs.List.{AllZip}
-use Rattle.std.specs.Prelude.{All, Err, IfOk, Ok, Result, slice_range}
-use Rattle.std.proofs.lemmas.List.{append-nil, drop-map, drop-take, drop_at, get_or-map, length-append, length-map}
-use Rattle.std.proofs.lemmas.List.{take-append-drop, take-map, take-take, take_at, take_more}
-use Rattle.std.proofs.lemmas.List.Elements.{All-append, All-cons, All-drop, All-get_or, All-nil, All-take}
-use Rattle.std.proofs.lemmas.List.Sorted.{IsPermutation-append_comm}
+use Rattle.std.specs.declared.alloc.AllocError.{AllocError}
+use Rattle.std.specs.List.Sorted.{IsPermutation}
+use Rattle.std.specs.Prelude.{All, Err, IfOk, Ok, Result, slice_range, sum_by}
+use Rattle.std.proofs.Math.Nat.{mod-lt}
+use Rattle.std.proofs.lemmas.Bool.{cases_Bool, cases_order, eq-eqb, le-ltb, lt-ltb, ltb-false, ltb-true, ne_eqb}
+use Rattle.std.proofs.lemmas.List.{append-nil, drop-map, drop-take, get_or-map, length-append, length-map}
+use Rattle.std.proofs.lemmas.List.{take-append-drop, take-map, take-take, take_more}
+use Rattle.std.proofs.lemmas.List.Elements.{All-append, All-cons, All-drop, All-get_or, All-nil, All-take, All-weaker}
+use Rattle.std.proofs.lemmas.List.Elements.{filter-append}
+use Rattle.std.proofs.lemmas.List.Sorted.{All-permutation, IsPermutation-append_comm, IsPermutation-cons}
+use Rattle.std.proofs.lemmas.List.Sorted.{IsPermutation-middle, IsPermutation-refl, IsPermutation-trans}
+use Rattle.std.proofs.lemmas.List.Sorted.{length_permutation}
+use Rattle.cube_core.proofs.CellKeyLaws.{fits-length}
+use Rattle.cube_core.proofs.ListLaws.{filter-failed, filter-passed}
 use Rattle.cube_core.specs.Layout.{Layout}
 use Rattle.cube_core.specs.Takes.{fits}
 use Rattle.cube_core.specs.declared.fact.Fact.{Fact}
 use Rattle.cube_cells.specs.Codes.{Dictionaries, IsDictionary, coord_of_value}
 use Rattle.cube_cells.specs.Coded.{lattice_of}
 use Rattle.cube_cells.specs.Cube.{AddsFact, Lattice, IsCubeOf, IsNewLattice, SameSets}
-use Rattle.cube_cells.specs.Fill.{IsCubeOfAll, finest_set}
-use Rattle.cube_cells.specs.Gathered.{AreCodesOfFact, GathersMore, HasGathered, OnlyAddsTexts}
+use Rattle.cube_cells.specs.Fill.{AreMade, IsCubeOfAll, finest_set}
+use Rattle.cube_cells.specs.Gathered.{AreCodesOfFact, AreShares, GathersMore, HasGathered, HasGatheredShare}
+use Rattle.cube_cells.specs.Gathered.{OnlyAddsTexts, end_bytes_of, share_of_fact}
 use Rattle.cube_cells.specs.Levels.{IsLeveled, cells_of}
 use Rattle.cube_cells.specs.declared.cube.codes.Codes.{Codes}
 use Rattle.cube_cells.specs.declared.cube.levels.Level.{Level}
 use Rattle.cube_cells.proofs.Cells.CubeLaws.{IsCubeOf-AddsFact, IsCubeOf-permutation}
+use Rattle.cube_cells.proofs.Filling.RangeLaws.{made_each}
 use Rattle.cube_cells.proofs.Codes.GrowthLaws.{AreCodesOf-AreGrown, AreGrown, IsCodedCell-AreGrown, are_codes-AreGrown}
 
 -- nothing was gathered
@@ -209,17 +220,18 @@ take_range facts start more = sym (take-append-drop start (take (start + more) f
     (take-take start (start + more) facts (omega arith))
     ∙ ap (λ (back : List Fact). take start facts ++ back) (drop-take start more facts)
 
-pub HasGathered-range : (schema : Layout) (refs : List (Bor Fact)) (start end : ℕ) (old new : Lattice) → start ≤ end
-    → HasGathered schema (take start (map (λ r. r.now) refs)) old
-    → GathersMore (map (λ r. r.now) (slice_range refs start end)) old new
-    → HasGathered schema (take end (map (λ r. r.now) refs)) new
-HasGathered-range schema refs start end old new order has more =
+pub HasGathered-range : (schema : Layout) (p : Fact → Bool) (refs : List (Bor Fact)) (start end : ℕ)
+    (old new : Lattice) → start ≤ end → HasGathered schema (filter p (take start (map (λ r. r.now) refs))) old
+    → GathersMore (filter p (map (λ r. r.now) (slice_range refs start end))) old new
+    → HasGathered schema (filter p (take end (map (λ r. r.now) refs))) new
+HasGathered-range schema p refs start end old new order has more =
     let facts : List Fact = map (λ r. r.now) refs in
     let last : start + (end - start) ≡ end = omega (arith, order) in
     let all : take end facts ≡ take start facts ++ map (λ r. r.now) (slice_range refs start end) =
     ap (λ (n : ℕ). take n facts) (sym last) ∙ take_range facts start (end - start)
     ∙ ap (λ (lot : List Fact). take start facts ++ lot) (sym (facts_of_range refs start end)) in
-    rw all (more.gathers schema (take start facts) has)
+    rw (ap (filter p) all ∙ filter-append p (take start facts) (map (λ r. r.now) (slice_range refs start end)))
+    (more.gathers schema (filter p (take start facts)) has)
 
 -- ---- two cubes
 -- the facts of two cubes
@@ -237,21 +249,110 @@ HasGathered-both schema facts others first second whole of of_more same all =
     }
 
 -- the same, where the two were merged
-pub HasGathered-merged : {E : Type 0} (schema : Layout) (facts others : List Fact) (first second : Lattice)
-    (merged : Result Lattice E) → HasGathered schema facts first → HasGathered schema others second
+pub HasGathered-merged : {E : Type 0} (first second : Lattice) (merged : Result Lattice E)
     → IfOk merged (SameSets first)
     → IfOk merged (λ whole. (facts others : List Fact) → IsCubeOfAll facts first → IsCubeOfAll others second
     → IsCubeOfAll (others ++ facts) whole)
-    → IfOk merged (HasGathered schema (facts ++ others))
-HasGathered-merged schema facts others first second (Ok whole) of of_more same all =
+    → IfOk merged (λ whole. (schema : Layout) (facts others : List Fact) → HasGathered schema facts first
+    → HasGathered schema others second → HasGathered schema (facts ++ others) whole)
+HasGathered-merged first second (Ok whole) same all = λ schema facts others of of_more.
     HasGathered-both schema facts others first second whole of of_more same (all facts others of.all of_more.all)
-HasGathered-merged schema facts others first second (Err fault) of of_more same all = tt
+HasGathered-merged first second (Err fault) same all = tt
 
--- what is true of all facts is true of those of both halves
-pub All-low : (P : Fact → Type 0) (low high : List Fact) → All P (low ++ high) → All P low
-All-low P low high all =
-    subst (All P) (take_at low high (length low) refl) (All-take P (length low) (low ++ high) all)
+-- a cube with no fact
+pub HasGathered-no_facts : (schema : Layout) (facts others : List Fact) (first second : Lattice)
+    → first.facts ≡ 0 → HasGathered schema facts first → HasGathered schema others second
+    → HasGathered schema (facts ++ others) second
+HasGathered-no_facts schema [] others first second none of of_more = of_more
+HasGathered-no_facts schema (fact ∷ facts) others first second none of of_more =
+    absurd (omega (arith, none, of.all.facts_are))
 
-pub All-high : (P : Fact → Type 0) (low high : List Fact) → All P (low ++ high) → All P high
-All-high P low high all =
-    subst (All P) (drop_at low high (length low) refl) (All-drop P (length low) (low ++ high) all)
+-- ---- shares
+-- the facts in any order
+HasGathered-permutation : (schema : Layout) (facts others : List Fact) (cube : Lattice) → IsPermutation facts others
+    → HasGathered schema facts cube → HasGathered schema others cube
+HasGathered-permutation schema facts others cube order has = record {
+  schema_is = has.schema_is;
+  sets_are = has.sets_are;
+  all = record {
+    fit = All-permutation (λ fact. fits cube.schema fact ≡ true) facts others order has.all.fit;
+    cells = IsCubeOf-permutation cube facts others order has.all.cells;
+    facts_are = omega (arith, has.all.facts_are, length_permutation facts others order);
+  };
+}
+
+-- the facts of the first shares
+abbrev pub below : (Fact → ℕ) → ℕ → List Fact → List Fact
+below share k facts = filter (λ fact. nat_lt (share fact) k) facts
+
+-- those of none, of one more, and of all
+below_none : (share : Fact → ℕ) (facts : List Fact) → below share 0 facts ≡ []
+below_none share [] = refl
+below_none share (fact ∷ facts) =
+    filter-failed (λ f. nat_lt (share f) 0) fact facts (le-ltb (share fact) 0 (omega arith)) ∙ below_none share facts
+
+below_more : (share : Fact → ℕ) (k : ℕ) (facts : List Fact)
+    → IsPermutation (below share k facts ++ filter (λ fact. share fact == k) facts) (below share (k + 1) facts)
+below_more share k [] = IsPermutation-refl []
+below_more share k (fact ∷ facts) =
+    let rest = below_more share k facts in
+    elim (cases_order (share fact) k) [
+      | inl same ↦
+          let low : nat_lt (share fact) k ≡ false = le-ltb (share fact) k (omega (arith, same)) in
+          let next : nat_lt (share fact) (k + 1) ≡ true = lt-ltb (share fact) (k + 1) (omega (arith, same)) in
+          let here : (share fact == k) ≡ true = eq-eqb (share fact) k same in
+          rw (low, next, here) (IsPermutation-trans _ _ _
+          (IsPermutation-middle (below share k facts) fact (filter (λ f. share f == k) facts))
+          (IsPermutation-cons fact _ _ rest))
+      | inr other ↦
+          let here : (share fact == k) ≡ false = ne_eqb (share fact) k (λ same. absurd (omega (arith, other, same))) in
+          elim (cases_Bool (nat_lt (share fact) k)) [
+            | inl low ↦
+                let less : share fact < k = ltb-true (share fact) k low in
+                let next : nat_lt (share fact) (k + 1) ≡ true = lt-ltb (share fact) (k + 1) (omega (arith, less)) in
+                rw (low, next, here) (IsPermutation-cons fact _ _ rest)
+            | inr high ↦
+                let next : nat_lt (share fact) (k + 1) ≡ false = le-ltb (share fact) (k + 1)
+                (omega (arith, other, ltb-false (share fact) k high)) in
+                rw (high, next, here) rest
+          ]
+    ]
+
+below_all : (share : Fact → ℕ) (k : ℕ) (facts : List Fact) → ((fact : Fact) → share fact < k)
+    → below share k facts ≡ facts
+below_all share k [] less = refl
+below_all share k (fact ∷ facts) less =
+    filter-passed (λ f. nat_lt (share f) k) fact facts (lt-ltb (share fact) k (less fact))
+    ∙ ap (λ (rest : List Fact). fact ∷ rest) (below_all share k facts less)
+
+-- so are they gathered
+pub HasGathered-no_share : (schema : Layout) (facts : List Fact) (share : Fact → ℕ) (cube : Lattice)
+    → HasGathered schema [] cube → HasGathered schema (below share 0 facts) cube
+HasGathered-no_share schema facts share cube has = rw (below_none share facts) has
+
+pub HasGathered-share : (schema : Layout) (facts : List Fact) (share : Fact → ℕ) (k : ℕ) (cube : Lattice)
+    → HasGathered schema (below share k facts ++ filter (λ fact. share fact == k) facts) cube
+    → HasGathered schema (below share (k + 1) facts) cube
+HasGathered-share schema facts share k cube has = HasGathered-permutation schema
+    (below share k facts ++ filter (λ fact. share fact == k) facts) (below share (k + 1) facts) cube
+    (below_more share k facts) has
+
+pub HasGathered-all_shares : (schema : Layout) (facts : List Fact) (shares : ℕ) (cube : Lattice) → 0 < shares
+    → HasGathered schema (below (share_of_fact shares) shares facts) cube → HasGathered schema facts cube
+HasGathered-all_shares schema facts shares cube some has =
+    rw (below_all (share_of_fact shares) shares facts
+    (λ fact. mod-lt (sum_by end_bytes_of fact.dims) some)) at has
+
+-- the cubes of all shares, where each was made
+pub AreShares-made : (schema : Layout) (facts : List Fact) (shares : ℕ) (cubes : List Lattice)
+    (made : List (Result Lattice AllocError)) → map Ok cubes ≡ made
+    → AreMade (HasGatheredShare schema facts shares) shares made → AreShares schema facts cubes
+AreShares-made schema facts shares cubes made are results =
+    let each = made_each (HasGatheredShare schema facts shares) cubes made shares are results in
+    record { each = λ i unused inside. rw each.0 (each.1 i unused (omega (arith, inside, each.0))) }
+
+-- facts that fit have as many values as there are dimensions
+pub All-widths : (schema : Layout) (facts : List Fact) → All (λ fact. fits schema fact ≡ true) facts
+    → All (λ fact. length fact.dims ≡ length schema.dimensions) facts
+All-widths schema facts fit = All-weaker (λ (fact : Fact). fits schema fact ≡ true)
+    (λ (fact : Fact). length fact.dims ≡ length schema.dimensions) (λ fact is. fits-length schema fact is) facts fit

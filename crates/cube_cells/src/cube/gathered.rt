@@ -1,29 +1,34 @@
-//! The finest cells of many facts at once: each thread gathers a part of the facts, and what the parts have is merged.
-ghost use Rattle.std.specs.Prelude.{◌≡◌, ◌<◌, ◌∷◌, ◌++◌, [], true, length, map, All, IfOk, OnOk};
+//! The finest cells of many facts at once: each thread gathers a share of the facts, and what the shares have is merged.
+ghost use Rattle.std.specs.Prelude.{◌≡◌, ◌<◌, ◌≤◌, ◌==◌, ◌∷◌, ◌++◌, [], true, filter, length, map, option_map, All, IfOk, OnOk, List, if◌then◌else◌};
 ghost use Rattle.std.specs.List.{AllZip};
-ghost use Rattle.std.specs.Thread.{IsSend, IsSync};
+ghost use Rattle.cube_core.specs.Layout.{Layout};
 ghost use Rattle.cube_core.specs.Takes.{fits};
-ghost use Rattle.cube_cells.specs.Fill.{IsCubeOfAll, finest_set};
-ghost use Rattle.cube_cells.specs.Gathered.{AreCodesOfFact, GathersMore, HasGathered, OnlyAddsTexts};
+ghost use Rattle.cube_core.specs.declared.fact.Fact.{Fact};
+ghost use Rattle.cube_cells.specs.Fill.{AreMade, IsCubeOfAll, finest_set};
+ghost use Rattle.cube_cells.specs.Gathered.{AreCodesOfFact, AreShares, GathersMore, HasGathered, HasGatheredShare, OnlyAddsTexts, end_bytes_of, share_of_fact};
 
 use super::Cube;
 use super::codes::Codes;
+use super::ranges::all_made;
 use super::sorting::FEW;
 use cube_core::{Fact, Schema};
 use cube_values::Numbers;
 use std::alloc::{AllocError, Global};
-use std::thread::{Threads, join};
+use std::thread::{Threads, map_indices};
 
-// How many facts are gathered at once. So many facts and codes lie in the first cache, and the loop that counts them
-// is short, so that the processor waits for several cells at a time.
-const AT_ONCE: usize = 256;
+// How many facts are looked at, before those of a share among them are gathered. So many facts and codes lie in the second
+// cache, and the loop that counts them is short, so that the processor waits for several cells at a time.
+const AT_ONCE: usize = 1_024;
+
+// The most shares that facts are gathered in: each thread looks at all facts.
+const MOST_SHARES: usize = 8;
 
 impl<N: Numbers + Send + Sync> Cube<N> {
-    /// The cube of these facts over the finest grouping set alone, with the same schema, made by about as many threads as
-    /// this says.
+    /// The cube of these facts over the finest grouping set alone, with the same schema, made by as many threads as this
+    /// says, 8 at most.
     ///
-    /// Each thread gathers a part of the facts into a cube of its own, and two and two of these are merged. With one thread,
-    /// or few facts, no thread is started. The only error is that memory ran out, or numbers to count the facts with.
+    /// Each thread gathers the facts of some keys into a cube of its own, and these cubes are merged one after another. With
+    /// one thread, or few facts, there is one. The only error is that memory ran out, or numbers to count the facts with.
     pub fn finest_of<T: Threads + Sync>(
         &self,
         rt: &T,
@@ -36,79 +41,172 @@ impl<N: Numbers + Send + Sync> Cube<N> {
             cube.sets ≡ finest_set (length cube.schema.dimensions) ∷ []) }
         ensures facts { IfOk result (IsCubeOfAll (map (λ fact. fact.now) facts.now)) }
     {
-        gathered_by(rt, threads, self.alloc, &self.schema, facts)
+        let shares = if facts.len() < FEW {
+            1
+        } else {
+            threads.clamp(1, MOST_SHARES)
+        };
+        gathered_in_shares(rt, self.alloc, &self.schema, facts, shares as u32)
     }
 }
 
-// The cube of facts over the finest grouping set, gathered by about so many threads.
-#[cycle(gathering)]
-fn gathered_by<T: Threads + Sync, N: Numbers + Send + Sync>(
+// The cube of facts over the finest grouping set, gathered in so many shares.
+fn gathered_in_shares<T: Threads + Sync, N: Numbers + Send + Sync>(
     rt: &T,
-    threads: usize,
     alloc: Global,
     schema: &Schema,
     facts: &[&Fact],
+    shares: u32,
 ) -> Result<Cube<N>, AllocError>
-    requires { All (λ fact. fits schema.now fact ≡ true) (map (λ fact. fact.now) facts.now) }
+    requires some { 0 < shares }
+    requires fit { All (λ fact. fits schema.now fact ≡ true) (map (λ fact. fact.now) facts.now) }
     ensures { IfOk result (HasGathered schema.now (map (λ fact. fact.now) facts.now)) }
 {
-    if threads < 2 || facts.len() < FEW {
-        return gathered(alloc, schema, facts);
-    }
-    let (low, high) = facts.split_at(facts.len() / 2);
-    gathered_in_halves(rt, threads, alloc, schema, low, high)
+    let made = gathered_shares(rt, alloc, schema, facts, shares)?;
+    merged_shares(alloc, schema, all_made(alloc, made)?)
 }
 
-// The same of both halves of facts, each gathered by half as many threads.
-#[cycle(gathering)]
-fn gathered_in_halves<T: Threads + Sync, N: Numbers + Send + Sync>(
+// The cube of each share of facts over the finest grouping set, each gathered on a thread of its own.
+fn gathered_shares<T: Threads + Sync, N: Numbers + Send + Sync>(
     rt: &T,
-    threads: usize,
     alloc: Global,
     schema: &Schema,
-    low: &[&Fact],
-    high: &[&Fact],
-) -> Result<Cube<N>, AllocError>
-    requires threads { 1 < threads }
-    requires low { All (λ fact. fits schema.now fact ≡ true) (map (λ fact. fact.now) low.now) }
-    requires high { All (λ fact. fits schema.now fact ≡ true) (map (λ fact. fact.now) high.now) }
-    ensures { IfOk result (HasGathered schema.now
-        (map (λ fact. fact.now) low.now ++ map (λ fact. fact.now) high.now)) }
+    facts: &[&Fact],
+    shares: u32,
+) -> Result<Vec<Result<Cube<N>, AllocError>>, AllocError>
+    requires some { 0 < shares }
+    requires fit { All (λ fact. fits schema.now fact ≡ true) (map (λ fact. fact.now) facts.now) }
+    ensures { IfOk result (λ made. AreMade (HasGatheredShare schema.now (map (λ fact. fact.now) facts.now) shares)
+        shares made.items) }
 {
-    let front = || -> Result<Cube<N>, AllocError>
-        requires { IsSync T.row × IsSend N.row × IsSync N.row × (1 < threads)
-            × All (λ fact. fits schema.now fact ≡ true) (map (λ fact. fact.now) low.now) }
-        ensures { IfOk result (HasGathered schema.entry.now (map (λ fact. fact.now) low.entry.now)) }
-    { gathered_by(rt, threads.div_ceil(2), alloc, schema, low) };
-    let back = || -> Result<Cube<N>, AllocError>
-        requires { IsSync T.row × IsSend N.row × IsSync N.row × (1 < threads)
-            × All (λ fact. fits schema.now fact ≡ true) (map (λ fact. fact.now) high.now) }
-        ensures { IfOk result (HasGathered schema.entry.now (map (λ fact. fact.now) high.entry.now)) }
-    { gathered_by(rt, threads.div_ceil(2), alloc, schema, high) };
-    let (first, second) = join(rt, front, back);
-    let first = first?;
-    let second = second?;
+    map_indices(
+        rt,
+        alloc,
+        shares as usize,
+        &|share| gathered_share(alloc, schema, facts, share as u32, shares),
+    )
+}
+
+// The cube of all facts from those of their shares, which are merged one after another.
+fn merged_shares<N: Numbers>(
+    alloc: Global,
+    schema: &Schema,
+    cubes: Vec<Cube<N>>,
+) -> Result<Cube<N>, AllocError>
+    requires some { 0 < length cubes.items }
+    requires shares { (facts : List Fact) × AreShares schema.now facts cubes.items }
+    ensures { IfOk result (λ cube. (facts : List Fact) → AreShares schema.now facts cubes.items →
+        HasGathered schema.now facts cube) }
+{
+    let mut whole = Cube::finest_over(alloc, schema)?;
+    for cube in cubes {
+        whole = merged_with(whole, cube)?;
+    }
+    Ok(whole)
+}
+
+// The cube that has the facts of two; a first one that has none is let go of.
+fn merged_with<N: Numbers>(first: Cube<N>, second: Cube<N>) -> Result<Cube<N>, AllocError>
+    requires { (schema : Layout) × (facts : List Fact) × (others : List Fact) × HasGathered schema facts first
+        × HasGathered schema others second }
+    ensures { IfOk result (λ whole. (schema : Layout) (facts others : List Fact) → HasGathered schema facts first →
+        HasGathered schema others second → HasGathered schema (facts ++ others) whole) }
+{
+    if first.facts() == 0 {
+        return Ok(second);
+    }
     first.merged(second)
 }
 
-// The cube of facts over the finest grouping set, into which one lot after another is gathered.
-fn gathered<N: Numbers>(
+// The cube of the facts of a share over the finest grouping set, into which one lot after another is gathered.
+fn gathered_share<N: Numbers>(
     alloc: Global,
     schema: &Schema,
     facts: &[&Fact],
+    share: u32,
+    shares: u32,
 ) -> Result<Cube<N>, AllocError>
-    requires { All (λ fact. fits schema.now fact ≡ true) (map (λ fact. fact.now) facts.now) }
-    ensures { IfOk result (HasGathered schema.now (map (λ fact. fact.now) facts.now)) }
+    requires some { 0 < shares }
+    requires fit { All (λ fact. fits schema.now fact ≡ true) (map (λ fact. fact.now) facts.now) }
+    ensures { IfOk result (HasGatheredShare schema.now (map (λ fact. fact.now) facts.now) shares share) }
 {
     let mut cube = Cube::finest_over(alloc, schema)?;
+    let dimensions = schema.dimensions().len();
+    let mut picked = Vec::new(alloc);
     let mut codes = Vec::new(alloc);
     let mut done = 0;
     while done < facts.len() {
         let end = done + (facts.len() - done).min(AT_ONCE);
-        gather_lot(&mut cube, &facts[done..end], &mut codes)?;
+        pick(&facts[done..end], dimensions, share, shares, &mut picked)?;
+        gather_lot(&mut cube, &picked, &mut codes)?;
         done = end;
     }
     Ok(cube)
+}
+
+// Puts the facts of a share in place of those that were picked before.
+fn pick<'f>(
+    facts: &[&'f Fact],
+    dimensions: usize,
+    share: u32,
+    shares: u32,
+    picked: &mut Vec<&'f Fact>,
+) -> Result<(), AllocError>
+    requires some { 0 < shares }
+    requires few { dimensions ≤ 8 }
+    requires width { All (λ fact. length fact.dims ≡ dimensions) (map (λ fact. fact.now) facts.now) }
+    ensures { OnOk result (map (λ fact. fact.now) picked.new.items
+        ≡ filter (λ fact. share_of_fact shares fact == share) (map (λ fact. fact.now) facts.now)) }
+{
+    picked.clear();
+    for fact in facts {
+        push_if(picked, *fact, share_of(*fact, dimensions, shares) == share)?;
+    }
+    Ok(())
+}
+
+// Puts a fact behind others if it is one of theirs.
+fn push_if<'f>(
+    picked: &mut Vec<&'f Fact>,
+    fact: &'f Fact,
+    is_picked: bool,
+) -> Result<(), AllocError>
+    ensures { OnOk result (map (λ fact. fact.now) picked.new.items
+        ≡ map (λ fact. fact.now) picked.old.items ++ (if is_picked then fact.now ∷ [] else [])) }
+{
+    if is_picked {
+        picked.push(fact)?;
+    }
+    Ok(())
+}
+
+// The share of a fact of so many dimensions, of so many shares: no two facts of one key are in different ones.
+fn share_of(fact: &Fact, dimensions: usize, shares: u32) -> u32
+    requires some { 0 < shares }
+    requires few { dimensions ≤ 8 }
+    requires width { length fact.now.dims ≡ dimensions }
+    ensures { result ≡ share_of_fact shares fact.now }
+{
+    let mut sum = 0;
+    for place in 0..dimensions {
+        sum += end_bytes(fact.dims.get(place));
+    }
+    sum % shares
+}
+
+// The first byte of a text and its last, added; 0 of the empty text and of null.
+fn end_bytes(value: Option<&str>) -> u32
+    ensures value { result ≡ end_bytes_of (option_map (λ text. text.now) value.entry) }
+    ensures few { result ≤ 510 }
+{
+    let Some(text) = value else {
+        return 0;
+    };
+    let bytes = text.as_bytes();
+    match (bytes.first(), bytes.last()) {
+        (Some(first), Some(last)) => u32::from(*first) + u32::from(*last),
+        _ => 0,
+    }
 }
 
 // Gathers a lot of facts: first it finds the codes of all, and then it counts them.
