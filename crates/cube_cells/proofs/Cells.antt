@@ -8,3 +8,4 @@ pub mod CubeLaws
 pub mod JoinLaws
 pub mod TableLaws
 pub mod LeveledLaws
+pub mod TakenLaws

@@ -11,5 +11,6 @@ pub mod BottomUpCellLaws
 pub mod BottomUpCubeLaws
 pub mod RankedLaws
 pub mod PruneLaws
+pub mod KeptKeyLaws
 pub mod PartLaws
 pub mod RangeLaws

@@ -161,6 +161,14 @@ abbrev pub TakesAll : {S : Type 0} → (S → Codes → Tally → S → Type 0) 
 TakesAll takes old [] new = new ≡ old
 TakesAll {S} takes old (cell ∷ cells) new = (mid : S) × takes old cell.0 cell.1 mid × TakesAll takes mid cells new
 
+-- a cell under each of some codes, one after another
+abbrev pub under_keys : Tally → List Codes → CodedCells
+under_keys cell keys = map (λ codes. (codes, cell)) keys
+
+-- a cell is put behind others
+abbrev pub PutsCell : CodedCells → Codes → Tally → CodedCells → Type 0
+PutsCell old codes cell new = new ≡ old ++ (codes, cell) ∷ []
+
 -- whether the set of codes is kept, where a list says so of the set of each mask
 abbrev pub is_kept_by : List Bool → Codes → Bool
 is_kept_by kept codes = get_or kept (mask_of_codes codes.codes) false
@@ -187,6 +195,11 @@ pub record TakesWalk {S : Type 0} (takes : S → Codes → Tally → S → Type 
   pub cells : CodedCells
   pub are : IsWalkOf (is_kept_by kept) (dimensions - from) from items cells
   pub taken : TakesAll takes old cells new
+
+-- keys are put behind others: those under which the cells of a walk over one item stand, whatever its cell
+pub record PutsKept (kept : List Bool) (dimensions from : ℕ) (codes : Codes) (old new : List Codes) : Type 0 where
+  pub walk : (cell : Tally) → CanWalk dimensions from ((codes, cell) ∷ [])
+      → TakesWalk PutsCell kept dimensions from ((codes, cell) ∷ []) (under_keys cell old) (under_keys cell new)
 
 -- the cells of the runs of one code of a dimension are taken
 pub record TakesRuns {S : Type 0} (takes : S → Codes → Tally → S → Type 0) (kept : List Bool) (dimensions from : ℕ)

@@ -5,10 +5,10 @@
 //! [`Cell`] is the tally of a group of facts, which answers every aggregate of them.
 //! [`Cube`] is the cells of all kept grouping sets, kept right under adds and removes.
 //! [`OrderedCells`] are its cells in key order, each a [`KeyedCell`].
-//! [`FinestCells`] are those of the finest grouping set alone; a walk over them hands the cells of a whole cube to what
-//! [`TakesCells`], and a question to them walks to the grouping sets alone that can answer it. [`RaisedCells`] cut such a
-//! walk into [`WalkPart`]s, which several threads may take. A [`BaseCuboid`] is finest cells with as much of their values as
-//! the aggregates of the schema need.
+//! [`FinestCells`] are those of the finest grouping set alone; a walk over them hands the cells of a whole cube, each with
+//! keys that it stands under, to what [`TakesCells`], and a question to them walks to the grouping sets alone that can answer
+//! it. [`RaisedCells`] cut such a walk into [`WalkPart`]s, which several threads may take. A [`BaseCuboid`] is finest cells
+//! with as much of their values as the aggregates of the schema need.
 #![tactic(auto)]
 
 mod cell;

@@ -24,31 +24,6 @@ use Rattle.cube_lines.specs.Parts.{AddsParts, parts}
 use Rattle.cube_text.specs.Rows.{IsAnswerOf}
 use Rattle.cube_text.proofs.FieldLaws.{AddsParts-answer}
 
--- no answers have no texts
-pub answer_texts-none : (digits : List ℕ) → answer_texts digits [] ≡ []
-answer_texts-none [] = refl
-answer_texts-none (k ∷ digits) = refl
-
--- one answer of a cell more
-pub AreAnswersOf-next : (aggregates : List Agg) (cell : Tally) (i : ℕ) (a : Answer) (old new : List Answer)
-    → i < length aggregates → AreAnswersOf (take i aggregates) cell (take i old)
-    → IsAnswerOf (get_or aggregates i CountAll) cell a → take (i + 1) new ≡ take i old ++ a ∷ []
-    → AreAnswersOf (take (i + 1) aggregates) cell (take (i + 1) new)
-AreAnswersOf-next aggregates cell i a old new inside are is taken = λ facts tally.
-    rw (take_more aggregates i CountAll inside, taken) (AllZip-push (IsAnswer facts) (take i aggregates) (take i old)
-    (get_or aggregates i CountAll) a (are facts tally) (is facts tally))
-
--- as many answers as were taken stand there
-pub taken-length : (i : ℕ) (a : Answer) (old new : List Answer) → i ≤ length old → take (i + 1) new ≡ take i old ++ a ∷ []
-    → i + 1 ≤ length new
-taken-length i a old new within taken = omega (
-  arith,
-  ap (λ (answers : List Answer). length answers) taken,
-  length-append (take i old) (a ∷ []),
-  length-take-le i old within,
-  length-take (i + 1) new,
-)
-
 -- the answers of a cell to the first aggregates stand in a text
 pub record HasAnswersBelow (s : Layout) (cell : Tally) (i : ℕ) (old new : List ℕ) : Type 0 where
   pub answers : List Answer

@@ -4,19 +4,15 @@ use Rattle.cube_core.specs.Text.{digits_of_answers}
 use Rattle.cube_cells.specs.Codes.{key_at}
 use Rattle.cube_cells.specs.Tally.{Tally}
 use Rattle.cube_cells.specs.declared.cube.codes.Codes.{Codes}
-use Rattle.cube_text.specs.Answers.{ShowsAnswers}
 use Rattle.cube_text.specs.Rows.{AddsRow}
 use Rattle.cube_text.specs.Shown.{AreShown}
 use Rattle.cube_text.specs.declared.walked.RowsText.{RowsText}
 
--- a text has the line of the row of a cell more, where the cell has a bag for each measure of the schema, and what is kept of
--- answers is still what a row shows of them
+-- a text has the line of the row of a cell more, where the cell has a bag for each measure of the schema
 pub record TakesRow {N : Type 0} (old : RowsText N) (codes : Codes) (cell : Tally) (new : RowsText N) : Type 0 where
   pub same : new.cells ≡ old.cells
   pub same_shown : new.shown ≡ old.shown
   pub adds : AreShown old.cells.now.dictionaries old.shown.now
-      → ShowsAnswers (digits_of_answers old.cells.now.schema) old.answers → length cell.bags ≡ length old.cells.now.schema.measures
+      → length cell.bags ≡ length old.cells.now.schema.measures
       → AddsRow (digits_of_answers old.cells.now.schema) old.cells.now.schema.aggregates
       (key_at old.cells.now.dictionaries codes.codes, cell) old.text.items new.text.items
-  pub shows : ShowsAnswers (digits_of_answers old.cells.now.schema) old.answers
-      → ShowsAnswers (digits_of_answers old.cells.now.schema) new.answers

@@ -8,14 +8,14 @@ ghost use Rattle.cube_core.specs.declared.key.Coord.TheVariants as coord;
 ghost use Rattle.cube_cells.specs.BaseCuboid.{cells_of_cuboid};
 ghost use Rattle.cube_cells.specs.Codes.{Dictionaries, coords_at, key_at};
 ghost use Rattle.cube_cells.specs.Fill.{IsCubeOfAll};
+ghost use Rattle.cube_cells.specs.Tally.{Tally};
 ghost use Rattle.cube_lines.specs.Parts.{AddsParts};
 ghost use Rattle.cube_text.specs.Rows.{AddsRow};
 ghost use Rattle.cube_text.specs.Shown.{AreShown};
 ghost use Rattle.cube_cells.specs.WalkParts.{PartOfWalk};
-ghost use Rattle.cube_text.specs.Answers.{ShowsAnswers};
-ghost use Rattle.cube_text.specs.Walked.{IsTextOfPart};
+ghost use Rattle.cube_text.specs.Walked.{AddsAnswers, IsTextOfPart};
 
-use crate::answers::AnswersText;
+use crate::answers::put_answers_of;
 use crate::fields::{close_line, push_coord, push_grouping};
 use crate::print::text_of_header;
 use crate::shown::{Shown, all_shown, part_at};
@@ -32,12 +32,12 @@ const ALL: u32 = 4_294_967_295;
 // How many parts there are for each thread of the walk over the finest cells, so that none waits long for another.
 const PARTS: usize = 4;
 
-/// A text to which a walk adds the line of the row of each cell.
+/// A text to which a walk adds the lines of the rows of each cell, and what those of the last cell show of its answers.
 #[derive(Drop)]
 pub struct RowsText<'c, N: Numbers> {
     cells: &'c FinestCells<N>,
     shown: &'c [Shown],
-    answers: AnswersText,
+    answers: Vec<u8>,
     text: Vec<u8>,
 }
 
@@ -46,18 +46,19 @@ impl<'c, N: Numbers> TakesCells<N> for RowsText<'c, N> {
 
     ghost takes = { TakesRow };
 
-    fn take_cell(&mut self, codes: &KeyCodes, cell: &Cell<N>) -> Result<(), AllocError> {
+    fn take_cell(&mut self, keys: &[KeyCodes], cell: &Cell<N>) -> Result<(), AllocError> {
         if cell.measures() != self.cells.schema().measures().len() {
             return Ok(());
         }
-        put_row_of(
-            &mut self.text,
-            &mut self.answers,
-            self.cells,
-            self.shown,
-            codes,
-            cell,
-        )
+        if keys.is_empty() {
+            return Ok(());
+        }
+        self.answers.clear();
+        put_answers_of(&mut self.answers, self.cells, cell)?;
+        for codes in keys {
+            put_row_of(&mut self.text, &self.answers, self.cells, self.shown, codes)?;
+        }
+        Ok(())
     }
 }
 
@@ -76,7 +77,7 @@ pub fn print_walked<N: Numbers>(
     let mut rows = RowsText {
         cells,
         shown: &shown,
-        answers: AnswersText::none(alloc),
+        answers: Vec::new(alloc),
         text,
     };
     cells.walk(&mut rows)?;
@@ -156,34 +157,30 @@ fn text_of_part<N: Numbers>(
     let mut rows = RowsText {
         cells,
         shown,
-        answers: AnswersText::none(alloc),
+        answers: Vec::new(alloc),
         text: Vec::new(alloc),
     };
     part.walk(&mut rows)?;
     Ok(rows.text)
 }
 
-// Puts the line of the row of a cell.
+// Puts the line of the row of a cell, what it shows of the answers being made.
 fn put_row_of<N: Numbers>(
     text: &mut Vec<u8>,
-    answers: &mut AnswersText,
+    answers: &[u8],
     cells: &FinestCells<N>,
     shown: &[Shown],
     codes: &KeyCodes,
-    cell: &Cell<N>,
 ) -> Result<(), AllocError>
-    requires { length cell.now.bags ≡ length cells.now.schema.measures }
-    ensures row { OnOk result (AreShown cells.now.dictionaries shown.now →
-        ShowsAnswers (digits_of_answers cells.now.schema) answers.old →
+    ensures { OnOk result (AreShown cells.now.dictionaries shown.now →
+        (cell : Tally) → AddsAnswers cells.now.schema cell [] answers.now →
         AddsRow (digits_of_answers cells.now.schema) cells.now.schema.aggregates
-        (key_at cells.now.dictionaries codes.now.codes, cell.now) text.old.items text.new.items) }
-    ensures shows { OnOk result (ShowsAnswers (digits_of_answers cells.now.schema) answers.old →
-        ShowsAnswers (digits_of_answers cells.now.schema) answers.new) }
+        (key_at cells.now.dictionaries codes.now.codes, cell) text.old.items text.new.items) }
 {
     let start = text.as_slice().len();
     put_key_of(text, cells, shown, codes)?;
     put_groupings_of(text, cells, codes)?;
-    answers.put(text, cells, cell)?;
+    text.extend_from_slice(answers)?;
     close_line(text, start)
 }
 

@@ -41,6 +41,7 @@ use Rattle.cube_cells.specs.Coded.{CodedCells, same_codes}
 use Rattle.cube_cells.specs.Tally.{Tally, PlusTally, SameTally, bag_at}
 use Rattle.cube_values.specs.Bag.{Bag, held_of}
 use Rattle.cube_cells.specs.declared.cube.codes.Codes.{Codes}
+use Rattle.cube_cells.proofs.Cells.TakenLaws.{TakesAll-append}
 use Rattle.cube_cells.proofs.Cells.WalkLaws.{same_codes-IsEquivalence}
 use Rattle.cube_cells.proofs.Codes.RankLaws.{Less-from_is_lt}
 
@@ -808,14 +809,6 @@ AreRaised-one from item = record {
     some = (All-head (IsItem measures) item [] each).some;
   }) (All-nil (IsItem measures));
 }
-
--- ---- what is taken
--- cells that are taken one after another
-pub TakesAll-append : {S : Type 0} (takes : S → Codes → Tally → S → Type 0) (a b : CodedCells) (old mid new : S)
-    → TakesAll takes old a mid → TakesAll takes mid b new → TakesAll takes old (a ++ b) new
-TakesAll-append takes [] b old mid new first second = subst (λ (s : _). TakesAll takes s b new) first second
-TakesAll-append takes (cell ∷ a) b old mid new first second =
-    (first.0, first.1, TakesAll-append takes a b first.0 mid new first.2 second)
 
 -- ---- the cells of items, as they lie
 -- the code of an item in a dimension

@@ -1,5 +1,5 @@
 -- Laws of how many cells a cube has.
-use Rattle.std.proofs.Common.{◌≡◌, ◌∙◌, ◌+◌, List, [], ◌∷◌, length, sym, ap, subst, arith}
+use Rattle.std.proofs.Common.{◌≡◌, ◌∙◌, ◌+◌, List, [], ◌∷◌, length, refl, sym, ap, subst, arith}
 use Rattle.std.specs.Prelude.{Contains, IsTrue, is_some}
 use Rattle.std.specs.List.{IsDistinct}
 use Rattle.std.specs.Map.{keys_of}
@@ -8,7 +8,7 @@ use Rattle.cube_core.specs.Cube.{is_cell}
 use Rattle.cube_core.specs.declared.fact.Fact.{Fact}
 use Rattle.cube_core.specs.declared.key.Key.{Key}
 use Rattle.cube_core.proofs.ListLaws.{map-Contains, Contains-map}
-use Rattle.cube_cells.specs.BottomUp.{TakesAll}
+use Rattle.cube_cells.specs.BottomUp.{TakesAll, under_keys}
 use Rattle.cube_cells.specs.Codes.{Dictionaries, key_at}
 use Rattle.cube_cells.specs.Coded.{CodedCells, decoded}
 use Rattle.cube_cells.specs.Count.{AreKeysOver}
@@ -39,6 +39,10 @@ pub length-keys_of-decoded : (dictionaries : Dictionaries) (cells : CodedCells)
 length-keys_of-decoded dictionaries cells = length-map (decoded dictionaries cells) (λ (e : Key × Tally). e.0)
     ∙ length-map cells (λ (e : Codes × Tally). (key_at dictionaries e.0.codes, e.1))
 
+-- counts of as many cells are the same
+count-same : (a b : CellCount) → a.cells ≡ b.cells → a ≡ b
+count-same a b same = λ i. record { cells = same i }
+
 -- a count of cells that are taken is so many more
 pub cells-TakesAll : (old new : CellCount) (cells : CodedCells)
     → TakesAll (λ (old : CellCount) codes cell new. new.cells ≡ old.cells + 1) old cells new
@@ -46,3 +50,11 @@ pub cells-TakesAll : (old new : CellCount) (cells : CodedCells)
 cells-TakesAll old new [] taken = omega (arith, ap (λ (c : CellCount). c.cells) taken)
 cells-TakesAll old new (cell ∷ cells) taken =
     omega (arith, taken.1, cells-TakesAll taken.0 new cells taken.2)
+
+-- a count that is more by the number of keys took a cell under each of them
+pub TakesAll-cells : (cell : Tally) (keys : List Codes) (old new : CellCount) → new.cells ≡ old.cells + length keys
+    → TakesAll (λ (old : CellCount) codes cell new. new.cells ≡ old.cells + 1) old (under_keys cell keys) new
+TakesAll-cells cell [] old new more = count-same new old (omega (arith, more))
+TakesAll-cells cell (codes ∷ keys) old new more =
+    let mid : CellCount = record { cells = old.cells + 1 } in
+    (mid, refl, TakesAll-cells cell keys mid new (omega (arith, more)))

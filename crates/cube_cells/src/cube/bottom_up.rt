@@ -1,10 +1,10 @@
 //! The cells of all kept grouping sets in the order of their codes, by a walk over lists of the finest cells (Beyer and
 //! Ramakrishnan 1999): no cell is hashed, and none is kept but those of the lists that are walked over.
-ghost use Rattle.std.specs.Prelude.{◌≡◌, ◌<◌, ◌≤◌, ◌^◌, ◌∷◌, ◌++◌, [], ℕ, false, All, IfOk, OnOk, filter, get_or, length, if◌then◌else◌};
+ghost use Rattle.std.specs.Prelude.{◌≡◌, ◌+◌, ◌-◌, ◌<◌, ◌≤◌, ◌^◌, ◌∷◌, ◌++◌, [], ℕ, false, All, IfOk, OnOk, filter, get_or, length, if◌then◌else◌};
 ghost use Rattle.std.specs.Cmp.Lexicographic.{slice_cmp};
 ghost use Rattle.std.specs.List.Sorted.{IsSortedBy};
 ghost use Rattle.std.specs.Ordering.{nat_cmp, is_lt};
-ghost use Rattle.cube_cells.specs.BottomUp.{AreUnited, AreRaised, CanWalk, IsItem, IsNoneKept, IsRun, JoinsLast, TakesAll, TakesRuns, TakesWalk, cells_of_items, cells_of_lent, column_of, is_kept_by, raise};
+ghost use Rattle.cube_cells.specs.BottomUp.{AreUnited, AreRaised, CanWalk, IsItem, IsNoneKept, IsRun, JoinsLast, PutsKept, TakesAll, TakesRuns, TakesWalk, cells_of_items, cells_of_lent, column_of, is_kept_by, raise, under_keys};
 ghost use Rattle.cube_core.specs.GroupingSet.{is_among};
 ghost use Rattle.cube_cells.specs.Tally.{PlusTally, SameTally, Tally};
 ghost use Rattle.cube_cells.specs.declared.cube.codes.Codes.{Codes};
@@ -12,17 +12,24 @@ ghost use Rattle.cube_cells.specs.declared.cube.codes.Codes.{Codes};
 use super::codes::Codes;
 use super::fill::{finest_of, merge_counted};
 use crate::cell::Cell;
+use arrayvec::ArrayVec;
 use cube_values::Numbers;
 use std::alloc::{AllocError, Global};
+use std::slice;
 
-/// What takes the cells of a walk, one at a time, in the order of their codes.
+// In how many dimensions keys may differ that are handed over at once, and how many keys these can be.
+const FREE: usize = 4;
+
+const MOST_KEYS: usize = 16;
+
+/// What takes the cells of a walk, in the order of their codes: one cell at a time, with keys that it stands under.
 pub trait TakesCells<N: Numbers> {
     // What it is after a cell more.
     ghost takes: { Self → Codes → Tally → Self → Type 0 };
 
-    /// Takes a cell. The only error is that memory ran out.
-    fn take_cell(&mut self, codes: &Codes, cell: &Cell<N>) -> Result<(), AllocError>
-        ensures { OnOk result (takes self.old codes.now cell.now self.new) };
+    /// Takes a cell under each of some codes, one after another. The only error is that memory ran out.
+    fn take_cell(&mut self, keys: &[Codes], cell: &Cell<N>) -> Result<(), AllocError>
+        ensures { OnOk result (TakesAll takes self.old (under_keys cell.now keys.now) self.new) };
 }
 
 /// A cell, and the codes of its key.
@@ -135,8 +142,8 @@ fn walk_one<N: Numbers, S: TakesCells<N>>(
     requires item { CanWalk dimensions from ((codes.now, cell.now) ∷ []) }
     ensures { OnOk result (TakesWalk S.takes kept.now dimensions from ((codes.now, cell.now) ∷ []) sink.old sink.new) }
 {
-    if from == dimensions {
-        return take_if_kept(kept, codes, cell, sink);
+    if dimensions - from <= FREE {
+        return walk_last(kept, dimensions, from, codes, cell, sink);
     }
     if !is_any_kept(kept, from, codes) {
         return Ok(());
@@ -150,6 +157,62 @@ fn walk_one<N: Numbers, S: TakesCells<N>>(
         cell,
         sink,
     )
+}
+
+// The same where few dimensions are left: the cell is handed over once, under all its keys.
+fn walk_last<N: Numbers, S: TakesCells<N>>(
+    kept: &[bool],
+    dimensions: usize,
+    from: usize,
+    codes: &Codes,
+    cell: &Cell<N>,
+    sink: &mut S,
+) -> Result<(), AllocError>
+    requires from { from ≤ dimensions }
+    requires few { dimensions - from ≤ 4 }
+    requires item { CanWalk dimensions from ((codes.now, cell.now) ∷ []) }
+    ensures { OnOk result (TakesWalk S.takes kept.now dimensions from ((codes.now, cell.now) ∷ []) sink.old sink.new) }
+{
+    let mut keys = ArrayVec::new();
+    put_kept(kept, dimensions, from, codes, &mut keys);
+    if keys.is_empty() {
+        return Ok(());
+    }
+    sink.take_cell(keys.as_slice(), cell)
+}
+
+// Puts those of kept sets of the keys above some codes, from a dimension on of so many, behind others.
+fn put_kept(
+    kept: &[bool],
+    dimensions: usize,
+    from: usize,
+    codes: &Codes,
+    keys: &mut ArrayVec<Codes, MOST_KEYS>,
+)
+    requires few { dimensions ≤ 8 }
+    requires from { from ≤ dimensions }
+    requires room { length keys.old.items + 2 ^ (dimensions - from) ≤ 16 }
+    ensures room { length keys.new.items ≤ length keys.old.items + 2 ^ (dimensions - from) }
+    ensures keys { PutsKept kept.now dimensions from codes.now keys.old.items keys.new.items }
+{
+    if from == dimensions {
+        return put_if_kept(kept, codes, keys);
+    }
+    if !is_any_kept(kept, from, codes) {
+        return;
+    }
+    put_kept(kept, dimensions, from + 1, codes, keys);
+    put_kept(kept, dimensions, from + 1, &codes.with_all(from), keys);
+}
+
+// Puts codes behind others if their set is kept.
+fn put_if_kept(kept: &[bool], codes: &Codes, keys: &mut ArrayVec<Codes, MOST_KEYS>)
+    requires { length keys.old.items < 16 }
+    ensures { keys.new.items ≡ keys.old.items ++ (if is_kept_by kept.now codes.now then codes.now ∷ [] else []) }
+{
+    if is_kept(kept, codes) {
+        keys.push(*codes);
+    }
 }
 
 /// Whether a set is kept that has, of the first so many dimensions, those in which codes aren't ALL.
@@ -194,7 +257,7 @@ pub fn take_if_kept<N: Numbers, S: TakesCells<N>>(
         (if is_kept_by kept.now codes.now then (codes.now, cell.now) ∷ [] else []) sink.new) }
 {
     if is_kept(kept, codes) {
-        return sink.take_cell(codes, cell);
+        return sink.take_cell(slice::from_ref(codes), cell);
     }
     Ok(())
 }

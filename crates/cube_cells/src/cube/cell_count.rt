@@ -6,7 +6,7 @@ use crate::cell::Cell;
 use cube_values::Numbers;
 use std::alloc::AllocError;
 
-/// How many cells were handed over; none of them is kept.
+/// How many cells were handed over, each counted under each of its keys; none of them is kept.
 #[derive(Drop)]
 pub struct CellCount {
     pub cells: u64,
@@ -17,8 +17,8 @@ impl<N: Numbers> TakesCells<N> for CellCount {
 
     ghost takes = { λ old codes cell new. new.cells ≡ old.cells + 1 };
 
-    fn take_cell(&mut self, codes: &Codes, cell: &Cell<N>) -> Result<(), AllocError> {
-        match self.cells.checked_add(1) {
+    fn take_cell(&mut self, keys: &[Codes], cell: &Cell<N>) -> Result<(), AllocError> {
+        match self.cells.checked_add(keys.len() as u64) {
             Some(cells) => {
                 self.cells = cells;
                 Ok(())

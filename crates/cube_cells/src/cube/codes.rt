@@ -24,7 +24,7 @@ pub const NULL: u32 = 4_294_967_294;
 pub const NONE: u32 = 4_294_967_293;
 
 /// A code for each dimension: ALL, null, or the place of a text in the dimension's dictionary.
-#[derive(Clone, Copy, PartialEq, Eq)]
+#[derive(Clone, Copy, Default, PartialEq, Eq)]
 pub struct Codes {
     pub codes: [u32; 8],
 }

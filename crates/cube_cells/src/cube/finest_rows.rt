@@ -142,11 +142,14 @@ impl<'c, N: Numbers> TakesCells<N> for WantedRows<'c, N> {
 
     ghost takes = { TakesWanted };
 
-    fn take_cell(&mut self, codes: &Codes, cell: &Cell<N>) -> Result<(), AllocError> {
+    fn take_cell(&mut self, keys: &[Codes], cell: &Cell<N>) -> Result<(), AllocError> {
         if cell.measures() != self.cells.schema().measures().len() {
             return Ok(());
         }
-        put_if_wanted(&mut self.rows, self.cells, self.wants, codes, cell)
+        for codes in keys {
+            put_if_wanted(&mut self.rows, self.cells, self.wants, codes, cell)?;
+        }
+        Ok(())
     }
 }
 

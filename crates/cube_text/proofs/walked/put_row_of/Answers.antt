@@ -14,27 +14,23 @@ close_line-requires g c =
       start,
       c.in_ok-put_key_of.ensures.longer,
       simp length-append at (ap (λ (t : List ℕ). length t) c.in_ok-put_groupings_of.ensures),
-      c.in_ok-put.ensures.longer,
+      simp length-append at (ap (λ (t : List ℕ). length t) c.in_ok-extend_from_slice.ensures.items),
     )
 
-pub returns-clause-row : goal.returns-clause-row
-returns-clause-row g c =
+pub returns : goal.returns
+returns g c =
     let s = c.args.cells.now.schema in
     let key = key_at c.args.cells.now.dictionaries c.args.codes.now.codes in
     let a = map coord_text key.coords in
     let b = map grouping_text key.coords in
     let start : length c.args.text.now.items ≡ length c.as_slice-start.result.now =
     ap (λ (t : List ℕ). length t) (sym c.as_slice-start.ensures.value) in
-    on_ok_weaker c.close_line.result (λ ended are shows.
-    let answers = c.in_ok-put.ensures.added shows in
+    on_ok_weaker c.close_line.result (λ ended are cell answers.
     let texts = answer_texts (digits_of_answers s) answers.answers in
     record {
       row = record { key = key; answers = answers.answers };
       is_row = record { key = refl; answers = answers.are };
       added = ended c.args.text.now.items (a ++ b ++ texts) start
           (parts-three a b texts _ _ _ _ (c.in_ok-put_key_of.ensures.shown are) c.in_ok-put_groupings_of.ensures
-          answers.added);
+          (rw answers.added at c.in_ok-extend_from_slice.ensures.items));
     }) c.close_line.ensures
-
-pub returns-clause-shows : goal.returns-clause-shows
-returns-clause-shows g c = on_ok_weaker c.close_line.result (λ ended. c.in_ok-put.ensures.shows) c.close_line.ensures

@@ -4,4 +4,4 @@ use Rattle.cube_text.proofs.walked.text_of_part.Goals as goal
 
 pub returns : goal.returns
 returns g c = IsTextOfPart-TakesPart c.args.cells.now c.args.part.now _ c.walk.new.sink c.in_ok-walk.ensures refl
-    c.none.ensures c.new.ensures.items
+    c.new-2.ensures.items
