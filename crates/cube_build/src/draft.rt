@@ -144,7 +144,7 @@ impl<N: Numbers + Send + Sync> Draft<N> {
     pub fn finest<T: Threads + Sync>(self, rt: &T, threads: usize) -> Result<Counts<N>, AllocError>
         ensures { IfOk result (AreFinestCounts self.ledger) }
     {
-        let cube = finest_with(rt, threads.max(1), &self.cube, &self.ledger)?;
+        let cube = finest_with(rt, threads, &self.cube, &self.ledger)?;
         let trace = LedgerTrace::of(&self.ledger);
         let refused = refusals_of(self.ledger, has_few_cells(&cube));
         Ok(Counts::new(refused, cube, trace))

@@ -13,10 +13,6 @@ use cube_ledger::{Book, Ledger};
 use std::alloc::AllocError;
 use std::thread::Threads;
 
-/// The most threads that gather facts into the finest cells. Each has a table of its own, which has nearly every cell where
-/// cells are few beside the facts; so more of them want more memory, and wait for it longer than they save.
-const MOST_GATHERING: usize = 2;
-
 /// Fills a cube with the facts of all books of a ledger. The only error is that memory ran out, or of numbers to count the facts
 /// with.
 pub fn fill_cube(cube: &mut Cube, ledger: &Ledger) -> Result<(), AllocError>
@@ -75,20 +71,19 @@ pub fn fill_cube_with<T: Threads + Sync>(
     requires { cube.old.schema ≡ ledger.now.schema }
     ensures { OnOk result (Fills (all_facts ledger.now.accounts) cube.old cube.new) }
 {
-    let finest = finest_with(rt, threads.max(1), cube, ledger)?;
+    let finest = finest_with(rt, threads, cube, ledger)?;
     cube.fill(finest)?;
     Ok(())
 }
 
 /// The cube of the facts of all books of a ledger over the finest grouping set, with the schema of a cube, made by as
-/// many threads as this says, but two at most. With one thread no thread is started. The only error is that memory ran out.
+/// many threads as this says, 8 at most. With one thread, or none, no thread is started. The only error is that memory ran out.
 pub(crate) fn finest_with<T: Threads + Sync, N: Numbers + Send + Sync>(
     rt: &T,
     threads: usize,
     cube: &Cube<N>,
     ledger: &Ledger,
 ) -> Result<Cube<N>, AllocError>
-    requires threads { 0 < threads }
     requires schema { cube.now.schema ≡ ledger.now.schema }
     ensures schema { IfOk result (λ finest. finest.schema ≡ cube.now.schema) }
     ensures sets { IfOk result (λ finest.
@@ -96,5 +91,5 @@ pub(crate) fn finest_with<T: Threads + Sync, N: Numbers + Send + Sync>(
     ensures facts { IfOk result (IsCubeOfAll (all_facts ledger.now.accounts)) }
 {
     let facts = ledger.facts()?;
-    cube.finest_of(rt, threads.min(MOST_GATHERING), &facts)
+    cube.finest_of(rt, threads, &facts)
 }

@@ -80,7 +80,10 @@ fn made_ranges<T: Threads + Sync, N: Numbers + Send + Sync>(
 }
 
 /// What was made, if each of it was.
-pub(super) fn all_made<X: Drop>(alloc: Global, made: Vec<Result<X, AllocError>>) -> Result<Vec<X>, AllocError>
+pub(super) fn all_made<X: Drop>(
+    alloc: Global,
+    made: Vec<Result<X, AllocError>>,
+) -> Result<Vec<X>, AllocError>
     ensures { IfOk result (λ all. map Ok all.items ≡ made.items) }
 {
     let mut all = Vec::with_capacity(alloc, made.len())?;

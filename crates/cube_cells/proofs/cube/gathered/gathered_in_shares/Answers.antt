@@ -7,9 +7,11 @@ use Rattle.cube_cells.proofs.cube.gathered.gathered_in_shares.Goals as goal
 
 pub merged_shares-requires-clause-shares : goal.merged_shares-requires-clause-shares
 merged_shares-requires-clause-shares g c =
-    let facts : List Fact = map (λ fact. fact.now) c.args.facts.now in
-    (facts, AreShares-made c.args.schema.now facts c.args.shares c.in_ok-all_made.field-0.items
-    c.in_ok-made.made.items c.in_ok-all_made.ensures c.in_ok-made.ensures)
+    let facts : List Fact = map (λ fact. fact.now) c.args.facts.now in (
+      facts,
+      AreShares-made c.args.schema.now facts c.args.shares c.in_ok-all_made.field-0.items
+          c.in_ok-made.made.items c.in_ok-all_made.ensures c.in_ok-made.ensures,
+    )
 
 pub returns : goal.returns
 returns g c =

@@ -1,4 +1,4 @@
-use Rattle.std.proofs.Common.{arith, ◌≡◌, ◌==◌, ◌+◌, ◌∙◌, Bool, List, filter, map, take, true}
+use Rattle.std.proofs.Common.{arith, ◌≡◌, ◌==◌, ◌+◌, Bool, List, map, take, true}
 use Rattle.std.proofs.lemmas.List.{length-map, take_all}
 use Rattle.std.proofs.lemmas.List.Elements.{All-filter}
 use Rattle.cube_core.specs.Takes.{fits}

@@ -1,4 +1,4 @@
-use Rattle.cube_cells.proofs.Filling.GatheredLaws.{HasGathered-merged, HasGathered-no_facts}
+use Rattle.cube_cells.proofs.Filling.GatheredLaws.{HasGathered-merged}
 use Rattle.cube_cells.proofs.cube.gathered.merged_with.Goals as goal
 
 pub returns : goal.returns

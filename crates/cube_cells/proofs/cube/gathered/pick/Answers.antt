@@ -1,4 +1,4 @@
-use Rattle.std.proofs.Common.{arith, ◌≡◌, ◌<◌, ◌==◌, ◌+◌, ◌∷◌, ◌++◌, ◌∙◌, [], Bool, List, ap, filter, length, map, sym, take}
+use Rattle.std.proofs.Common.{arith, ◌≡◌, ◌<◌, ◌==◌, ◌+◌, ◌∷◌, ◌++◌, ◌∙◌, [], Bool, List, ap, filter, length, map, take}
 use Rattle.std.proofs.lemmas.List.Elements.{filter-append}
 use Rattle.std.proofs.lemmas.List.{get_or_read}
 use Rattle.cube_core.specs.declared.fact.Fact.{Fact}
