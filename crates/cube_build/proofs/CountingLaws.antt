@@ -1,5 +1,5 @@
 -- Counters: what an item does to the ledger that clauses see, and what a run has counted.
-use Rattle.std.proofs.Common.{◌≡◌, ◌<◌, ◌≤◌, ◌+◌, ◌-◌, ℕ, zero, suc, Bool, true, false, List, [], ◌∷◌, ◌++◌}
+use Rattle.std.proofs.Common.{◌≡◌, ◌<◌, ◌≤◌, ◌-◌, ℕ, zero, suc, Bool, true, false, List, [], ◌∷◌, ◌++◌}
 use Rattle.std.proofs.Common.{length, get_or, map, replicate, refl, sym, ap, ◌∙◌, subst, arith, inl, inr}
 use Rattle.std.proofs.Common.{get_or-set_other, get_or-set_same, IsPermutation}
 use Rattle.std.specs.Prelude.{Some, None, Ok, Err, slice_set, All, ◌==◌, if◌then◌else◌}
@@ -492,15 +492,15 @@ counter-putting conditions refused ledger source id fact weights old new may fit
 
 -- a new one
 pub counter-new : (conditions : List Condition) (refused ledger : LedgerView) (sources : ℕ) (weights : List ℕ)
-    (whole cube : Lattice) → ledger ≡ refused → refused.accounts ≡ replicate sources new_account
-    → length weights ≡ sources → whole.schema ≡ refused.schema
-    → IsNewLattice whole.schema (finest_set (length whole.schema.dimensions) ∷ []) cube → IsCubeOf cube []
+    (s : Layout) (cube : Lattice) → ledger ≡ refused → refused.accounts ≡ replicate sources new_account
+    → length weights ≡ sources → s ≡ refused.schema
+    → IsNewLattice s (finest_set (length s.dimensions) ∷ []) cube → IsCubeOf cube []
     → IsCounter false conditions refused ledger weights cube
-counter-new conditions refused ledger sources weights whole cube same are long schema new cells = rw same (record {
+counter-new conditions refused ledger sources weights s cube same are long schema new cells = rw same (record {
   noted = record { schema = refl; refusals = refl };
   schema = new.schema_is ∙ schema;
   long = long ∙ sym (ap length are ∙ length-replicate sources new_account);
-  counted = λ unspent. counted-new conditions refused sources weights cube whole.schema are new cells;
+  counted = λ unspent. counted-new conditions refused sources weights cube s are new cells;
 })
 
 -- its cube has all facts of interest

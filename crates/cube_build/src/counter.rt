@@ -83,8 +83,7 @@ impl<'c, N: Numbers> Counter<'c, N> {
         ensures { IfOk result (IsNewCounter schema.now sources conditions.now) }
     {
         let refused = Ledger::new(alloc, schema, sources)?;
-        let whole: Cube<N> = Cube::of_part(alloc, schema, 0, 1)?;
-        let cube = whole.finest()?;
+        let cube = Cube::finest_over(alloc, schema)?;
         let weights = vec![in alloc; 0u64; sources as usize]?;
         let trace = LedgerTrace::of(&refused);
         Ok(Counter {
