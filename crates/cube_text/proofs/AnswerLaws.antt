@@ -1,20 +1,12 @@
 -- Laws of answers: those of a cell are taken one by one.
-use Rattle.std.proofs.Common.{◌≡◌, ◌∙◌, ◌&&◌, ◌+◌, ◌/◌, ◌%◌, ◌^◌, ◌++◌, ◌<◌, ◌≤◌, ◌∷◌, [], ℕ, ℤ, List, length, take, get_or}
-use Rattle.std.proofs.Common.{arith, false, true, refl, ap, ap₂, sym, rules, length-append}
-use Rattle.std.specs.Prelude.{nat_eq}
-use Rattle.std.specs.Bool.{Decides}
-use Rattle.std.specs.Ordering.{int_eq}
-use Rattle.std.proofs.lemmas.Bool.{and_from, and_parts}
-use Rattle.std.proofs.lemmas.Bool.Decides.{Decides-eqb, Decides-int_eq}
-use Rattle.std.proofs.lemmas.List.{append-nil, get_or-map, length-map, length-take, length-take-le, take_all, take_more}
+use Rattle.std.proofs.Common.{◌≡◌, ◌∙◌, ◌+◌, ◌++◌, ◌<◌, ◌∷◌, [], ℕ, List, length, take, get_or}
+use Rattle.std.proofs.Common.{arith, refl, ap, sym, length-append}
+use Rattle.std.proofs.lemmas.List.{append-nil, get_or-map, length-map, take_all, take_more}
 use Rattle.std.proofs.Math.Seq.{get_or-append_seam, take-append_seam}
-use Rattle.std.proofs.lemmas.Slice.Eq.{slice_eq-Decides}
 use Rattle.cube_core.proofs.ListLaws.{AllZip-push}
 use Rattle.cube_core.specs.Answer.{IsAnswer}
 use Rattle.cube_core.specs.Layout.{Layout}
 use Rattle.cube_core.specs.Text.{answer_text, answer_texts, digits_of, digits_of_answers}
-use Rattle.cube_core.specs.contracts.aggregate.AnswerPartialEq.TheImpl as AnswerPartialEq
-use Rattle.cube_core.specs.declared.aggregate.Agg.{Agg}
 use Rattle.cube_core.specs.declared.aggregate.Agg.TheVariants.{CountAll}
 use Rattle.cube_core.specs.declared.aggregate.Answer.{Answer}
 use Rattle.cube_core.specs.declared.aggregate.Answer.TheVariants as answer
