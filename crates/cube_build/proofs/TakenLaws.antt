@@ -54,10 +54,7 @@ counts-cells refused ledger cube cells are schema all = record {
   has = record { cells = all.cells; facts_are = all.facts_are };
 }
 
--- a ledger has its own refusals, with its facts and without them
-pub refused_with : (ledger : LedgerView) → AreRefusedOf ledger ledger
-refused_with ledger = record { schema = refl; refusals = refl }
-
+-- a ledger has its own refusals without its facts
 pub refused_without : (now ledger : LedgerView) → now ≡ ledger_without_facts ledger → AreRefusedOf now ledger
 refused_without now ledger forgotten =
     rw forgotten (record { schema = refl; refusals = refusals-without_facts ledger.accounts })

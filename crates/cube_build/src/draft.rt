@@ -19,9 +19,6 @@ use std::alloc::{AllocError, Global};
 use std::marker::Model;
 use std::thread::Threads;
 
-/// How many facts there are at least for each cell over the finest grouping set where cells are few.
-const FACTS_A_CELL: u64 = 8;
-
 /// A ledger, and the cube that is filled with the facts of its books when all feeds have ended.
 #[derive(Drop)]
 pub(crate) struct Draft<N: Numbers> {
@@ -108,6 +105,7 @@ impl<N: Numbers> Draft<N> {
     }
 
     // Takes the next item of a source. The only error is that memory ran out.
+    #[inline(always)]
     fn apply(&mut self, source: u32, item: FeedItem) -> Result<(), AllocError>
         requires { (1 ≤ source) × (source ≤ length self.old.ledger.accounts) }
         ensures sources { length self.new.ledger.accounts ≡ length self.old.ledger.accounts }
@@ -139,37 +137,25 @@ impl Draft<Counted> {
 }
 
 impl<N: Numbers + Send + Sync> Draft<N> {
-    /// The counts of the ledger over the finest grouping set alone, made by so many threads; where the cells are many, the
-    /// books are let go of. The only error is that memory ran out.
+    /// The counts of the ledger over the finest grouping set alone, made by so many threads; the books are let go of. The only
+    /// error is that memory ran out.
     pub fn finest<T: Threads + Sync>(self, rt: &T, threads: usize) -> Result<Counts<N>, AllocError>
         ensures { IfOk result (AreFinestCounts self.ledger) }
     {
         let cube = finest_with(rt, threads, &self.cube, &self.ledger)?;
         let trace = LedgerTrace::of(&self.ledger);
-        let refused = refusals_of(self.ledger, has_few_cells(&cube));
+        let refused = refusals_of(rt, self.ledger);
         Ok(Counts::new(refused, cube, trace))
     }
 }
 
-// Whether cells over the finest grouping set are few beside their facts.
-fn has_few_cells<N: Numbers>(cube: &Cube<N>) -> bool {
-    match cube.count_cells() {
-        Ok(cells) => cells.saturating_mul(FACTS_A_CELL) <= cube.facts(),
-        Err(_) => false,
-    }
-}
-
-// A ledger with the refusals of this one. Where the cells that were made of it are few, its books stay: to let go of each of
-// their facts would take longer than the room is worth that the text of the cells takes.
-#[tactic(auto, using(crate::proofs::TakenLaws::refused_with, crate::proofs::TakenLaws::refused_without))]
-fn refusals_of(ledger: Ledger, has_few_cells: bool) -> Ledger
+// A ledger with the refusals of this one, and no fact.
+#[tactic(auto, using(crate::proofs::TakenLaws::refused_without))]
+fn refusals_of<T: Threads>(rt: &T, ledger: Ledger) -> Ledger
     ensures { AreRefusedOf result ledger }
 {
-    if has_few_cells {
-        return ledger;
-    }
     let mut refused = ledger;
-    refused.forget();
+    refused.forget(rt);
     refused
 }
 

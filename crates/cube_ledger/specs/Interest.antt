@@ -1,5 +1,5 @@
 -- Ledgers of the facts of interest alone (this project's choice).
-use Rattle.std.specs.Prelude.{ℕ, List, map, filter}
+use Rattle.std.specs.Prelude.{List, map, filter}
 use Rattle.cube_core.specs.Conditions.{hold}
 use Rattle.cube_core.specs.declared.condition.Condition.{Condition}
 use Rattle.cube_ledger.specs.Book.{Entries}

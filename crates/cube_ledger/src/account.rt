@@ -15,6 +15,7 @@ use cube_core::{
 };
 use std::alloc::{AllocError, Global};
 use std::marker::Model;
+use std::mem::replace;
 
 /// The book of a source, and its refusals in the order of its items.
 #[derive(Drop)]
@@ -49,12 +50,13 @@ impl Account {
         self.book.keep(conditions);
     }
 
-    /// Lets go of the facts of the book, and of the memory that they take; the refusals stay. A book with this hash key takes
-    /// its place. It takes no memory.
-    pub(crate) fn forget(&mut self, alloc: Global, key: HashKey)
-        ensures { self.new ≡ without_facts self.old }
+    /// Takes the book out, with its facts; the refusals stay. A book with this hash key and no fact takes its place. It takes no
+    /// memory.
+    pub(crate) fn take_book(&mut self, alloc: Global, key: HashKey) -> Book
+        ensures book { result ≡ self.old.book }
+        ensures left { self.new ≡ without_facts self.old }
     {
-        self.book = Book::new(alloc, key);
+        replace(&mut self.book, Book::new(alloc, key))
     }
 
     /// What an item comes to whose change, where it says one, the schema takes: its refusal, a fact that is put under
@@ -138,6 +140,7 @@ impl Account {
     /// Takes an item whose change, where it says one, the schema takes: a refused one is noted with its code, and the
     /// change of any other is made in the book. Where memory runs out, the account is as it was, and the item is
     /// given up.
+    #[inline(always)]
     pub(crate) fn enter(&mut self, schema: &Schema, item: Item) -> Result<(), AllocError>
         requires all_fit { AllFit schema.now (facts_of self.old.book) }
         requires taken { says_taken schema.now item.what ≡ true }

@@ -14,6 +14,11 @@ use cube_core::{Change, Condition, Fact, HashKey, Item, LineFault, Refusal, Sche
 use cube_feed::FeedItem;
 use std::alloc::{AllocError, Global};
 use std::marker::Model;
+use std::thread;
+use std::thread::Threads;
+
+/// How many facts a book has at least that is freed on a thread of its own.
+const LARGE: usize = 4_096;
 
 /// The books and the refusals of 1 to 64 sources, each known by its number from 1.
 #[derive(Drop)]
@@ -203,13 +208,14 @@ impl Ledger {
         }
     }
 
-    /// Lets go of the facts of every book, and of the memory that they take; schema, sources and refusals stay. It takes no
-    /// memory.
-    pub fn forget(&mut self)
+    /// Lets go of the facts of every book; schema, sources and refusals stay. It takes no memory.
+    ///
+    /// A thread that nobody waits for frees the memory of a large book; where none can be started, it is freed at once.
+    pub fn forget<T: Threads>(&mut self, rt: &T)
         ensures { self.new ≡ ledger_without_facts self.old }
     {
         let key = self.schema.hash_key();
-        forget_facts(self.accounts.as_mut_slice(), self.alloc, key);
+        forget_facts(rt, self.accounts.as_mut_slice(), self.alloc, key);
     }
 
     // What an item does to the account of its source, where it was seen whether the schema takes its change.
@@ -287,12 +293,22 @@ fn keep_of_interest(accounts: &mut [Account], conditions: &[Condition])
 }
 
 // Lets go of the facts of every account.
-fn forget_facts(accounts: &mut [Account], alloc: Global, key: HashKey)
+fn forget_facts<T: Threads>(rt: &T, accounts: &mut [Account], alloc: Global, key: HashKey)
     ensures { accounts.new ≡ map without_facts accounts.old }
 {
     for account in accounts.iter_mut() {
-        account.forget(alloc, key);
+        free_aside(rt, account.take_book(alloc, key));
     }
+}
+
+// Frees a book, a large one on a thread that nobody waits for.
+fn free_aside<T: Threads>(rt: &T, book: Book) {
+    if book.len() < LARGE {
+        drop(book);
+        return;
+    }
+    // Where no thread can be started, the book is freed here.
+    let _freeing = thread::spawn(rt, move || drop(book));
 }
 
 // Puts the facts of a book behind others. The only error is that memory ran out.

@@ -6,7 +6,7 @@ use Rattle.cube_ledger.proofs.InterestLaws.{written-back}
 use Rattle.cube_ledger.proofs.ledger.Ledger.forget.Goals as goal
 
 pub invariant_of-self : goal.invariant_of-self
-invariant_of-self c =
+invariant_of-self g c =
     let old = c.self.inside.accounts in
     let new = c.forget_facts.new.accounts in
     let kept : new ≡ map without_facts old.items =
