@@ -1,5 +1,5 @@
 -- Facts that are gathered into a cube over the finest grouping set alone (this project's choice).
-use Rattle.std.specs.Prelude.{◌≡◌, ◌==◌, ◌+◌, ◌-◌, ◌<◌, ◌%◌, ◌++◌, ℕ, List, [], ◌∷◌, filter, get_or, length, map}
+use Rattle.std.specs.Prelude.{◌≡◌, ◌==◌, ◌<◌, ◌%◌, ◌^◌, ◌++◌, ℕ, List, [], ◌∷◌, filter, get_or, length, map}
 use Rattle.std.specs.Prelude.{sum_by, true, Option, Some, None}
 use Rattle.cube_core.specs.Layout.{Layout}
 use Rattle.cube_core.specs.declared.fact.Fact.{Fact}
@@ -33,14 +33,18 @@ pub record OnlyAddsTexts (old new : Lattice) : Type 0 where
   pub codes_stay : (fact : Fact) (codes : Codes) → AreCodesOfFact old.dictionaries fact codes
       → AreCodesOfFact new.dictionaries fact codes
 
--- the first byte of a text and its last, added; 0 of the empty text and of null
-abbrev pub end_bytes_of : Option (List ℕ) → ℕ
-end_bytes_of None = 0
-end_bytes_of (Some text) = get_or text 0 0 + get_or text (length text - 1) 0
+-- the sum of the bytes of a text, modulo 2 to the power 32; 0 of null
+abbrev pub bytes_sum_of : Option (List ℕ) → ℕ
+bytes_sum_of None = 0
+bytes_sum_of (Some text) = sum_by (λ byte. byte) text % 2 ^ 32
 
--- the share of a fact, of so many: the sum of the end bytes of its values, modulo their number
+-- the share of a fact, of so many: the sum of the bytes of its values, modulo their number
 abbrev pub share_of_fact : ℕ → Fact → ℕ
-share_of_fact shares fact = sum_by end_bytes_of fact.dims % shares
+share_of_fact shares fact = sum_by bytes_sum_of fact.dims % shares
+
+-- these marks are the shares of facts, of so many
+abbrev pub AreMarks : ℕ → List Fact → List ℕ → Type 0
+AreMarks shares facts marks = marks ≡ map (share_of_fact shares) facts
 
 -- a cube has the facts of a share, of so many
 abbrev pub HasGatheredShare : Layout → List Fact → ℕ → ℕ → Lattice → Type 0

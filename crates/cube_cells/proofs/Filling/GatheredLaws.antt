@@ -1,11 +1,11 @@
 -- Laws of cubes that facts are gathered into, one after another or share by share.
 use Rattle.std.proofs.Common.{◌≡◌, ◌==◌, ◌+◌, ◌-◌, ◌<◌, ◌≤◌, ◌∷◌, ◌++◌, ◌∙◌, Bool, Bor, List, [], ℕ, zero, suc, true, false}
-use Rattle.std.proofs.Common.{ap, append_assoc, arith, drop, filter, get_or, inl, inr, length, map, nat_lt, refl, subst, sym, take}
+use Rattle.std.proofs.Common.{ap, append_assoc, arith, drop, filter, get_or, inl, inr, length, map, nat_lt, refl, replicate, subst, sym, take}
 use Rattle.std.specs.List.{AllZip}
 use Rattle.std.specs.declared.alloc.AllocError.{AllocError}
 use Rattle.std.specs.List.Sorted.{IsPermutation}
 use Rattle.std.specs.Prelude.{All, Err, IfOk, Ok, Result, slice_range, sum_by}
-use Rattle.std.proofs.Math.Nat.{mod-lt}
+use Rattle.std.proofs.Math.Nat.{mod-lt, mod-one}
 use Rattle.std.proofs.lemmas.Bool.{cases_Bool, cases_order, eq-eqb, le-ltb, lt-ltb, ltb-false, ltb-true, ne_eqb}
 use Rattle.std.proofs.lemmas.List.{append-nil, drop-map, drop-take, get_or-map, length-append, length-map}
 use Rattle.std.proofs.lemmas.List.{take-append-drop, take-map, take-take, take_more}
@@ -24,7 +24,7 @@ use Rattle.cube_cells.specs.Coded.{lattice_of}
 use Rattle.cube_cells.specs.Cube.{AddsFact, Lattice, IsCubeOf, IsNewLattice, SameSets}
 use Rattle.cube_cells.specs.Fill.{AreMade, IsCubeOfAll, finest_set}
 use Rattle.cube_cells.specs.Gathered.{AreCodesOfFact, AreShares, GathersMore, HasGathered, HasGatheredShare}
-use Rattle.cube_cells.specs.Gathered.{OnlyAddsTexts, end_bytes_of, share_of_fact}
+use Rattle.cube_cells.specs.Gathered.{AreMarks, OnlyAddsTexts, bytes_sum_of, share_of_fact}
 use Rattle.cube_cells.specs.Levels.{IsLeveled, cells_of}
 use Rattle.cube_cells.specs.declared.cube.codes.Codes.{Codes}
 use Rattle.cube_cells.specs.declared.cube.levels.Level.{Level}
@@ -212,6 +212,53 @@ pub All-range : (P : Fact → Type 0) (refs : List (Bor Fact)) (start end : ℕ)
 All-range P refs start end all = rw (facts_of_range refs start end)
     (All-take P (end - start) (drop start (map (λ r. r.now) refs)) (All-drop P start (map (λ r. r.now) refs) all))
 
+-- so are their shares
+pub AreMarks-range : (shares : ℕ) (refs : List (Bor Fact)) (marks : List ℕ) (start end : ℕ)
+    → AreMarks shares (map (λ r. r.now) refs) marks
+    → AreMarks shares (map (λ r. r.now) (slice_range refs start end)) (slice_range marks start end)
+AreMarks-range shares refs marks start end are =
+    let facts : List Fact = map (λ r. r.now) refs in
+    ap (λ (l : List ℕ). take (end - start) (drop start l)) are
+    ∙ ap (λ (l : List ℕ). take (end - start) l) (drop-map (share_of_fact shares) start facts)
+    ∙ take-map (share_of_fact shares) (end - start) (drop start facts)
+    ∙ ap (λ (l : List Fact). map (share_of_fact shares) l) (sym (facts_of_range refs start end))
+
+-- they are as many as the facts
+pub AreMarks-length : (shares : ℕ) (refs : List (Bor Fact)) (marks : List ℕ)
+    → AreMarks shares (map (λ r. r.now) refs) marks → length marks ≡ length refs
+AreMarks-length shares refs marks are =
+    ap length are ∙ length-map (map (λ (r : Bor Fact). r.now) refs) (share_of_fact shares)
+    ∙ length-map refs (λ (r : Bor Fact). r.now)
+
+-- the mark at a place is the share of the fact there
+pub AreMarks-place : (shares : ℕ) (refs : List (Bor Fact)) (marks : List ℕ) (i : ℕ) (fact : Bor Fact)
+    → AreMarks shares (map (λ r. r.now) refs) marks → i < length refs → fact ≡ get_or refs i fact
+    → get_or marks i 0 ≡ share_of_fact shares fact.now
+AreMarks-place shares refs marks i fact are inside is =
+    ap (λ (l : List ℕ). get_or l i 0) are
+    ∙ get_or-map (share_of_fact shares) (map (λ (r : Bor Fact). r.now) refs) i fact.now 0
+    (within refs i fact inside is)
+    ∙ ap (share_of_fact shares) (fact_at refs i fact inside is)
+
+-- all facts are in the share 0 of one
+pub AreMarks-one : (facts : List Fact) → AreMarks 1 facts (replicate (length facts) 0)
+AreMarks-one [] = refl
+AreMarks-one (fact ∷ facts) =
+    ap (λ (m : ℕ). m ∷ replicate (length facts) 0) (sym (mod-one (sum_by bytes_sum_of fact.dims)))
+    ∙ ap (λ (l : List ℕ). share_of_fact 1 fact ∷ l) (AreMarks-one facts)
+
+-- marks that are at each place the share of the fact there
+pub AreMarks-each : (shares : ℕ) (facts : List Fact) (marks : List ℕ) → length marks ≡ length facts
+    → ((i : ℕ) (unused : Fact) → i < length facts → get_or marks i 0 ≡ share_of_fact shares (get_or facts i unused))
+    → AreMarks shares facts marks
+AreMarks-each shares [] [] long each = refl
+AreMarks-each shares [] (mark ∷ marks) long each = absurd (omega (arith, long))
+AreMarks-each shares (fact ∷ facts) [] long each = absurd (omega (arith, long))
+AreMarks-each shares (fact ∷ facts) (mark ∷ marks) long each =
+    ap (λ (m : ℕ). m ∷ marks) (each 0 fact (omega arith))
+    ∙ ap (λ (l : List ℕ). share_of_fact shares fact ∷ l) (AreMarks-each shares facts marks (omega (arith, long))
+    (λ i unused inside. each (suc i) unused (omega (arith, inside))))
+
 -- they come next
 take_range : (facts : List Fact) (start more : ℕ)
     → take (start + more) facts ≡ take start facts ++ take more (drop start facts)
@@ -341,7 +388,7 @@ pub HasGathered-all_shares : (schema : Layout) (facts : List Fact) (shares : ℕ
     → HasGathered schema (below (share_of_fact shares) shares facts) cube → HasGathered schema facts cube
 HasGathered-all_shares schema facts shares cube some has =
     rw (below_all (share_of_fact shares) shares facts
-    (λ fact. mod-lt (sum_by end_bytes_of fact.dims) some)) at has
+    (λ fact. mod-lt (sum_by bytes_sum_of fact.dims) some)) at has
 
 -- the cubes of all shares, where each was made
 pub AreShares-made : (schema : Layout) (facts : List Fact) (shares : ℕ) (cubes : List Lattice)

@@ -1,11 +1,11 @@
 //! The finest cells of many facts at once: each thread gathers a share of the facts, and what the shares have is merged.
-ghost use Rattle.std.specs.Prelude.{◌≡◌, ◌<◌, ◌≤◌, ◌==◌, ◌∷◌, ◌++◌, [], true, filter, length, map, option_map, All, IfOk, OnOk, List, if◌then◌else◌};
+ghost use Rattle.std.specs.Prelude.{◌≡◌, ◌<◌, ◌≤◌, ◌==◌, ◌∷◌, ◌++◌, [], true, filter, get_or, length, map, option_map, All, IfOk, OnOk, List, ℕ, if◌then◌else◌};
 ghost use Rattle.std.specs.List.{AllZip};
 ghost use Rattle.cube_core.specs.Layout.{Layout};
 ghost use Rattle.cube_core.specs.Takes.{fits};
 ghost use Rattle.cube_core.specs.declared.fact.Fact.{Fact};
 ghost use Rattle.cube_cells.specs.Fill.{AreMade, IsCubeOfAll, finest_set};
-ghost use Rattle.cube_cells.specs.Gathered.{AreCodesOfFact, AreShares, GathersMore, HasGathered, HasGatheredShare, OnlyAddsTexts, end_bytes_of, share_of_fact};
+ghost use Rattle.cube_cells.specs.Gathered.{AreCodesOfFact, AreMarks, AreShares, GathersMore, HasGathered, HasGatheredShare, OnlyAddsTexts, bytes_sum_of, share_of_fact};
 
 use super::Cube;
 use super::codes::Codes;
@@ -14,13 +14,13 @@ use super::sorting::FEW;
 use cube_core::{Fact, Schema};
 use cube_values::Numbers;
 use std::alloc::{AllocError, Global};
-use std::thread::{Threads, map_indices};
+use std::thread::{Threads, for_each_mut, map_indices};
 
 // How many facts are looked at, before those of a share among them are gathered. So many facts and codes lie in the second
 // cache, and the loop that counts them is short, so that the processor waits for several cells at a time.
 const AT_ONCE: usize = 1_024;
 
-// The most shares that facts are gathered in: each thread looks at all facts.
+// The most shares that facts are gathered in: each thread looks at the shares of all facts.
 const MOST_SHARES: usize = 8;
 
 impl<N: Numbers + Send + Sync> Cube<N> {
@@ -59,11 +59,72 @@ fn gathered_in_shares<T: Threads + Sync, N: Numbers + Send + Sync>(
     shares: u32,
 ) -> Result<Cube<N>, AllocError>
     requires some { 0 < shares }
+    requires few { shares ≤ 8 }
     requires fit { All (λ fact. fits schema.now fact ≡ true) (map (λ fact. fact.now) facts.now) }
     ensures { IfOk result (HasGathered schema.now (map (λ fact. fact.now) facts.now)) }
 {
-    let made = gathered_shares(rt, alloc, schema, facts, shares)?;
+    let marks = shares_of(rt, alloc, schema.dimensions().len(), facts, shares)?;
+    let made = gathered_shares(rt, alloc, schema, facts, &marks, shares)?;
     merged_shares(alloc, schema, all_made(alloc, made)?)
+}
+
+// The share of each fact, of so many shares. As many threads each find those of a range of the facts; with one share no thread
+// is started, and no fact is looked at.
+fn shares_of<T: Threads + Sync>(
+    rt: &T,
+    alloc: Global,
+    dimensions: usize,
+    facts: &[&Fact],
+    shares: u32,
+) -> Result<Vec<u8>, AllocError>
+    requires some { 0 < shares }
+    requires few { shares ≤ 8 }
+    requires places { dimensions ≤ 8 }
+    requires width { All (λ fact. length fact.dims ≡ dimensions) (map (λ fact. fact.now) facts.now) }
+    ensures { IfOk result (λ marks. AreMarks shares (map (λ fact. fact.now) facts.now) marks.items) }
+{
+    let mut marks = vec![in alloc; 0u8; facts.len()]?;
+    if shares == 1 {
+        return Ok(marks);
+    }
+    find_shares(rt, dimensions, facts, shares, &mut marks);
+    Ok(marks)
+}
+
+// Writes the share of each fact at its place, on as many threads as there are shares.
+fn find_shares<T: Threads + Sync>(
+    rt: &T,
+    dimensions: usize,
+    facts: &[&Fact],
+    shares: u32,
+    marks: &mut [u8],
+)
+    requires some { 0 < shares }
+    requires few { shares ≤ 8 }
+    requires places { dimensions ≤ 8 }
+    requires width { All (λ fact. length fact.dims ≡ dimensions) (map (λ fact. fact.now) facts.now) }
+    requires long { length marks.old ≡ length facts.now }
+    ensures { AreMarks shares (map (λ fact. fact.now) facts.now) marks.new }
+{
+    for_each_mut(
+        rt,
+        marks,
+        shares as usize,
+        &|place, mark| *mark = share_at(facts, place, dimensions, shares),
+    );
+}
+
+// The share of the fact at a place.
+fn share_at(facts: &[&Fact], place: usize, dimensions: usize, shares: u32) -> u8
+    requires some { 0 < shares }
+    requires few { shares ≤ 8 }
+    requires places { dimensions ≤ 8 }
+    requires width { All (λ fact. length fact.dims ≡ dimensions) (map (λ fact. fact.now) facts.now) }
+    requires place { place < length facts.now }
+    ensures { (unused : Fact) →
+        result ≡ share_of_fact shares (get_or (map (λ fact. fact.now) facts.now) place unused) }
+{
+    share_of(facts[place], dimensions, shares)
 }
 
 // The cube of each share of facts over the finest grouping set, each gathered on a thread of its own.
@@ -72,10 +133,12 @@ fn gathered_shares<T: Threads + Sync, N: Numbers + Send + Sync>(
     alloc: Global,
     schema: &Schema,
     facts: &[&Fact],
+    marks: &[u8],
     shares: u32,
 ) -> Result<Vec<Result<Cube<N>, AllocError>>, AllocError>
     requires some { 0 < shares }
     requires fit { All (λ fact. fits schema.now fact ≡ true) (map (λ fact. fact.now) facts.now) }
+    requires marks { AreMarks shares (map (λ fact. fact.now) facts.now) marks.now }
     ensures { IfOk result (λ made. AreMade (HasGatheredShare schema.now (map (λ fact. fact.now) facts.now) shares)
         shares made.items) }
 {
@@ -83,7 +146,7 @@ fn gathered_shares<T: Threads + Sync, N: Numbers + Send + Sync>(
         rt,
         alloc,
         shares as usize,
-        &|share| gathered_share(alloc, schema, facts, share as u32, shares),
+        &|share| gathered_share(alloc, schema, facts, marks, share as u32),
     )
 }
 
@@ -118,49 +181,48 @@ fn merged_with<N: Numbers>(first: Cube<N>, second: Cube<N>) -> Result<Cube<N>, A
     first.merged(second)
 }
 
-// The cube of the facts of a share over the finest grouping set, into which one lot after another is gathered.
+// The cube of the facts of a share over the finest grouping set, into which one lot after another is gathered. The marks say
+// which share each fact is in.
 fn gathered_share<N: Numbers>(
     alloc: Global,
     schema: &Schema,
     facts: &[&Fact],
+    marks: &[u8],
     share: u32,
-    shares: u32,
 ) -> Result<Cube<N>, AllocError>
-    requires some { 0 < shares }
     requires fit { All (λ fact. fits schema.now fact ≡ true) (map (λ fact. fact.now) facts.now) }
-    ensures { IfOk result (HasGatheredShare schema.now (map (λ fact. fact.now) facts.now) shares share) }
+    requires marks { (shares : ℕ) × AreMarks shares (map (λ fact. fact.now) facts.now) marks.now }
+    ensures { IfOk result (λ cube. (shares : ℕ) → AreMarks shares (map (λ fact. fact.now) facts.now) marks.now →
+        HasGatheredShare schema.now (map (λ fact. fact.now) facts.now) shares share cube) }
 {
     let mut cube = Cube::finest_over(alloc, schema)?;
-    let dimensions = schema.dimensions().len();
     let mut picked = Vec::new(alloc);
     let mut codes = Vec::new(alloc);
     let mut done = 0;
     while done < facts.len() {
         let end = done + (facts.len() - done).min(AT_ONCE);
-        pick(&facts[done..end], dimensions, share, shares, &mut picked)?;
+        pick(&facts[done..end], &marks[done..end], share, &mut picked)?;
         gather_lot(&mut cube, &picked, &mut codes)?;
         done = end;
     }
     Ok(cube)
 }
 
-// Puts the facts of a share in place of those that were picked before.
+// Puts the facts with the mark of a share in place of those that were picked before. It looks at no other fact.
 fn pick<'f>(
     facts: &[&'f Fact],
-    dimensions: usize,
+    marks: &[u8],
     share: u32,
-    shares: u32,
     picked: &mut Vec<&'f Fact>,
 ) -> Result<(), AllocError>
-    requires some { 0 < shares }
-    requires few { dimensions ≤ 8 }
-    requires width { All (λ fact. length fact.dims ≡ dimensions) (map (λ fact. fact.now) facts.now) }
-    ensures { OnOk result (map (λ fact. fact.now) picked.new.items
+    requires { length marks.now ≡ length facts.now }
+    ensures { OnOk result ((shares : ℕ) → AreMarks shares (map (λ fact. fact.now) facts.now) marks.now →
+        map (λ fact. fact.now) picked.new.items
         ≡ filter (λ fact. share_of_fact shares fact == share) (map (λ fact. fact.now) facts.now)) }
 {
     picked.clear();
-    for fact in facts {
-        push_if(picked, *fact, share_of(*fact, dimensions, shares) == share)?;
+    for place in 0..marks.len() {
+        push_if(picked, facts[place], u32::from(marks[place]) == share)?;
     }
     Ok(())
 }
@@ -181,32 +243,32 @@ fn push_if<'f>(
 }
 
 // The share of a fact of so many dimensions, of so many shares: no two facts of one key are in different ones.
-fn share_of(fact: &Fact, dimensions: usize, shares: u32) -> u32
+fn share_of(fact: &Fact, dimensions: usize, shares: u32) -> u8
     requires some { 0 < shares }
-    requires few { dimensions ≤ 8 }
+    requires few { shares ≤ 8 }
+    requires places { dimensions ≤ 8 }
     requires width { length fact.now.dims ≡ dimensions }
     ensures { result ≡ share_of_fact shares fact.now }
 {
     let mut sum = 0;
     for place in 0..dimensions {
-        sum += end_bytes(fact.dims.get(place));
+        sum += u64::from(bytes_sum(fact.dims.get(place)));
     }
-    sum % shares
+    (sum % u64::from(shares)) as u8
 }
 
-// The first byte of a text and its last, added; 0 of the empty text and of null.
-fn end_bytes(value: Option<&str>) -> u32
-    ensures value { result ≡ end_bytes_of (option_map (λ text. text.now) value.entry) }
-    ensures few { result ≤ 510 }
+// The sum of the bytes of a text, modulo 2 to the power 32; 0 of null.
+fn bytes_sum(value: Option<&str>) -> u32
+    ensures { result ≡ bytes_sum_of (option_map (λ text. text.now) value.entry) }
 {
     let Some(text) = value else {
         return 0;
     };
-    let bytes = text.as_bytes();
-    match (bytes.first(), bytes.last()) {
-        (Some(first), Some(last)) => u32::from(*first) + u32::from(*last),
-        _ => 0,
+    let mut sum: u32 = 0;
+    for byte in text.as_bytes() {
+        sum = sum.wrapping_add(u32::from(*byte));
     }
+    sum
 }
 
 // Gathers a lot of facts: first it finds the codes of all, and then it counts them.
