@@ -7,6 +7,7 @@ use Rattle.cube_cells.specs.Coded.{CodedCells, AreNewCells, IsCoded, coded_at}
 use Rattle.cube_cells.specs.Cube.{cell_holds}
 use Rattle.cube_cells.specs.Walk.{key_in, HasRoom, AddsIn, TakesIn, SameCoded, AreApart}
 use Rattle.std.specs.HashMap.{hasher_of}
+use Rattle.std.specs.List.Sorted.{IsPermutation}
 use Rattle.cube_cells.specs.declared.cube.cell_key.CellKey.{CellKey}
 use Rattle.cube_cells.specs.declared.cube.codes.Codes.{Codes}
 use Rattle.cube_cells.specs.declared.cube.levels.Level.{Level}
@@ -51,6 +52,11 @@ table_at (level ∷ levels) codes =
 pub record IsNewLevel {N : Type 0} (measures set : ℕ) (level : Level N) : Type 0 where
   pub set_is : level.set ≡ set
   pub new : AreNewCells (set == 0) measures level.cells.entries
+
+-- a level has the cells it had, in any order
+pub record IsReordered {N : Type 0} (old new : Level N) : Type 0 where
+  pub same_set : new.set ≡ old.set
+  pub moved : IsPermutation old.cells.entries new.cells.entries
 
 -- the codes of a level's cells are hashed under this key
 abbrev pub IsUnderKey : {N : Type 0} → CellKey → Level N → Type 0

@@ -21,14 +21,14 @@ use Rattle.cube_core.specs.Takes.{fits}
 use Rattle.cube_core.specs.declared.fact.Fact.{Fact}
 use Rattle.cube_cells.specs.Codes.{Dictionaries, IsDictionary, coord_of_value}
 use Rattle.cube_cells.specs.Coded.{lattice_of}
-use Rattle.cube_cells.specs.Cube.{AddsFact, Lattice, IsCubeOf, IsNewLattice, SameSets}
+use Rattle.cube_cells.specs.Cube.{AddsFact, Lattice, IsCubeOf, IsNewLattice, SameCells, SameSets}
 use Rattle.cube_cells.specs.Fill.{AreMade, IsCubeOfAll, finest_set}
 use Rattle.cube_cells.specs.Gathered.{AreCodesOfFact, AreShares, GathersMore, HasGathered, HasGatheredShare}
 use Rattle.cube_cells.specs.Gathered.{AreMarks, OnlyAddsTexts, bytes_sum_of, share_of_fact}
 use Rattle.cube_cells.specs.Levels.{IsLeveled, cells_of}
 use Rattle.cube_cells.specs.declared.cube.codes.Codes.{Codes}
 use Rattle.cube_cells.specs.declared.cube.levels.Level.{Level}
-use Rattle.cube_cells.proofs.Cells.CubeLaws.{IsCubeOf-AddsFact, IsCubeOf-permutation}
+use Rattle.cube_cells.proofs.Cells.CubeLaws.{IsCubeOf-AddsFact, IsCubeOf-SameCells, IsCubeOf-permutation}
 use Rattle.cube_cells.proofs.Filling.RangeLaws.{made_each}
 use Rattle.cube_cells.proofs.Codes.GrowthLaws.{AreCodesOf-AreGrown, AreGrown, IsCodedCell-AreGrown, are_codes-AreGrown}
 
@@ -164,6 +164,21 @@ pub GathersMore-OnlyAddsTexts : (facts : List Fact) (old middle new : Lattice) �
 GathersMore-OnlyAddsTexts facts old middle new only more = record {
   gathers = λ schema before has.
       more.gathers schema before (HasGathered-OnlyAddsTexts schema before old middle only has);
+}
+
+-- what is gathered after cells were moved is gathered
+pub GathersMore-SameCells : (facts : List Fact) (old middle new : Lattice) → SameCells old middle
+    → GathersMore facts middle new → GathersMore facts old new
+GathersMore-SameCells facts old middle new same more = record {
+  gathers = λ schema before has. more.gathers schema before (record {
+    schema_is = same.same.schema ∙ has.schema_is;
+    sets_are = same.same.sets ∙ has.sets_are;
+    all = record {
+      fit = rw same.same.schema has.all.fit;
+      cells = IsCubeOf-SameCells old middle before same has.all.cells;
+      facts_are = same.facts ∙ has.all.facts_are;
+    };
+  });
 }
 
 -- ---- facts at their places

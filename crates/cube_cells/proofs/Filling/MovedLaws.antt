@@ -1,26 +1,33 @@
 -- Laws of cells in another order.
-use Rattle.std.proofs.Common.{◌≡◌, ◌*◌, ◌∙◌, ℕ, List, Option, Some, None, ap, arith, inl, inr, length, refl, sym}
+use Rattle.std.proofs.Common.{◌≡◌, ◌*◌, ◌<◌, ◌∙◌, ◌∷◌, [], ℕ, List, Option, Some, None, ap, arith, inl, inr, length, refl}
+use Rattle.std.proofs.Common.{get_or, set, suc, sym, zero}
+use Rattle.std.specs.List.{AllZip}
 use Rattle.std.specs.Prelude.{All, is_some}
 use Rattle.std.specs.Map.{keys_of}
 use Rattle.std.specs.List.Sorted.{IsPermutation}
 use Rattle.std.proofs.lemmas.Bool.{cases_eq}
 use Rattle.std.proofs.lemmas.List.Sorted.{All-permutation, Contains-permutation, IsPermutation-map}
-use Rattle.std.proofs.lemmas.List.Sorted.{IsPermutation-sym, sum_by-IsPermutation}
+use Rattle.std.proofs.lemmas.List.Elements.{All-cons, All-head, All-tail}
+use Rattle.std.proofs.lemmas.List.Sorted.{IsPermutation-append, IsPermutation-refl, IsPermutation-sym}
+use Rattle.std.proofs.lemmas.List.Sorted.{IsPermutation-trans, sum_by-IsPermutation}
 use Rattle.std.proofs.lemmas.Map.Keys.{IsDistinct-IsPermutation}
 use Rattle.std.proofs.lemmas.Map.Views.{Contains-from_lookup, lookup-from_Contains}
 use Rattle.cube_core.specs.Layout.{Layout}
 use Rattle.cube_core.specs.declared.fact.Fact.{Fact}
 use Rattle.cube_core.specs.declared.key.Key.{Key}
 use Rattle.cube_cells.specs.Codes.{Dictionaries}
-use Rattle.cube_cells.specs.Coded.{CodedCells, IsCodedCell, coded_at, decoded, same_codes, total_codes}
-use Rattle.cube_cells.specs.Cube.{cell_at}
+use Rattle.cube_cells.specs.Coded.{CodedCells, IsCodedCell, coded_at, decoded, lattice_of, same_codes, total_codes}
+use Rattle.cube_cells.specs.Cube.{SameCells, cell_at}
+use Rattle.cube_cells.specs.Levels.{IsLeveled, IsOfOneSet, IsReordered, cells_of, mask_of_codes, sets_of}
 use Rattle.cube_cells.specs.Tally.{Tally}
-use Rattle.cube_cells.specs.Walk.{AreApart}
+use Rattle.cube_cells.specs.Walk.{AreApart, SameCoded}
 use Rattle.cube_cells.specs.declared.cube.codes.Codes.{Codes}
+use Rattle.cube_cells.specs.declared.cube.levels.Level.{Level}
 use Rattle.cube_cells.proofs.Filling.FilledLaws.{HaveAll, IsBase}
-use Rattle.cube_cells.proofs.Codes.GrowthLaws.{count_in-weight_of_cells, set_weight}
+use Rattle.cube_cells.proofs.Codes.GrowthLaws.{AreGrown-refl, count_in-weight_of_cells, set_weight}
 use Rattle.cube_cells.proofs.Codes.KeyLaws.{key-HasCodes, look_up-coded, no_cell-width}
-use Rattle.cube_cells.proofs.Cells.WalkLaws.{same_codes-IsEquivalence, same_codes-exact}
+use Rattle.cube_cells.proofs.Cells.StepLaws.{IsCoded-SameCells}
+use Rattle.cube_cells.proofs.Cells.WalkLaws.{SameCell-refl, same_codes-IsEquivalence, same_codes-exact, weigh}
 
 -- codes differ in any order
 AreApart-IsPermutation : (xs ys : CodedCells) → IsPermutation xs ys → AreApart xs → AreApart ys
@@ -79,3 +86,83 @@ HaveAll-IsPermutation schema dictionaries facts sets a b base moved of_a = recor
 } where
   same : (key : Key) → cell_at (decoded dictionaries b) key ≡ cell_at (decoded dictionaries a) key
   same key = cell_at-IsPermutation schema dictionaries facts a b key base moved of_a.distinct of_a.each
+
+-- ---- levels in another order
+IsReordered-refl : {N : Type 0} (level : Level N) → IsReordered level level
+IsReordered-refl level = record { same_set = refl; moved = IsPermutation-refl level.cells.entries }
+
+pub AllZip-IsReordered_refl : {N : Type 0} (levels : List (Level N)) → AllZip IsReordered levels levels
+AllZip-IsReordered_refl [] = tt
+AllZip-IsReordered_refl (level ∷ levels) = (IsReordered-refl level, AllZip-IsReordered_refl levels)
+
+-- one level more of which the cells were moved
+pub AllZip-IsReordered_set : {N : Type 0} (old now : List (Level N)) (i : ℕ) (unused next : Level N)
+    → AllZip IsReordered old now → i < length old → IsReordered (get_or now i unused) next
+    → AllZip IsReordered old (set now i next)
+AllZip-IsReordered_set [] now i unused next are inside moves = absurd (omega (arith, inside))
+AllZip-IsReordered_set (a ∷ old) [] i unused next are inside moves = absurd are
+AllZip-IsReordered_set (a ∷ old) (b ∷ now) zero unused next are inside moves = (
+  record {
+    same_set = moves.same_set ∙ are.0.same_set;
+    moved = IsPermutation-trans a.cells.entries b.cells.entries next.cells.entries are.0.moved moves.moved;
+  },
+  are.1,
+)
+AllZip-IsReordered_set (a ∷ old) (b ∷ now) (suc i) unused next are inside moves =
+    (are.0, AllZip-IsReordered_set old now i unused next are.1 (omega (arith, inside)) moves)
+
+sets_of-IsReordered : {N : Type 0} (old new : List (Level N)) → AllZip IsReordered old new → sets_of new ≡ sets_of old
+sets_of-IsReordered [] [] are = refl
+sets_of-IsReordered [] (b ∷ new) are = absurd are
+sets_of-IsReordered (a ∷ old) [] are = absurd are
+sets_of-IsReordered (a ∷ old) (b ∷ new) are =
+    ap (λ (set : ℕ). set ∷ sets_of new) are.0.same_set
+    ∙ ap (λ (sets : List ℕ). a.set ∷ sets) (sets_of-IsReordered old new are.1)
+
+cells_of-IsReordered : {N : Type 0} (old new : List (Level N)) → AllZip IsReordered old new
+    → IsPermutation (cells_of old) (cells_of new)
+cells_of-IsReordered [] [] are = IsPermutation-refl []
+cells_of-IsReordered [] (b ∷ new) are = absurd are
+cells_of-IsReordered (a ∷ old) [] are = absurd are
+cells_of-IsReordered (a ∷ old) (b ∷ new) are = IsPermutation-append a.cells.entries b.cells.entries (cells_of old)
+    (cells_of new) are.0.moved (cells_of-IsReordered old new are.1)
+
+IsOfOneSet-IsReordered : {N : Type 0} (old new : List (Level N)) → AllZip IsReordered old new → All IsOfOneSet old
+    → All IsOfOneSet new
+IsOfOneSet-IsReordered [] [] are each = each
+IsOfOneSet-IsReordered [] (b ∷ new) are each = absurd are
+IsOfOneSet-IsReordered (a ∷ old) [] are each = absurd are
+IsOfOneSet-IsReordered (a ∷ old) (b ∷ new) are each =
+    All-cons IsOfOneSet b new (rw are.0.same_set
+    (All-permutation (λ cell. mask_of_codes cell.0.codes ≡ a.set) a.cells.entries b.cells.entries are.0.moved
+    (All-head IsOfOneSet a old each))) (IsOfOneSet-IsReordered old new are.1 (All-tail IsOfOneSet a old each))
+
+-- they are levels of the same cells
+pub IsLeveled-IsReordered : {N : Type 0} → {schema : Layout} {sets : List ℕ} {facts : ℕ} {dictionaries : Dictionaries}
+    {levels : List (Level N)} (others : List (Level N)) → IsLeveled schema sets facts dictionaries levels
+    → AllZip IsReordered levels others
+    → IsLeveled schema sets facts dictionaries others
+    × SameCells (lattice_of schema sets facts dictionaries (cells_of levels))
+    (lattice_of schema sets facts dictionaries (cells_of others))
+IsLeveled-IsReordered {dictionaries = dictionaries} {levels = levels} others is are =
+    let old : CodedCells = cells_of levels in
+    let new : CodedCells = cells_of others in
+    let moved : IsPermutation old new = cells_of-IsReordered levels others are in
+    let at : (codes : Codes) → coded_at new codes ≡ coded_at old codes =
+    λ codes. coded_at-IsPermutation old new codes moved is.coded.distinct in
+    let same : SameCoded [] old new = record {
+      cells = λ codes. rw (at codes) (SameCell-refl (coded_at old codes));
+      others = λ codes outside. at codes;
+      counts_same = λ weight. omega (arith, sum_by-IsPermutation (weigh weight) old new moved);
+    } in
+    let coded = IsCoded-SameCells dictionaries new is.coded (AreGrown-refl dictionaries) is.coded.texts
+    (AreApart-IsPermutation old new moved is.coded.distinct) same in (
+      record {
+        coded = coded.0;
+        tables = record {
+          sets_are = sets_of-IsReordered levels others are ∙ is.tables.sets_are;
+          each = IsOfOneSet-IsReordered levels others are is.tables.each;
+        };
+      },
+      coded.1,
+    )

@@ -4,11 +4,13 @@ ghost use Rattle.std.specs.List.{AllZip};
 ghost use Rattle.cube_core.specs.Layout.{Layout};
 ghost use Rattle.cube_core.specs.Takes.{fits};
 ghost use Rattle.cube_core.specs.declared.fact.Fact.{Fact};
+ghost use Rattle.cube_cells.specs.Cube.{SameCells};
 ghost use Rattle.cube_cells.specs.Fill.{AreMade, IsCubeOfAll, finest_set};
 ghost use Rattle.cube_cells.specs.Gathered.{AreCodesOfFact, AreMarks, AreShares, GathersMore, HasGathered, HasGatheredShare, OnlyAddsTexts, bytes_sum_of, share_of_fact};
 
 use super::Cube;
 use super::codes::Codes;
+use super::levels::{Cells, reserve_in_levels};
 use super::ranges::all_made;
 use super::sorting::FEW;
 use cube_core::{Fact, Schema};
@@ -17,7 +19,7 @@ use std::alloc::{AllocError, Global};
 use std::thread::{Threads, for_each_mut, map_indices};
 
 // How many facts are looked at, before those of a share among them are gathered. So many facts and codes lie in the second
-// cache, and the loop that counts them is short, so that the processor waits for several cells at a time.
+// cache, and so do the cells of these facts, which the loop that looks them up has fetched before they are counted.
 const AT_ONCE: usize = 1_024;
 
 // The most shares that facts are gathered in: each thread looks at the shares of all facts.
@@ -271,7 +273,7 @@ fn bytes_sum(value: Option<&str>) -> u32
     sum
 }
 
-// Gathers a lot of facts: first it finds the codes of all, and then it counts them.
+// Gathers a lot of facts: first it finds the codes of all, then it looks their cells up, and then it counts them.
 fn gather_lot<N: Numbers>(
     cube: &mut Cube<N>,
     facts: &[&Fact],
@@ -282,6 +284,8 @@ fn gather_lot<N: Numbers>(
 {
     codes.clear();
     code_all(cube, facts, codes)?;
+    let new = count_new(cube, codes);
+    make_room(cube, new)?;
     count_all(cube, facts, codes)
 }
 
@@ -301,6 +305,44 @@ fn code_all<N: Numbers>(
         codes.push(cube.code_fact(*fact)?)?;
     }
     Ok(())
+}
+
+// How many facts have no cell yet, by their codes.
+fn count_new<N: Numbers>(cube: &Cube<N>, codes: &[Codes]) -> usize
+    ensures { result ≤ length codes.now }
+{
+    let Some(level) = cube.levels.first() else {
+        return 0;
+    };
+    count_without(&level.cells, codes)
+}
+
+// How many of these codes have no cell with a fact. Nothing is waited for between one look-up and the next, so that several
+// cells are fetched at a time.
+fn count_without<N: Numbers>(cells: &Cells<N>, codes: &[Codes]) -> usize
+    ensures { result ≤ length codes.now }
+{
+    let mut number = 0;
+    for each in codes {
+        number += usize::from(is_new(cells, each));
+    }
+    number
+}
+
+// Whether codes have no cell with a fact.
+fn is_new<N: Numbers>(cells: &Cells<N>, codes: &Codes) -> bool {
+    match cells.get(codes) {
+        Some(cell) => cell.count() == 0,
+        None => true,
+    }
+}
+
+// Makes room for so many more cells, so that no table grows amid the counting.
+fn make_room<N: Numbers>(cube: &mut Cube<N>, more: usize) -> Result<(), AllocError>
+    ensures same { SameCells cube.old cube.new }
+    ensures texts { cube.new.dictionaries ≡ cube.old.dictionaries }
+{
+    reserve_in_levels(&mut cube.levels, more)
 }
 
 // Adds each fact by its codes, unless it couldn't be counted.

@@ -2,7 +2,7 @@
 ghost use Rattle.std.specs.Prelude.{◌≡◌, [], ◌∷◌, true, length, All, IfOk};
 ghost use Rattle.std.specs.List.{AllZip};
 ghost use Rattle.cube_cells.specs.Coded.{AreNewCells};
-ghost use Rattle.cube_cells.specs.Levels.{IsNewLevel, IsUnderKey, cells_of};
+ghost use Rattle.cube_cells.specs.Levels.{IsNewLevel, IsReordered, IsUnderKey, cells_of};
 ghost use Rattle.std.specs.HashMap.{hasher_of};
 
 use super::cell_key::CellKey;
@@ -38,6 +38,16 @@ pub fn new_levels<N: Numbers>(
         levels.push(Level { set: *set, cells })?;
     }
     Ok(levels)
+}
+
+/// Makes room in each level for so many more cells. The cells are those that there were, in any order.
+pub fn reserve_in_levels<N: Numbers>(levels: &mut [Level<N>], more: usize) -> Result<(), AllocError>
+    ensures { AllZip IsReordered levels.old levels.new }
+{
+    for place in 0..levels.len() {
+        levels[place].cells.reserve(more)?;
+    }
+    Ok(())
 }
 
 /// How many cells levels have. The only error is that numbers to count them with ran out.
