@@ -3,7 +3,7 @@ pub mod AnswerTextsLaws
 mod AppendLaws
 mod LongUnitLaws
 mod ParseLaws
-mod PieceLaws
+pub mod PieceLaws
 pub mod ScaleLaws
 pub mod TextLaws
 pub mod UnitTextLaws

@@ -5,15 +5,13 @@
 //! of units of 10^-k stand there with k digits behind a point, and sums of their squares with 2k. Of values each stands
 //! there with how often it is held.
 //!
-//! [`write_whole`] writes a text and counts what went out of it. [`Pieces`] is a text in pieces, each of which a thread
-//! may have made ([`Pieces::of`]), and [`write_pieces`] writes it.
+//! [`write_whole`] writes a text and counts what went out of it, and [`send_pieces`] some pieces of one.
 #![tactic(auto)]
 
 mod long_parse;
 mod long_scale;
 mod long_units;
 mod parse;
-mod pieces;
 mod scale;
 mod text;
 mod units;
@@ -22,6 +20,5 @@ mod values_text;
 mod write;
 
 pub use parse::{empty_row, parse_row};
-pub use pieces::Pieces;
 pub use text::{end_line, push_answer, push_answers, push_field, push_header, push_line};
-pub use write::{WriteFault, write_pieces, write_whole};
+pub use write::{WriteFault, send_pieces, write_whole};

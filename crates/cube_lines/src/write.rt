@@ -1,9 +1,9 @@
 //! A text into a writer, whole or by a counted part.
 
-ghost use Rattle.std.specs.Prelude.{◌≤◌, length, take, OnOk, IfErr};
+ghost use Rattle.std.specs.Prelude.{◌≡◌, ◌≤◌, ◌+◌, length, take, OnOk, IfOk, IfErr};
 ghost use Rattle.std.specs.Io.KnownBytes.{Appends};
+ghost use Rattle.cube_lines.specs.Pieces.{SendsPart, text_of_pieces};
 
-use crate::pieces::Pieces;
 use std::io::Write;
 use thiserror::Error;
 
@@ -30,26 +30,41 @@ pub fn write_whole<W: Write>(w: &mut W, bytes: &[u8]) -> Result<(), WriteFault>
     w.flush().map_err(|_| WriteFault { sent: bytes.len() })
 }
 
-/// Writes the pieces of a text, one after the other, as [`write_whole`] writes a text. Each is let go of once it went out, so
-/// that the system has its memory for what is written next.
-pub fn write_pieces<W: Write>(w: &mut W, text: Pieces) -> Result<(), WriteFault>
-    ensures whole { OnOk result (Appends (W.contents w.old) (W.contents w.new) text) }
-    ensures within { IfErr result (λ fault. fault.sent ≤ length text) }
-    ensures part { IfErr result (λ fault.
-        Appends (W.contents w.old) (W.contents w.new) (take fault.sent text)) }
+/// Writes the pieces of a text, one after the other, and flushes nothing. What is answered is how many bytes went out in all,
+/// with those that had gone out before; the fault says so too. It fails as well where there is no number for so many bytes.
+pub fn send_pieces<W: Write>(
+    w: &mut W,
+    before: usize,
+    pieces: &[Vec<u8>],
+) -> Result<usize, WriteFault>
+    ensures count { IfOk result (λ sent. sent ≡ before + length (text_of_pieces pieces.now)) }
+    ensures whole { OnOk result (Appends (W.contents w.old) (W.contents w.new) (text_of_pieces pieces.now)) }
+    ensures part { IfErr result (λ fault. SendsPart before (text_of_pieces pieces.now) fault.sent
+        (W.contents w.old) (W.contents w.new)) }
 {
-    let mut sent = 0;
-    for piece in text.into_pieces() {
-        match send(w, &piece) {
-            Ok(()) => sent += piece.len(),
-            Err(fault) => {
-                return Err(WriteFault {
-                    sent: sent + fault.sent,
-                });
-            }
-        }
+    let mut sent = before;
+    for piece in pieces {
+        sent = send_after(w, sent, piece)?;
     }
-    w.flush().map_err(|_| WriteFault { sent })
+    Ok(sent)
+}
+
+// Writes bytes behind so many that had gone out, and counts them all.
+fn send_after<W: Write>(w: &mut W, before: usize, bytes: &[u8]) -> Result<usize, WriteFault>
+    ensures count { IfOk result (λ sent. sent ≡ before + length bytes.now) }
+    ensures whole { OnOk result (Appends (W.contents w.old) (W.contents w.new) bytes.now) }
+    ensures part { IfErr result (λ fault. SendsPart before bytes.now fault.sent
+        (W.contents w.old) (W.contents w.new)) }
+{
+    let Some(all) = before.checked_add(bytes.len()) else {
+        return Err(WriteFault { sent: before });
+    };
+    match send(w, bytes) {
+        Ok(()) => Ok(all),
+        Err(fault) => Err(WriteFault {
+            sent: before + fault.sent,
+        }),
+    }
 }
 
 // Writes the bytes, and flushes nothing.

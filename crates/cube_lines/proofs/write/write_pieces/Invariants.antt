@@ -1,8 +1,0 @@
-use Rattle.std.proofs.Common.{◌≡◌, length}
-use Rattle.std.specs.Io.KnownBytes.{Appends}
-use Rattle.cube_lines.specs.Pieces.{text_of_pieces}
-use Rattle.cube_lines.proofs.write.write_pieces.Given as goal
-
-abbrev pub invariant-loop-piece : goal.invariant-loop-piece
-invariant-loop-piece g l = (l.sent ≡ length (text_of_pieces l.yielded))
-    × Appends (g.W.Write.contents l.initial.w) (g.W.Write.contents l.w) (text_of_pieces l.yielded)
