@@ -12,6 +12,7 @@ use cube_tool::command::{Failure, Question, Status, Terms, ask_ledger};
 use cube_tool::{Reporter, RunFault};
 use std::alloc::Global;
 use std::io::Write;
+use std::sync::Wait;
 use std::thread::Threads;
 
 /// Writes the answer to a question on terms over what a cube that is kept right has taken, whose cells so many threads make
@@ -20,7 +21,7 @@ use std::thread::Threads;
 /// Nothing was written on a failure, but where the writing failed: then the first bytes went out, as many as the failure
 /// says. Where no line may be refused the first refusal is told; a question of another schema than the cube's is refused, and
 /// so is a drill-down whose key isn't ALL in the dimension, or whose grouping set with the dimension isn't kept.
-pub(crate) fn answer_over<T: Threads + Sync, P: Reporter, W: Write>(
+pub(crate) fn answer_over<T: Threads + Wait + Sync, P: Reporter, W: Write>(
     rt: &T,
     alloc: Global,
     live: Live<'_>,

@@ -1,8 +1,9 @@
 -- Laws of answers: those of a cell are taken one by one.
-use Rattle.std.proofs.Common.{◌≡◌, ◌∙◌, ◌+◌, ◌++◌, ◌<◌, ◌∷◌, [], ℕ, List, length, take, get_or}
+use Rattle.std.proofs.Common.{◌≡◌, ◌∙◌, ◌+◌, ◌++◌, ◌<◌, ◌≤◌, ◌∷◌, [], ℕ, List, length, take, get_or}
 use Rattle.std.proofs.Common.{arith, refl, ap, sym, length-append}
 use Rattle.std.proofs.lemmas.List.{append-nil, get_or-map, length-map, take_all, take_more}
 use Rattle.std.proofs.Math.Seq.{get_or-append_seam, take-append_seam}
+use Rattle.csv.specs.Writing.{default_writer, row_body}
 use Rattle.cube_core.proofs.ListLaws.{AllZip-push}
 use Rattle.cube_core.specs.Answer.{IsAnswer}
 use Rattle.cube_core.specs.Layout.{Layout}
@@ -12,8 +13,11 @@ use Rattle.cube_core.specs.declared.aggregate.Answer.{Answer}
 use Rattle.cube_core.specs.declared.aggregate.Answer.TheVariants as answer
 use Rattle.cube_cells.specs.Rows.{AreAnswersOf}
 use Rattle.cube_cells.specs.Tally.{Tally}
-use Rattle.cube_lines.specs.Parts.{AddsParts, parts}
+use Rattle.cube_lines.specs.Parts.{AddsParts, EndsLine, parts}
+use Rattle.cube_lines.proofs.TextLaws.{parts-row_body}
+use Rattle.cube_text.specs.Brief.{IsEnding}
 use Rattle.cube_text.specs.Rows.{IsAnswerOf}
+use Rattle.cube_text.specs.Walked.{AddsAnswers}
 use Rattle.cube_text.proofs.FieldLaws.{AddsParts-answer}
 
 -- the answers of a cell to the first aggregates stand in a text
@@ -60,3 +64,36 @@ HasAnswersBelow-more s cell i k a old now new has inside k_is is adds = record {
 
   whole : take (i + 1) more ≡ more
   whole = take_all (i + 1) more (omega (arith, length-append has.answers (a ∷ []), has.long))
+
+-- ---- the end of a line
+-- a comma stands behind the last of some fields
+pub record HasComma (fields : List (List ℕ)) : Type 0 where
+  pub front : List ℕ
+  pub is : parts fields ≡ front ++ 44 ∷ []
+
+HasComma-some : (fields : List (List ℕ)) → 1 ≤ length fields → HasComma fields
+HasComma-some [] some = absurd (omega (arith, some))
+HasComma-some (field ∷ fields) some =
+    record { front = row_body default_writer (field ∷ fields); is = parts-row_body field fields }
+
+some_texts : (digits : List ℕ) (answers : List Answer) → 1 ≤ length digits → 1 ≤ length answers
+    → 1 ≤ length (answer_texts digits answers)
+some_texts [] answers some others = absurd (omega (arith, some))
+some_texts (k ∷ digits) [] some others = absurd (omega (arith, others))
+some_texts (k ∷ digits) (a ∷ answers) some others = omega arith
+
+-- the answers of a cell in an empty text, whose last comma became the line's end
+pub IsEnding-AddsAnswers : (s : Layout) (cell : Tally) (old mid new : List ℕ) → old ≡ [] → 1 ≤ length s.aggregates
+    → AddsAnswers s cell old mid → EndsLine mid new → IsEnding s cell new
+IsEnding-AddsAnswers s cell old mid new empty some adds ends =
+    let digits = digits_of_answers s in
+    let comma = HasComma-some (answer_texts digits adds.answers) (some_texts digits adds.answers
+    (omega (arith, some, length-map s.aggregates (digits_of s))) (omega (arith, some, adds.long))) in
+    record {
+      answers = adds.answers;
+      are = adds.are;
+      front = comma.front;
+      with_comma = comma.is;
+      with_end = ends comma.front
+          (adds.added ∙ ap (λ (t : List ℕ). t ++ parts (answer_texts digits adds.answers)) empty ∙ comma.is);
+    }

@@ -1,39 +1,41 @@
--- Laws of a text to which a walk adds the line of the row of each cell.
-use Rattle.std.proofs.Common.{◌≡◌, ◌∙◌, ◌+◌, ◌++◌, ◌<◌, ◌≤◌, ◌∷◌, [], ℕ, List, Bor, length, get_or, refl, sym, ap, subst}
-use Rattle.std.proofs.Common.{append_assoc, arith, suc, inl, inr, take}
-use Rattle.std.proofs.lemmas.Bool.{cases_lt}
+-- Laws of the rows of a walk: those of its cells, one after another, are the printed cube.
+use Rattle.std.proofs.Common.{◌≡◌, ◌∙◌, ◌+◌, ◌++◌, ◌<◌, ◌≤◌, ◌∷◌, [], ℕ, List, length, get_or, map, refl, sym, ap, subst}
+use Rattle.std.proofs.Common.{append_assoc, arith, suc}
 use Rattle.std.specs.Global.{Vec}
-use Rattle.std.proofs.lemmas.Grind.{flat_map-append}
-use Rattle.std.specs.Prelude.{All, Ok, Result, map}
-use Rattle.std.specs.declared.alloc.AllocError.{AllocError}
-use Rattle.cube_core.specs.declared.key.Key.{Key}
 use Rattle.std.specs.List.{AllZip, flat_map}
+use Rattle.std.specs.Prelude.{All, IsTrue, true, ◌||◌}
 use Rattle.std.proofs.Math.Seq.{drop-append_seam, take-append_seam}
-use Rattle.std.proofs.lemmas.List.{append-nil, map-append, take_all}
+use Rattle.std.proofs.lemmas.Bool.{and_parts}
+use Rattle.std.proofs.lemmas.Grind.{flat_map-append}
+use Rattle.std.proofs.lemmas.List.{append-nil, map-append}
 use Rattle.std.proofs.lemmas.List.Elements.{All-drop, All-head, All-tail, All-take, All-weaker}
+use Rattle.std.proofs.lemmas.List.Sums.{list_all-from_AllPass}
+use Rattle.cube_core.specs.Covers.{covers}
+use Rattle.cube_core.specs.Cube.{is_total}
+use Rattle.cube_core.specs.GroupingSet.{is_among, mask_of}
+use Rattle.cube_core.specs.Layout.{IsSchema}
 use Rattle.cube_core.specs.Printed.{IsPrinted}
+use Rattle.cube_core.specs.Takes.{fits}
 use Rattle.cube_core.specs.Text.{digits_of_answers, header_fields, line}
 use Rattle.cube_core.specs.declared.fact.Fact.{Fact}
+use Rattle.cube_core.specs.declared.key.Key.{Key}
 use Rattle.cube_core.specs.declared.key.Row.{Row}
+use Rattle.cube_core.proofs.CellKeyLaws.{is_cell-length}
 use Rattle.cube_core.proofs.ListLaws.{AllZip-append}
-use Rattle.cube_cells.specs.BottomUp.{AreCellsOfCube, TakesAll, TakesCube, under_keys}
-use Rattle.cube_cells.proofs.Cells.TakenLaws.{TakesAll-key}
-use Rattle.cube_cells.specs.WalkParts.{AreCellsOfPart, ArePartsOfCube, PartOfWalk, TakesPart, put_together}
+use Rattle.cube_cells.specs.BottomUp.{AreCellsOfCube, TakesAll, TakesCube}
 use Rattle.cube_cells.specs.Codes.{key_at}
 use Rattle.cube_cells.specs.Coded.{CodedCells, IsCodedCell, decoded}
 use Rattle.cube_cells.specs.Cube.{Lattice}
 use Rattle.cube_cells.specs.Fill.{IsCubeOfAll}
 use Rattle.cube_cells.specs.Rows.{IsRowOf}
 use Rattle.cube_cells.specs.Tally.{Tally}
+use Rattle.cube_cells.specs.WalkParts.{AreCellsOfPart, ArePartsOfCube, PartOfWalk, TakesPart, put_together}
 use Rattle.cube_cells.specs.declared.cube.codes.Codes.{Codes}
-use Rattle.cube_lines.specs.Parts.{parts}
-use Rattle.cube_lines.specs.Pieces.{GathersPieces, text_of_pieces}
-use Rattle.cube_text.specs.Rows.{AddsRow, line_with}
-use Rattle.cube_text.specs.Shown.{AreShown}
-use Rattle.cube_text.specs.Walked.{AddsAnswers, IsTextOfPart, IsTextOfRows}
-use Rattle.cube_text.specs.declared.shown.Shown.{Shown}
-use Rattle.cube_text.specs.WalkedRows.{TakesRow}
-use Rattle.cube_text.specs.declared.walked.RowsText.{RowsText}
+use Rattle.cube_cells.proofs.Codes.KeyLaws.{length-coords_at}
+use Rattle.cube_text.specs.Brief.{AddsBrief, ArePrintedRows, Brief, RowsOver, TakesRow, brief_line, brief_text, rows_of}
+use Rattle.cube_text.specs.Rows.{line_with}
+use Rattle.cube_text.specs.Walked.{AreRowsOfPart, IsShowable, IsTextOfRows}
+use Rattle.cube_text.proofs.BriefLaws.{brief_line-IsEnding, brief_text-append, rows_of-append}
 
 -- ---- rows
 -- cells that were taken have rows, whose lines were added
@@ -42,196 +44,151 @@ pub record AddsRows (finest : Lattice) (cells : CodedCells) (old new : List ℕ)
   pub are : AllZip (IsRowOf finest.schema.aggregates) (decoded finest.dictionaries cells) rows
   pub added : new ≡ old ++ flat_map (line_with (digits_of_answers finest.schema)) rows
 
-pub AddsRows-TakesAll : {N : Type 0} (finest : Lattice) (cells : CodedCells) (old new : RowsText N)
-    → old.cells.now ≡ finest → AreShown finest.dictionaries old.shown.now
-    → TakesAll TakesRow old cells new
-    → All (λ cell. length cell.1.bags ≡ length finest.schema.measures) cells
-    → AddsRows finest cells old.text.items new.text.items
-AddsRows-TakesAll {N} finest [] old new is shown taken widths = record {
+pub AddsRows-TakesAll : (finest : Lattice) (cells : CodedCells) (old new : RowsOver) → old.finest ≡ finest
+    → TakesAll TakesRow old cells new → All (IsShowable finest) cells
+    → AddsRows finest cells (brief_text finest.dictionaries old.rows) (brief_text finest.dictionaries new.rows)
+AddsRows-TakesAll finest [] old new is taken showable = record {
   rows = [];
   are = tt;
-  added = ap (λ (t : RowsText N). t.text.items) taken ∙ sym (append-nil old.text.items);
+  added = ap (λ (r : RowsOver). brief_text finest.dictionaries r.rows) taken
+      ∙ sym (append-nil (brief_text finest.dictionaries old.rows));
 }
-AddsRows-TakesAll {N} finest (cell ∷ cells) old new is shown taken widths =
-    let W : Codes × Tally → Type 0 = λ one. length one.1.bags ≡ length finest.schema.measures in
-    let P : Lattice → Type 0 = λ l. AreShown l.dictionaries old.shown.now
-    → length cell.1.bags ≡ length l.schema.measures
-    → AddsRow (digits_of_answers l.schema) l.schema.aggregates (key_at l.dictionaries cell.0.codes, cell.1)
-    old.text.items taken.0.text.items in
-    let row = subst P is taken.1.adds shown (All-head W cell cells widths) in
-    let next : taken.0.cells.now ≡ finest = ap (λ (b : Bor Lattice). b.now) taken.1.same ∙ is in
-    let still : AreShown finest.dictionaries taken.0.shown.now = rw taken.1.same_shown shown in
-    let later = AddsRows-TakesAll finest cells taken.0 new next still taken.2 (All-tail W cell cells widths) in
-    let lines : List Row → List ℕ = flat_map (line_with (digits_of_answers finest.schema)) in
+AddsRows-TakesAll finest (cell ∷ cells) old new is taken showable =
+    let text : Brief → List ℕ = brief_text finest.dictionaries in
+    let digits = digits_of_answers finest.schema in
+    let can = All-head (IsShowable finest) cell cells showable in
+    let P : Lattice → Type 0 = λ l. length cell.1.bags ≡ length l.schema.measures
+    → AddsBrief l.schema cell.0 cell.1 old.rows taken.0.rows in
+    let adds = subst P is taken.1.adds can.width in
+    let row : Row = record { key = key_at finest.dictionaries cell.0.codes; answers = adds.is.answers } in
+    let one : Codes × List ℕ = (cell.0, adds.ending) in
+    let shows : text taken.0.rows ≡ text old.rows ++ line_with digits row =
+    ap text adds.added ∙ brief_text-append finest.dictionaries old.rows (one ∷ [])
+    ∙ ap (λ (t : List ℕ). text old.rows ++ t) (append-nil (brief_line finest.dictionaries one)
+    ∙ brief_line-IsEnding finest.schema finest.dictionaries cell.0 cell.1 adds.ending adds.is can.some) in
+    let later = AddsRows-TakesAll finest cells taken.0 new (taken.1.same ∙ is) taken.2
+    (All-tail (IsShowable finest) cell cells showable) in
+    let lines : List Row → List ℕ = flat_map (line_with digits) in
     record {
-      rows = row.row ∷ later.rows;
-      are = (row.is_row, later.are);
-      added = later.added ∙ ap (λ (t : List ℕ). t ++ lines later.rows) row.added
-          ∙ append_assoc old.text.items (line_with (digits_of_answers finest.schema) row.row) (lines later.rows);
+      rows = row ∷ later.rows;
+      are = (record { key = refl; answers = adds.is.are }, later.are);
+      added = later.added ∙ ap (λ (t : List ℕ). t ++ lines later.rows) shows
+          ∙ append_assoc (text old.rows) (line_with digits row) (lines later.rows);
     }
 
--- under no key nothing is taken
-pub TakesAll-no_key : {S : Type 0} (takes : S → Codes → Tally → S → Type 0) (cell : Tally) (keys : List Codes) (sink : S)
-    → length keys ≡ 0 → TakesAll takes sink (under_keys cell keys) sink
-TakesAll-no_key takes cell [] sink none = refl
-TakesAll-no_key takes cell (codes ∷ keys) sink none = absurd (omega (arith, none))
+-- ---- the cells of a cube can be shown
+some_coordinate : (finest : Lattice) (cells : CodedCells) (facts : List Fact) → AreCellsOfCube finest cells
+    → IsSchema finest.schema → IsCubeOfAll facts finest → 0 < length cells → 1 ≤ length finest.dictionaries
+some_coordinate finest [] facts cube schema all some = absurd (omega (arith, some))
+some_coordinate finest (cell ∷ cells) facts cube schema all some =
+    let s = finest.schema in
+    let key : Key = key_at finest.dictionaries cell.0.codes in
+    let is = (cube.keys facts all).cells key .0 (0, omega arith, refl) in
+    let parts = and_parts (is_among (mask_of key) s.grouping_sets)
+    (is_total (length s.dimensions) key || list_any (covers key) facts) is in
+    let wide : length key.coords ≡ length s.dimensions =
+    is_cell-length s facts key (list_all-from_AllPass facts all.fit) parts.1 in
+    omega (arith, wide, length-coords_at finest.dictionaries cell.0.codes, schema.some_dimension)
 
--- while a cell's row is put under the keys before a place: what the rows show of its answers is made
-pub record IsTaking {N : Type 0} (cell : Tally) (keys : List Codes) (i : ℕ) (old now : RowsText N) : Type 0 where
-  pub same : now.cells ≡ old.cells
-  pub same_shown : now.shown ≡ old.shown
-  pub answers : AddsAnswers old.cells.now.schema cell [] now.answers.items
-  pub none : i ≡ 0 → now.text ≡ old.text
-  pub some : 0 < i → TakesAll TakesRow old (under_keys cell (take i keys)) now
+IsShowable-cube : (finest : Lattice) (cells : CodedCells) (facts : List Fact) → AreCellsOfCube finest cells
+    → IsSchema finest.schema → IsCubeOfAll facts finest → All (IsShowable finest) cells
+IsShowable-cube finest cells facts cube schema all = λ i unused inside. record {
+  some = some_coordinate finest cells facts cube schema all (omega (arith, inside));
+  width = (cube.each i unused inside).width;
+}
 
--- its row is put under a key more
-pub IsTaking-more : {N : Type 0} (cell : Tally) (keys : List Codes) (i : ℕ) (codes : Codes) (old now new : RowsText N)
-    → codes ≡ get_or keys i codes → i < length keys → IsTaking cell keys i old now → new.cells ≡ now.cells
-    → new.shown ≡ now.shown → new.answers ≡ now.answers
-    → (AreShown now.cells.now.dictionaries now.shown.now → (one : Tally)
-    → AddsAnswers now.cells.now.schema one [] now.answers.items
-    → AddsRow (digits_of_answers now.cells.now.schema) now.cells.now.schema.aggregates
-    (key_at now.cells.now.dictionaries codes.codes, one) now.text.items new.text.items)
-    → IsTaking cell keys (i + 1) old new
-IsTaking-more {N} cell keys i codes old now new is inside taking cells shown answers row =
-    let rows : (text : Vec ℕ) → now.text ≡ text
-    → AreShown old.cells.now.dictionaries old.shown.now
-    → AddsRow (digits_of_answers old.cells.now.schema) old.cells.now.schema.aggregates
-    (key_at old.cells.now.dictionaries codes.codes, cell) text.items new.text.items =
-    λ text at are. rw (taking.same, taking.same_shown, at) at row are cell taking.answers in
-    let takes : TakesRow now codes cell new = record {
-      same = cells;
-      same_shown = shown;
-      adds = λ are width. row are cell (rw taking.same taking.answers);
-    } in
-    record {
-      same = cells ∙ taking.same;
-      same_shown = shown ∙ taking.same_shown;
-      answers = rw answers taking.answers;
-      none = λ zero. absurd (omega (arith, zero));
-      some = λ more. elim (cases_lt 0 i) [
-        | inl some ↦ TakesAll-key TakesRow cell keys i codes old now new is inside (taking.some some) takes
-        | inr none ↦
-            let first : TakesRow old codes cell new = record {
-              same = cells ∙ taking.same;
-              same_shown = shown ∙ taking.same_shown;
-              adds = λ are width. rows old.text (taking.none (omega (arith, none))) are;
-            } in
-            let zero : 0 ≡ i = omega (arith, none) in
-            TakesAll-key TakesRow cell keys i codes old old new is inside
-            (subst (λ (n : ℕ). TakesAll TakesRow old (under_keys cell (take n keys)) old) zero refl) first
-      ];
-    }
-
--- the cell is taken under all of them
-pub TakesAll-IsTaking : {N : Type 0} (cell : Tally) (keys : List Codes) (i : ℕ) (old now : RowsText N)
-    → IsTaking cell keys i old now → length keys ≤ i → 0 < length keys → TakesAll TakesRow old (under_keys cell keys) now
-TakesAll-IsTaking cell keys i old now taking past some =
-    subst (λ (l : List Codes). TakesAll TakesRow old (under_keys cell l) now) (take_all i keys past)
-    (taking.some (omega (arith, past, some)))
-
--- a text to which the rows of the cells of a cube were added behind the header is the printed cube
-pub IsPrinted-AddsRows : (finest : Lattice) (cells : CodedCells) (header text : List ℕ) (facts : List Fact)
+-- behind the header, the rows that were added for them are the printed cube
+ArePrintedRows-AddsRows : (finest : Lattice) (cells : CodedCells) (rows : Brief) → IsSchema finest.schema
     → AreCellsOfCube finest cells
-    → (All (λ cell. length cell.1.bags ≡ length finest.schema.measures) cells → AddsRows finest cells header text)
-    → header ≡ line (header_fields finest.schema) → IsCubeOfAll facts finest → IsPrinted finest.schema facts text
-IsPrinted-AddsRows finest cells header text facts cube adds_rows is all =
-    let adds = adds_rows (All-weaker (IsCodedCell finest.dictionaries (length finest.schema.measures))
-    (λ cell. length cell.1.bags ≡ length finest.schema.measures) (λ cell coded. coded.width) cells cube.each) in
+    → (All (IsShowable finest) cells → IsTextOfRows finest cells (brief_text finest.dictionaries rows))
+    → ArePrintedRows finest rows
+ArePrintedRows-AddsRows finest cells rows schema cube shows facts all =
+    let made = shows (IsShowable-cube finest cells facts cube schema all) in
+    record {
+      rows = made.rows;
+      are_rows = cube.rows facts all made.rows made.are;
+      text_is = ap (λ (t : List ℕ). line (header_fields finest.schema) ++ t) made.text_is;
+    }
+
+-- the rows of a walk
+IsTextOfRows-TakesAll : (finest : Lattice) (cells : CodedCells) (old new : RowsOver)
+    → old ≡ record { finest = finest; rows = [] } → TakesAll TakesRow old cells new → All (IsShowable finest) cells
+    → IsTextOfRows finest cells (brief_text finest.dictionaries new.rows)
+IsTextOfRows-TakesAll finest cells old new is taken showable =
+    let adds = AddsRows-TakesAll finest cells old new (ap (λ (r : RowsOver). r.finest) is) taken showable in
     record {
       rows = adds.rows;
-      are_rows = cube.rows facts all adds.rows adds.are;
-      text_is = adds.added
-          ∙ ap (λ (t : List ℕ). t ++ flat_map (line_with (digits_of_answers finest.schema)) adds.rows) is;
+      are = adds.are;
+      text_is = adds.added ∙ ap (λ (r : RowsOver). brief_text finest.dictionaries r.rows
+          ++ flat_map (line_with (digits_of_answers finest.schema)) adds.rows) is;
     }
 
--- a text to which a walk added the rows behind the header is the printed cube
-pub IsPrinted-TakesCube : {N : Type 0} (finest : Lattice) (old new : RowsText N) (facts : List Fact)
-    → TakesCube TakesRow finest old new → old.cells.now ≡ finest → AreShown finest.dictionaries old.shown.now
-    → old.text.items ≡ line (header_fields finest.schema) → IsCubeOfAll facts finest
-    → IsPrinted finest.schema facts new.text.items
-IsPrinted-TakesCube finest old new facts walk is shown header all =
-    IsPrinted-AddsRows finest walk.cells old.text.items new.text.items facts walk.are
-    (AddsRows-TakesAll finest walk.cells old new is shown walk.taken) header all
+pub ArePrintedRows-TakesCube : (finest : Lattice) (old new : RowsOver) → IsSchema finest.schema
+    → old ≡ record { finest = finest; rows = [] } → TakesCube TakesRow finest old new → ArePrintedRows finest new.rows
+ArePrintedRows-TakesCube finest old new schema is walk =
+    ArePrintedRows-AddsRows finest walk.cells new.rows schema walk.are
+    (IsTextOfRows-TakesAll finest walk.cells old new is walk.taken)
 
 -- ---- parts
--- a text to which the walk over a part added the rows
-pub IsTextOfPart-TakesPart : {N : Type 0} (finest : Lattice) (part : PartOfWalk) (old new : RowsText N)
-    → TakesPart TakesRow part old new → old.cells.now ≡ finest → old.text.items ≡ []
-    → IsTextOfPart finest old.shown.now part new.text.items
-IsTextOfPart-TakesPart finest part old new walk is empty = record {
+-- the rows of a walk over a part
+pub AreRowsOfPart-TakesPart : (finest : Lattice) (part : PartOfWalk) (old new : RowsOver)
+    → old ≡ record { finest = finest; rows = [] } → TakesPart TakesRow part old new → AreRowsOfPart finest part new.rows
+AreRowsOfPart-TakesPart finest part old new is walk = record {
   cells = walk.cells;
   are = walk.are;
-  text_is = λ shown widths.
-      let adds = AddsRows-TakesAll finest walk.cells old new is shown walk.taken widths in
-      record {
-        rows = adds.rows;
-        are = adds.are;
-        text_is = adds.added
-            ∙ ap (λ (t : List ℕ). t ++ flat_map (line_with (digits_of_answers finest.schema)) adds.rows) empty;
-      };
+  text_is = IsTextOfRows-TakesAll finest walk.cells old new is walk.taken;
 }
 
--- pieces that are the texts of parts
-pub record AreTextsOfParts (finest : Lattice) (shown : List Shown) (parts : List PartOfWalk) (pieces : List (Vec ℕ))
-    : Type 0 where
+-- the rows of parts, one part behind the other
+pub record AreRowsOfParts (finest : Lattice) (parts : List PartOfWalk) (rows : Brief) : Type 0 where
   pub lists : List CodedCells
   pub are : AllZip AreCellsOfPart parts lists
-  pub text_is : AreShown finest.dictionaries shown
-      → All (λ cell. length cell.1.bags ≡ length finest.schema.measures) (put_together lists)
-      → IsTextOfRows finest (put_together lists) (text_of_pieces pieces)
+  pub text_is : All (IsShowable finest) (put_together lists)
+      → IsTextOfRows finest (put_together lists) (brief_text finest.dictionaries rows)
 
-pub AreTextsOfParts-each : (finest : Lattice) (shown : List Shown) (parts : List PartOfWalk) (pieces : List (Vec ℕ))
-    → length pieces ≡ length parts
-    → ((i : ℕ) (part : PartOfWalk) (piece : Vec ℕ) → i < length parts
-    → IsTextOfPart finest shown (get_or parts i part) (get_or pieces i piece).items)
-    → AreTextsOfParts finest shown parts pieces
-AreTextsOfParts-each finest shown [] [] long each =
-    record { lists = []; are = tt; text_is = λ _ _. record { rows = []; are = tt; text_is = refl } }
-AreTextsOfParts-each finest shown [] (piece ∷ pieces) long each = absurd (omega (arith, long))
-AreTextsOfParts-each finest shown (part ∷ others) [] long each = absurd (omega (arith, long))
-AreTextsOfParts-each finest shown (part ∷ others) (piece ∷ pieces) long each =
-    let here = each 0 part piece (omega arith) in
-    let rest = AreTextsOfParts-each finest shown others pieces (omega (arith, long))
+-- the pieces of lists, one list behind the other
+abbrev pub pieces_of : List (Vec Brief) → List Brief
+pieces_of lists = flat_map (λ list. list.items) lists
+
+pub AreRowsOfParts-each : (finest : Lattice) (parts : List PartOfWalk) (lists : List (Vec Brief))
+    → length lists ≡ length parts
+    → ((i : ℕ) (part : PartOfWalk) (list : Vec Brief) → i < length parts
+    → AreRowsOfPart finest (get_or parts i part) (rows_of (get_or lists i list).items))
+    → AreRowsOfParts finest parts (rows_of (pieces_of lists))
+AreRowsOfParts-each finest [] [] long each =
+    record { lists = []; are = tt; text_is = λ _. record { rows = []; are = tt; text_is = refl } }
+AreRowsOfParts-each finest [] (list ∷ lists) long each = absurd (omega (arith, long))
+AreRowsOfParts-each finest (part ∷ parts) [] long each = absurd (omega (arith, long))
+AreRowsOfParts-each finest (part ∷ parts) (list ∷ lists) long each =
+    let here = each 0 part list (omega arith) in
+    let rest = AreRowsOfParts-each finest parts lists (omega (arith, long))
     (λ i one other inside. each (suc i) one other (omega (arith, inside))) in
-    let W : Codes × Tally → Type 0 = λ cell. length cell.1.bags ≡ length finest.schema.measures in
     let lines : List Row → List ℕ = flat_map (line_with (digits_of_answers finest.schema)) in
+    let text : Brief → List ℕ = brief_text finest.dictionaries in
+    let more : CodedCells = put_together rest.lists in
+    let both : text (rows_of (pieces_of (list ∷ lists))) ≡ text (rows_of list.items) ++ text (rows_of (pieces_of lists)) =
+    ap text (rows_of-append list.items (pieces_of lists))
+    ∙ brief_text-append finest.dictionaries (rows_of list.items) (rows_of (pieces_of lists)) in
     record {
       lists = here.cells ∷ rest.lists;
       are = (here.are, rest.are);
-      text_is = λ is widths.
-          let more : CodedCells = put_together rest.lists in
-          let first = here.text_is is (subst (All W) (take-append_seam here.cells more)
-          (All-take W (length here.cells) (here.cells ++ more) widths)) in
-          let second = rest.text_is is (subst (All W) (drop-append_seam here.cells more)
-          (All-drop W (length here.cells) (here.cells ++ more) widths)) in
+      text_is = λ showable.
+          let first = here.text_is (subst (All (IsShowable finest)) (take-append_seam here.cells more)
+          (All-take (IsShowable finest) (length here.cells) (here.cells ++ more) showable)) in
+          let second = rest.text_is (subst (All (IsShowable finest)) (drop-append_seam here.cells more)
+          (All-drop (IsShowable finest) (length here.cells) (here.cells ++ more) showable)) in
           record {
             rows = first.rows ++ second.rows;
-            are = rw (map-append {B = Key × Tally} (λ (cell : Codes × Tally). (key_at finest.dictionaries cell.0.codes, cell.1)) here.cells (put_together rest.lists))
+            are = rw (map-append {B = Key × Tally} (λ (cell : Codes × Tally). (key_at finest.dictionaries cell.0.codes, cell.1)) here.cells more)
                 (AllZip-append (IsRowOf finest.schema.aggregates) (decoded finest.dictionaries here.cells)
-                (decoded finest.dictionaries (put_together rest.lists)) first.rows second.rows first.are second.are);
-            text_is = ap (λ (t : List ℕ). t ++ text_of_pieces pieces) first.text_is
+                (decoded finest.dictionaries more) first.rows second.rows first.are second.are);
+            text_is = both ∙ ap (λ (t : List ℕ). t ++ text (rows_of (pieces_of lists))) first.text_is
                 ∙ ap (λ (t : List ℕ). lines first.rows ++ t) second.text_is
                 ∙ sym (flat_map-append (line_with (digits_of_answers finest.schema)) first.rows second.rows);
           };
     }
 
--- no piece follows the first
-pub GathersPieces-none : (first text : List ℕ) → GathersPieces first [] text → text ≡ first
-GathersPieces-none first text gathers = none gathers.pieces gathers.are gathers.text_is where
-  none : (pieces : List (Vec ℕ)) → map {B = Result (Vec ℕ) AllocError} Ok pieces ≡ []
-      → text ≡ first ++ text_of_pieces pieces → text ≡ first
-  none [] are is = is ∙ append-nil first
-  none (piece ∷ pieces) are is = cc are
-
--- behind the header they are the printed cube
-pub IsPrinted-AreTextsOfParts : (finest : Lattice) (shown : List Shown) (parts : List PartOfWalk)
-    (pieces : List (Vec ℕ)) (header text : List ℕ) (facts : List Fact) → AreTextsOfParts finest shown parts pieces
-    → ArePartsOfCube finest parts → AreShown finest.dictionaries shown → header ≡ line (header_fields finest.schema)
-    → text ≡ header ++ text_of_pieces pieces → IsCubeOfAll facts finest → IsPrinted finest.schema facts text
-IsPrinted-AreTextsOfParts finest shown parts pieces header text facts texts cube is_shown is gathered all =
-    IsPrinted-AddsRows finest (put_together texts.lists) header text facts (cube.give texts.lists texts.are)
-    (λ widths.
-    let made = texts.text_is is_shown widths in
-    record { rows = made.rows; are = made.are; added = gathered ∙ ap (λ (t : List ℕ). header ++ t) made.text_is })
-    is all
+pub ArePrintedRows-parts : (finest : Lattice) (parts : List PartOfWalk) (rows : Brief) → IsSchema finest.schema
+    → AreRowsOfParts finest parts rows → ArePartsOfCube finest parts → ArePrintedRows finest rows
+ArePrintedRows-parts finest parts rows schema made cube =
+    ArePrintedRows-AddsRows finest (put_together made.lists) rows schema (cube.give made.lists made.are) made.text_is

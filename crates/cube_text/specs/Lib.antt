@@ -1,6 +1,7 @@
+pub mod Brief
+pub mod Kept
 pub mod Lines
 pub mod Rows
 pub mod Shape
 pub mod Walked
-pub mod WalkedRows
 pub mod Shown

@@ -1,28 +1,25 @@
 //! The text of a cube, made in a walk over its finest cells: no other cell is kept, and none is sorted.
-ghost use Rattle.std.specs.Prelude.{◌≡◌, ◌<◌, ◌≤◌, ◌∷◌, [], ℕ, List, get_or, length, map, All, IfOk, OnOk};
+ghost use Rattle.std.specs.Prelude.{◌≡◌, ◌<◌, ◌≤◌, ◌∷◌, ◌++◌, [], ℕ, List, get_or, length, map, IfOk, OnOk};
+ghost use Rattle.std.specs.List.{flat_map};
 ghost use Rattle.cube_core.specs.Printed.{IsPrinted};
 ghost use Rattle.cube_core.specs.Referred.{referred_coord};
-ghost use Rattle.cube_core.specs.Text.{coord_text, digits_of_answers, grouping_text};
+ghost use Rattle.cube_core.specs.Text.{coord_text, grouping_text};
 ghost use Rattle.cube_core.specs.declared.fact.Fact.{Fact};
 ghost use Rattle.cube_core.specs.declared.key.Coord.TheVariants as coord;
-ghost use Rattle.cube_cells.specs.BaseCuboid.{cells_of_cuboid};
 ghost use Rattle.cube_cells.specs.Codes.{Dictionaries, coords_at, key_at};
 ghost use Rattle.cube_cells.specs.Fill.{IsCubeOfAll};
-ghost use Rattle.cube_cells.specs.Tally.{Tally};
-ghost use Rattle.cube_lines.specs.Parts.{AddsParts};
-ghost use Rattle.cube_text.specs.Rows.{AddsRow};
-ghost use Rattle.cube_text.specs.Shown.{AreShown};
 ghost use Rattle.cube_cells.specs.WalkParts.{PartOfWalk};
-ghost use Rattle.cube_text.specs.Walked.{AddsAnswers, IsTextOfPart};
+ghost use Rattle.cube_lines.specs.Parts.{AddsParts};
+ghost use Rattle.cube_text.specs.Brief.{ArePrintedRows, brief_text, rows_of};
+ghost use Rattle.cube_text.specs.Shown.{AreShown};
+ghost use Rattle.cube_text.specs.Walked.{AreRowsOfPart};
 
-use crate::answers::put_answers_of;
-use crate::fields::{close_line, push_coord, push_grouping};
+use crate::brief::{BriefPieces, BriefRows, key_width};
+use crate::fields::{push_coord, push_grouping};
+use crate::made::all_made;
 use crate::print::text_of_header;
 use crate::shown::{Shown, all_shown, part_at};
-use cube_cells::{
-    BaseCuboid, Cell, CoordRef, FinestCells, KeyCodes, Numbers, TakesCells, WalkPart,
-};
-use cube_lines::Pieces;
+use cube_cells::{CoordRef, FinestCells, KeyCodes, Numbers, WalkPart};
 use std::alloc::{AllocError, Global};
 use std::thread::{Threads, map_indices};
 
@@ -31,36 +28,6 @@ const ALL: u32 = 4_294_967_295;
 
 // How many parts there are for each thread of the walk over the finest cells, so that none waits long for another.
 const PARTS: usize = 4;
-
-/// A text to which a walk adds the lines of the rows of each cell, and what those of the last cell show of its answers.
-#[derive(Drop)]
-pub struct RowsText<'c, N: Numbers> {
-    cells: &'c FinestCells<N>,
-    shown: &'c [Shown],
-    answers: Vec<u8>,
-    text: Vec<u8>,
-}
-
-impl<'c, N: Numbers> TakesCells<N> for RowsText<'c, N> {
-    ghost use Rattle.cube_text.specs.WalkedRows.{TakesRow};
-
-    ghost takes = { TakesRow };
-
-    fn take_cell(&mut self, keys: &[KeyCodes], cell: &Cell<N>) -> Result<(), AllocError> {
-        if cell.measures() != self.cells.schema().measures().len() {
-            return Ok(());
-        }
-        if keys.is_empty() {
-            return Ok(());
-        }
-        self.answers.clear();
-        put_answers_of(&mut self.answers, self.cells, cell)?;
-        for codes in keys {
-            put_row_of(&mut self.text, &self.answers, self.cells, self.shown, codes)?;
-        }
-        Ok(())
-    }
-}
 
 /// The text of the cube of the facts whose finest cells these are: the header line of their schema, and a line for each
 /// row, in key order. The only error is that memory ran out, or numbers to count the facts with.
@@ -71,127 +38,118 @@ pub fn print_walked<N: Numbers>(
     ensures { IfOk result (λ text. (facts : List Fact) → IsCubeOfAll facts cells.now →
         IsPrinted cells.now.schema facts text.items) }
 {
-    let schema = cells.schema();
-    let text = text_of_header(alloc, schema)?;
+    let mut text = text_of_header(alloc, cells.schema())?;
     let shown = all_shown(alloc, cells)?;
-    let mut rows = RowsText {
-        cells,
-        shown: &shown,
-        answers: Vec::new(alloc),
-        text,
-    };
-    cells.walk(&mut rows)?;
-    Ok(rows.text)
+    let pieces = pieces_of_walk(alloc, cells)?;
+    put_pieces(&mut text, cells, &shown, &pieces)?;
+    Ok(text)
 }
 
-/// The text that [`print_walked`] gives, in pieces: the walk is cut into parts, and several threads make the lines of one
-/// each. With one thread, or none, no thread is started. The only error is that memory ran out, or numbers to count the facts
-/// with.
-pub fn print_walked_in_pieces<T: Threads + Sync>(
-    rt: &T,
-    alloc: Global,
-    threads: usize,
-    cells: &BaseCuboid,
-) -> Result<Pieces, AllocError>
-    ensures { IfOk result (λ text. (facts : List Fact) → IsCubeOfAll facts (cells_of_cuboid cells.now) →
-        IsPrinted (cells_of_cuboid cells.now).schema facts text) }
-{
-    match cells {
-        BaseCuboid::Summaries(cells) => print_finest(rt, alloc, threads, cells),
-        BaseCuboid::Numbers(cells) => print_finest(rt, alloc, threads, cells),
-    }
-}
-
-// The text of the cube of the facts whose finest cells these are, in pieces that threads make.
-fn print_finest<T: Threads + Sync, N: Numbers + Send + Sync>(
+/// The rows of the cube of the facts whose finest cells these are, kept short, in pieces. The walk is cut into parts, and each
+/// of several threads takes some; with one thread, or none, no thread is started. The only error is that memory ran out, or
+/// numbers to count the facts with.
+pub(crate) fn pieces_of_cube<T: Threads + Sync, N: Numbers + Send + Sync>(
     rt: &T,
     alloc: Global,
     threads: usize,
     cells: &FinestCells<N>,
-) -> Result<Pieces, AllocError>
-    ensures { IfOk result (λ text. (facts : List Fact) → IsCubeOfAll facts cells.now →
-        IsPrinted cells.now.schema facts text) }
+) -> Result<Vec<BriefRows>, AllocError>
+    ensures { IfOk result (λ pieces. ArePrintedRows cells.now (rows_of pieces.items)) }
 {
     if threads <= 1 || cells.facts() == 0 {
-        let text = print_walked(alloc, cells)?;
-        return Pieces::of(alloc, text, Vec::new(alloc));
+        return pieces_of_walk(alloc, cells);
     }
-    let header = text_of_header(alloc, cells.schema())?;
-    let shown = all_shown(alloc, cells)?;
     let raised = cells.raised(rt, threads)?;
     let parts = raised.parts(threads.saturating_mul(PARTS))?;
-    let texts = texts_of_parts(rt, alloc, cells, &shown, &parts)?;
-    Pieces::of(alloc, header, texts)
+    let made = pieces_of_parts(rt, alloc, cells, key_width(cells), &parts)?;
+    put_together(alloc, all_made(alloc, made)?)
 }
 
-// The lines of the rows of the cells of each part, each made on a thread of its own.
-fn texts_of_parts<T: Threads + Sync, N: Numbers + Send + Sync>(
+// The same in one walk.
+fn pieces_of_walk<N: Numbers>(
+    alloc: Global,
+    cells: &FinestCells<N>,
+) -> Result<Vec<BriefRows>, AllocError>
+    ensures { IfOk result (λ pieces. ArePrintedRows cells.now (rows_of pieces.items)) }
+{
+    let mut rows = BriefPieces::new(alloc, cells, key_width(cells));
+    cells.walk(&mut rows)?;
+    rows.into_pieces()
+}
+
+// The rows of the cells of each part, each taken on a thread of its own.
+fn pieces_of_parts<T: Threads + Sync, N: Numbers + Send + Sync>(
     rt: &T,
     alloc: Global,
     cells: &FinestCells<N>,
-    shown: &[Shown],
+    width: usize,
     parts: &[WalkPart<'_, N>],
-) -> Result<Vec<Result<Vec<u8>, AllocError>>, AllocError>
-    ensures long { IfOk result (λ texts. length texts.items ≡ length parts.now) }
-    ensures each { IfOk result (λ texts. (i : ℕ) (unused : _) (part : PartOfWalk) → i < length parts.now →
-        IfOk (get_or texts.items i unused) (λ text.
-        IsTextOfPart cells.now shown.now (get_or parts.now i part) text.items)) }
+) -> Result<Vec<Result<Vec<BriefRows>, AllocError>>, AllocError>
+    ensures long { IfOk result (λ made. length made.items ≡ length parts.now) }
+    ensures each { IfOk result (λ made. (i : ℕ) (unused : _) (part : PartOfWalk) → i < length parts.now →
+        IfOk (get_or made.items i unused) (λ pieces.
+        AreRowsOfPart cells.now (get_or parts.now i part) (rows_of pieces.items))) }
 {
     map_indices(
         rt,
         alloc,
         parts.len(),
-        &|which| { text_of_part(alloc, cells, shown, &parts[which]) },
+        &|which| { pieces_of_part(alloc, cells, width, &parts[which]) },
     )
 }
 
-// The lines of the rows of the cells of a part.
-fn text_of_part<N: Numbers>(
+// The rows of the cells of a part.
+fn pieces_of_part<N: Numbers>(
     alloc: Global,
     cells: &FinestCells<N>,
-    shown: &[Shown],
+    width: usize,
     part: &WalkPart<'_, N>,
-) -> Result<Vec<u8>, AllocError>
-    ensures { IfOk result (λ text. IsTextOfPart cells.now shown.now part.now text.items) }
+) -> Result<Vec<BriefRows>, AllocError>
+    ensures { IfOk result (λ pieces. AreRowsOfPart cells.now part.now (rows_of pieces.items)) }
 {
-    let mut rows = RowsText {
-        cells,
-        shown,
-        answers: Vec::new(alloc),
-        text: Vec::new(alloc),
-    };
+    let mut rows = BriefPieces::new(alloc, cells, width);
     part.walk(&mut rows)?;
-    Ok(rows.text)
+    rows.into_pieces()
 }
 
-// Puts the line of the row of a cell, what it shows of the answers being made.
-fn put_row_of<N: Numbers>(
+// The pieces of lists, one list behind the other.
+fn put_together(
+    alloc: Global,
+    lists: Vec<Vec<BriefRows>>,
+) -> Result<Vec<BriefRows>, AllocError>
+    ensures { IfOk result (λ pieces. pieces.items ≡ flat_map (λ list. list.items) lists.items) }
+{
+    let mut pieces = Vec::new(alloc);
+    for mut list in lists {
+        pieces.append(&mut list)?;
+    }
+    Ok(pieces)
+}
+
+// Puts the lines of the rows of pieces at the end of a text.
+fn put_pieces<N: Numbers>(
     text: &mut Vec<u8>,
-    answers: &[u8],
+    cells: &FinestCells<N>,
+    shown: &[Shown],
+    pieces: &[BriefRows],
+) -> Result<(), AllocError>
+    ensures { OnOk result (AreShown cells.now.dictionaries shown.now →
+        text.new.items ≡ text.old.items ++ brief_text cells.now.dictionaries (rows_of pieces.now)) }
+{
+    for rows in pieces {
+        rows.put_text(text, cells, shown)?;
+    }
+    Ok(())
+}
+
+/// Puts what a row shows of the coordinates of its key, each with a comma.
+pub(crate) fn put_key_of<N: Numbers>(
+    text: &mut Vec<u8>,
     cells: &FinestCells<N>,
     shown: &[Shown],
     codes: &KeyCodes,
 ) -> Result<(), AllocError>
     ensures { OnOk result (AreShown cells.now.dictionaries shown.now →
-        (cell : Tally) → AddsAnswers cells.now.schema cell [] answers.now →
-        AddsRow (digits_of_answers cells.now.schema) cells.now.schema.aggregates
-        (key_at cells.now.dictionaries codes.now.codes, cell) text.old.items text.new.items) }
-{
-    let start = text.as_slice().len();
-    put_key_of(text, cells, shown, codes)?;
-    put_groupings_of(text, cells, codes)?;
-    text.extend_from_slice(answers)?;
-    close_line(text, start)
-}
-
-fn put_key_of<N: Numbers>(
-    text: &mut Vec<u8>,
-    cells: &FinestCells<N>,
-    shown: &[Shown],
-    codes: &KeyCodes,
-) -> Result<(), AllocError>
-    ensures longer { OnOk result (length text.old.items ≤ length text.new.items) }
-    ensures shown { OnOk result (AreShown cells.now.dictionaries shown.now →
         AddsParts (map coord_text (key_at cells.now.dictionaries codes.now.codes).coords)
         text.old.items text.new.items) }
 {
@@ -210,8 +168,7 @@ fn put_coord<N: Numbers>(
     dimension: usize,
 ) -> Result<(), AllocError>
     requires { dimension < length cells.now.dictionaries }
-    ensures longer { OnOk result (length text.old.items ≤ length text.new.items) }
-    ensures shown { OnOk result (AreShown cells.now.dictionaries shown.now →
+    ensures { OnOk result (AreShown cells.now.dictionaries shown.now →
         AddsParts (coord_text (get_or (key_at cells.now.dictionaries codes.now.codes).coords dimension coord.All) ∷ [])
         text.old.items text.new.items) }
 {
@@ -221,7 +178,8 @@ fn put_coord<N: Numbers>(
     }
 }
 
-fn put_groupings_of<N: Numbers>(
+/// Puts what a row shows in its GROUPING columns, each with a comma.
+pub(crate) fn put_groupings_of<N: Numbers>(
     text: &mut Vec<u8>,
     cells: &FinestCells<N>,
     codes: &KeyCodes,

@@ -1,5 +1,8 @@
 //! The answers to questions over what one builder took, of which no cube is filled.
-ghost use Rattle.std.specs.Prelude.{map};
+ghost use Rattle.std.specs.Prelude.{List, map};
+ghost use Rattle.cube_core.specs.declared.change.Refusal.{Refusal};
+ghost use Rattle.cube_core.specs.declared.fact.Fact.{Fact};
+ghost use Rattle.cube_cells.specs.Fill.{IsCubeOfAll};
 ghost use Rattle.cube_ledger.specs.Ledger.{all_facts};
 ghost use Rattle.cube_tool.specs.Answering.{Answers, Fits, Writes};
 ghost use Rattle.cube_tool.specs.Run.{Tells};
@@ -10,15 +13,16 @@ use crate::fault::TextFault;
 use crate::question::Question;
 use crate::reporter::Reporter;
 use cube_build::Taken;
+use cube_cells::{BaseCuboid, FinestCells, Numbers};
 use cube_core::{Key, Pattern};
-use cube_lines::write_pieces;
-use cube_text::print_walked_in_pieces;
+use cube_text::keep_walked;
 use std::alloc::Global;
 use std::io::Write;
+use std::sync::Wait;
 use std::thread::Threads;
 
 /// Writes the answer to a question over what one builder took, of which no cube is filled, and tells a reporter what begins.
-pub(crate) fn answer_taken<T: Threads + Sync, P: Reporter, W: Write>(
+pub(crate) fn answer_taken<T: Threads + Wait + Sync, P: Reporter, W: Write>(
     rt: &T,
     alloc: Global,
     taken: &Taken,
@@ -45,7 +49,7 @@ pub(crate) fn answer_taken<T: Threads + Sync, P: Reporter, W: Write>(
 
 // Writes the printed cube of what one builder took, made in a walk over its finest cells by so many threads, and tells a
 // reporter what begins.
-fn write_walked<T: Threads + Sync, P: Reporter, W: Write>(
+fn write_walked<T: Threads + Wait + Sync, P: Reporter, W: Write>(
     rt: &T,
     alloc: Global,
     taken: &Taken,
@@ -58,8 +62,26 @@ fn write_walked<T: Threads + Sync, P: Reporter, W: Write>(
         result (W.contents out.old) (W.contents out.new) }
 {
     reporter.begins_writing(None);
-    let text = print_walked_in_pieces(rt, alloc, threads, taken.cells())?;
-    write_pieces(out, text)?;
+    match taken.cells() {
+        BaseCuboid::Summaries(cells) => write_finest(rt, alloc, cells, threads, out),
+        BaseCuboid::Numbers(cells) => write_finest(rt, alloc, cells, threads, out),
+    }
+}
+
+// Writes the printed cube of the facts whose finest cells these are.
+fn write_finest<T: Threads + Wait + Sync, N: Numbers + Send + Sync, W: Write>(
+    rt: &T,
+    alloc: Global,
+    cells: &FinestCells<N>,
+    threads: usize,
+    out: &mut W,
+) -> Result<(), TextFault>
+    ensures { (facts : List Fact) (refusals : List (List Refusal)) → IsCubeOfAll facts cells.now →
+        Writes (Tells Question.Cube cells.now.schema facts refusals)
+        result (W.contents out.old) (W.contents out.new) }
+{
+    let text = keep_walked(rt, alloc, threads, cells)?;
+    text.write(rt, out)?;
     Ok(())
 }
 

@@ -140,7 +140,7 @@ fn ask_built<T: Threads + Wait + Sync, R: Read + Drop + Send, G: Gate + Reporter
 /// the cube of the facts of interest, and a reporter is told what begins then.
 ///
 /// The status tells whether there is a refusal. Failures leave what those of [`ask`] do.
-pub fn ask_ledger<T: Threads + Sync, P: Reporter, W: Write>(
+pub fn ask_ledger<T: Threads + Wait + Sync, P: Reporter, W: Write>(
     rt: &T,
     alloc: Global,
     schema: &Schema,
@@ -213,7 +213,7 @@ fn answer_on<P: Reporter, W: Write>(
 
 // Writes the answer to a question over what one builder took, unless a line was refused and none may be, or there are more
 // cells than there may be; a reporter is told what begins.
-fn answer_on_taken<T: Threads + Sync, P: Reporter, W: Write>(
+fn answer_on_taken<T: Threads + Wait + Sync, P: Reporter, W: Write>(
     rt: &T,
     alloc: Global,
     taken: &Taken,

@@ -24,3 +24,7 @@ loop-aggregate-preserved g c =
     HasAnswersBelow-more s c.args.cell.now i c.digits_of-digits.result c.in_ok-try_answer.field-0 c.args.text.now.items
     c.loop-aggregate.text.items c.push_answer.new.text.items c.loop-aggregate.invariant inside
     (rw (c.schema-schema.ensures.schema, same) at k_is) (rw same at a_is) c.in_ok-push_answer.ensures
+
+pub returns-clause-some : goal.returns-clause-some
+returns-clause-some g c =
+    (rw c.schema-schema.ensures.schema at c.aggregates-aggregate-items.ensures.schema).some_aggregate

@@ -10,13 +10,10 @@ use Rattle.cube_text.proofs.FieldLaws.{AddsParts-next}
 use Rattle.cube_text.proofs.walked.put_key_of.Goals as goal
 
 pub loop-dimension-init : goal.loop-dimension-init
-loop-dimension-init g c = record {
-  longer = omega arith;
-  shown = λ are. sym (append-nil c.args.text.now.items);
-}
+loop-dimension-init g c = λ are. sym (append-nil c.args.text.now.items)
 
 pub loop-dimension-preserved : goal.loop-dimension-preserved
-loop-dimension-preserved g c =
+loop-dimension-preserved g c = λ are.
     let coords = coords_at c.args.cells.now.dictionaries c.args.codes.now.codes in
     let inside : c.loop-dimension.dimension < length coords = omega (
       arith,
@@ -24,16 +21,12 @@ loop-dimension-preserved g c =
       c.dimensions-dimension-end.ensures,
       length-coords_at c.args.cells.now.dictionaries c.args.codes.now.codes,
     ) in
-    record {
-      longer = omega (arith, c.loop-dimension.invariant.longer, c.in_ok-put_coord.ensures.longer);
-      shown = λ are. AddsParts-next coord_text coords c.loop-dimension.dimension coord.All
-          (get_or coords c.loop-dimension.dimension coord.All) c.args.text.now.items c.loop-dimension.text.items
-          c.put_coord.new.text.items inside refl (c.loop-dimension.invariant.shown are)
-          (c.in_ok-put_coord.ensures.shown are);
-    }
+    AddsParts-next coord_text coords c.loop-dimension.dimension coord.All
+    (get_or coords c.loop-dimension.dimension coord.All) c.args.text.now.items c.loop-dimension.text.items
+    c.put_coord.new.text.items inside refl (c.loop-dimension.invariant are) (c.in_ok-put_coord.ensures are)
 
-pub returns-clause-shown : goal.returns-clause-shown
-returns-clause-shown g c = λ are.
+pub returns : goal.returns
+returns g c = λ are.
     let coords = coords_at c.args.cells.now.dictionaries c.args.codes.now.codes in
     let past : length coords ≤ c.loop-dimension.dimension = omega (
       arith,
@@ -41,5 +34,5 @@ returns-clause-shown g c = λ are.
       c.dimensions-dimension-end.ensures,
       length-coords_at c.args.cells.now.dictionaries c.args.codes.now.codes,
     ) in
-    c.loop-dimension.invariant.shown are ∙ ap (λ (cs : List Coord). c.args.text.now.items ++ parts (map coord_text cs))
+    c.loop-dimension.invariant are ∙ ap (λ (cs : List Coord). c.args.text.now.items ++ parts (map coord_text cs))
     (take_all c.loop-dimension.dimension coords past)

@@ -1,0 +1,276 @@
+//! The rows of a cube kept short, of which a text is made later: the codes of each one's key, and, once for all keys of a
+//! cell, how their lines end.
+ghost use Rattle.std.specs.Prelude.{◌≡◌, ◌≤◌, ◌++◌, [], ℕ, List, length, map, All, IfOk, OnOk};
+ghost use Rattle.cube_core.specs.Layout.{IsSchema};
+ghost use Rattle.cube_text.specs.Brief.{Brief, IsWithin, brief_line, brief_text, rows_of, rows_under, rows_with};
+ghost use Rattle.cube_text.specs.Shown.{AreShown};
+
+use crate::answers::put_ending;
+use crate::shown::Shown;
+use crate::walked::{put_groupings_of, put_key_of};
+use cube_cells::{Cell, FinestCells, KeyCodes, Numbers, TakesCells};
+use std::alloc::{AllocError, Global};
+use std::marker::Model;
+use std::mem;
+
+/// About how many bytes of text the rows of a piece stand for.
+const PIECE: usize = 1 << 20;
+
+// About how many bytes of a line there are for each dimension: a text, a GROUPING column and two commas.
+const WIDTH: usize = 16;
+
+/// About how many bytes there are of each line before its end.
+pub(crate) fn key_width<N: Numbers>(cells: &FinestCells<N>) -> usize
+    ensures { IsSchema cells.now.schema }
+{
+    cells.schema().dimensions().len().saturating_mul(WIDTH)
+}
+
+/// A row: the codes of its key, and where the end of its line lies among those of its piece.
+#[derive(Clone, Copy)]
+pub struct BriefRow {
+    codes: KeyCodes,
+    start: u32,
+    end: u32,
+}
+
+/// Rows kept short, in their order.
+#[derive(Drop)]
+pub struct BriefRows {
+    rows: Vec<BriefRow>,
+    endings: Vec<u8>,
+}
+
+impl Model for BriefRows {
+    ghost use Rattle.std.specs.Prelude.{All, length};
+    ghost use Rattle.cube_text.specs.Brief.{Brief, IsWithin, rows_with};
+
+    ghost Value = { Brief };
+
+    ghost view = { λ b. rows_with b.endings.items b.rows.items };
+
+    ghost invariant = { λ b. All (IsWithin (length b.endings.items)) b.rows.items };
+}
+
+impl BriefRows {
+    /// No row yet.
+    pub(crate) fn new(alloc: Global) -> BriefRows
+        ensures { result ≡ [] }
+    {
+        BriefRows {
+            rows: Vec::new(alloc),
+            endings: Vec::new(alloc),
+        }
+    }
+
+    /// Puts a row behind the others for each of some codes, whose lines all end so. The only error is that memory ran out,
+    /// also of numbers for so many bytes.
+    pub(crate) fn add(&mut self, keys: &[KeyCodes], ending: &[u8]) -> Result<(), AllocError>
+        ensures { OnOk result (self.new ≡ self.old ++ rows_under ending.now keys.now) }
+    {
+        let start = place_of(self.endings.len())?;
+        self.endings.extend_from_slice(ending)?;
+        let end = place_of(self.endings.len())?;
+        push_rows(&mut self.rows, keys, start, end)
+    }
+
+    /// Puts the lines of the rows at the end of a text. The only error is that memory ran out.
+    pub(crate) fn put_text<N: Numbers>(
+        &self,
+        text: &mut Vec<u8>,
+        cells: &FinestCells<N>,
+        shown: &[Shown],
+    ) -> Result<(), AllocError>
+        ensures { OnOk result (AreShown cells.now.dictionaries shown.now →
+            text.new.items ≡ text.old.items ++ brief_text cells.now.dictionaries self.now) }
+    {
+        put_rows(text, cells, shown, &self.rows, &self.endings)
+    }
+
+    /// The lines of the rows. The only error is that memory ran out.
+    pub(crate) fn text<N: Numbers>(
+        &self,
+        alloc: Global,
+        cells: &FinestCells<N>,
+        shown: &[Shown],
+    ) -> Result<Vec<u8>, AllocError>
+        ensures { IfOk result (λ text. AreShown cells.now.dictionaries shown.now →
+            text.items ≡ brief_text cells.now.dictionaries self.now) }
+    {
+        let mut text = Vec::new(alloc);
+        self.put_text(&mut text, cells, shown)?;
+        Ok(text)
+    }
+}
+
+// A place in a text as a short number. The only error is that it is none.
+fn place_of(place: usize) -> Result<u32, AllocError>
+    ensures { IfOk result (λ short. short ≡ place) }
+{
+    match u32::try_from(place) {
+        Ok(short) => Ok(short),
+        Err(_) => Err(AllocError),
+    }
+}
+
+// Puts a row behind others for each of some codes, the end of whose line lies from one place to another.
+fn push_rows(
+    rows: &mut Vec<BriefRow>,
+    keys: &[KeyCodes],
+    start: u32,
+    end: u32,
+) -> Result<(), AllocError>
+    ensures more { OnOk result (rows.new.items ≡ rows.old.items
+        ++ map (λ codes. record { codes = codes; start = start; end = end }) keys.now) }
+    ensures within { (size : ℕ) → start ≤ end → end ≤ size → All (IsWithin size) rows.old.items →
+        All (IsWithin size) rows.new.items }
+{
+    for codes in keys {
+        rows.push(BriefRow {
+            codes: *codes,
+            start,
+            end,
+        })?;
+    }
+    Ok(())
+}
+
+// Puts the lines of rows at the end of a text, whose ends lie in another.
+fn put_rows<N: Numbers>(
+    text: &mut Vec<u8>,
+    cells: &FinestCells<N>,
+    shown: &[Shown],
+    rows: &[BriefRow],
+    endings: &[u8],
+) -> Result<(), AllocError>
+    requires { All (IsWithin (length endings.now)) rows.now }
+    ensures { OnOk result (AreShown cells.now.dictionaries shown.now →
+        text.new.items ≡ text.old.items ++ brief_text cells.now.dictionaries (rows_with endings.now rows.now)) }
+{
+    for row in rows {
+        let ending = &endings[row.start as usize..row.end as usize];
+        put_row(text, cells, shown, &row.codes, ending)?;
+    }
+    Ok(())
+}
+
+// Puts the line of a row at the end of a text.
+fn put_row<N: Numbers>(
+    text: &mut Vec<u8>,
+    cells: &FinestCells<N>,
+    shown: &[Shown],
+    codes: &KeyCodes,
+    ending: &[u8],
+) -> Result<(), AllocError>
+    ensures { OnOk result (AreShown cells.now.dictionaries shown.now →
+        text.new.items ≡ text.old.items ++ brief_line cells.now.dictionaries (codes.now, ending.now)) }
+{
+    put_key_of(text, cells, shown, codes)?;
+    put_groupings_of(text, cells, codes)?;
+    text.extend_from_slice(ending)
+}
+
+/// What a walk hands its cells to: it keeps their rows, in pieces that stand for about a megabyte of text each.
+#[derive(Drop)]
+pub struct BriefPieces<'c, N: Numbers> {
+    alloc: Global,
+    cells: &'c FinestCells<N>,
+    // About how many bytes there are of each line before its end.
+    width: usize,
+    // How the lines of the last cell's rows end.
+    ending: Vec<u8>,
+    full: Vec<BriefRows>,
+    last: BriefRows,
+    // About how many bytes of text the last piece stands for.
+    size: usize,
+}
+
+impl<'c, N: Numbers> Model for BriefPieces<'c, N> {
+    ghost use Rattle.std.specs.Prelude.{◌++◌};
+    ghost use Rattle.cube_text.specs.Brief.{RowsOver, rows_of};
+
+    ghost Value = { RowsOver };
+
+    ghost view = { λ p. record { finest = p.cells.now; rows = rows_of p.full.items ++ p.last } };
+}
+
+impl<'c, N: Numbers> TakesCells<N> for BriefPieces<'c, N> {
+    ghost use Rattle.cube_text.specs.Brief.{TakesRow};
+
+    ghost takes = { TakesRow };
+
+    fn take_cell(&mut self, keys: &[KeyCodes], cell: &Cell<N>) -> Result<(), AllocError> {
+        if cell.measures() != self.cells.schema().measures().len() {
+            return Ok(());
+        }
+        self.ending.clear();
+        put_ending(&mut self.ending, self.cells, cell)?;
+        self.last.add(keys, &self.ending)?;
+        let line = self.width.saturating_add(self.ending.len());
+        let size = keys.len().saturating_mul(line);
+        self.size = begin_piece(
+            self.alloc,
+            &mut self.full,
+            &mut self.last,
+            self.size.saturating_add(size),
+        )?;
+        Ok(())
+    }
+}
+
+impl<'c, N: Numbers> BriefPieces<'c, N> {
+    /// No row yet.
+    pub(crate) fn new(
+        alloc: Global,
+        cells: &'c FinestCells<N>,
+        width: usize,
+    ) -> BriefPieces<'c, N>
+        ensures { result ≡ record { finest = cells.now; rows = [] } }
+    {
+        BriefPieces {
+            alloc,
+            cells,
+            width,
+            ending: Vec::new(alloc),
+            full: Vec::new(alloc),
+            last: BriefRows::new(alloc),
+            size: 0,
+        }
+    }
+
+    /// The pieces, in their order. The only error is that memory ran out.
+    pub(crate) fn into_pieces(self) -> Result<Vec<BriefRows>, AllocError>
+        ensures { IfOk result (λ pieces. rows_of pieces.items ≡ self.entry.rows) }
+    {
+        let BriefPieces {
+            mut full,
+            last,
+            alloc: _,
+            cells: _,
+            width: _,
+            ending,
+            size: _,
+        } = self;
+        drop(ending);
+        full.push(last)?;
+        Ok(full)
+    }
+}
+
+// Begins a new piece where the last one stands for so many bytes of text that it is full. What is answered is for how many
+// the last one stands then.
+fn begin_piece(
+    alloc: Global,
+    full: &mut Vec<BriefRows>,
+    last: &mut BriefRows,
+    size: usize,
+) -> Result<usize, AllocError>
+    ensures { OnOk result (rows_of full.new.items ++ last.new ≡ rows_of full.old.items ++ last.old) }
+{
+    if size < PIECE {
+        return Ok(size);
+    }
+    let piece = mem::replace(last, BriefRows::new(alloc));
+    full.push(piece)?;
+    Ok(0)
+}

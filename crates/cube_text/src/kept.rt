@@ -1,0 +1,244 @@
+//! The text of a cube, most of which is made while it is written, so that no more than a few pieces of it take memory.
+ghost use Rattle.std.specs.Prelude.{◌≡◌, ◌+◌, ◌<◌, ◌≤◌, ◌++◌, ℕ, List, drop, get_or, length, take, IfErr, IfOk, OnOk};
+ghost use Rattle.std.specs.Io.KnownBytes.{Appends};
+ghost use Rattle.cube_core.specs.Printed.{IsPrinted};
+ghost use Rattle.cube_core.specs.declared.fact.Fact.{Fact};
+ghost use Rattle.cube_cells.specs.Fill.{IsCubeOfAll};
+ghost use Rattle.cube_lines.specs.Pieces.{SendsPart, text_of_pieces};
+ghost use Rattle.cube_text.specs.Brief.{brief_text, rows_of};
+ghost use Rattle.cube_text.specs.Kept.{FollowTexts, text_from};
+ghost use Rattle.cube_text.specs.Shown.{AreShown};
+
+use crate::brief::BriefRows;
+use crate::made::all_made;
+use crate::print::text_of_header;
+use crate::shown::{Shown, all_shown};
+use crate::walked::pieces_of_cube;
+use cube_cells::{FinestCells, Numbers};
+use cube_lines::{WriteFault, send_pieces};
+use std::alloc::{AllocError, Global};
+use std::io::Write;
+use std::marker::Model;
+use std::sync::Wait;
+use std::thread;
+use std::thread::{Threads, map_indices};
+
+/// The printed text of a cube: the texts of the first pieces, and the rows of the others, kept short.
+#[derive(Drop)]
+pub struct KeptText<'c, N: Numbers> {
+    alloc: Global,
+    threads: usize,
+    cells: &'c FinestCells<N>,
+    shown: Vec<Shown>,
+    // The header line, and the texts of the first pieces.
+    made: Vec<Vec<u8>>,
+    pieces: Vec<BriefRows>,
+    // From which piece on there is no text yet.
+    place: usize,
+}
+
+impl<'c, N: Numbers> Model for KeptText<'c, N> {
+    ghost use Rattle.std.specs.Prelude.{◌++◌, ℕ, List};
+    ghost use Rattle.cube_lines.specs.Pieces.{text_of_pieces};
+    ghost use Rattle.cube_text.specs.Kept.{text_from};
+    ghost use Rattle.cube_text.specs.Shown.{AreShown};
+
+    ghost Value = { List ℕ };
+
+    ghost view = { λ t. text_of_pieces t.made.items ++ text_from t.cells.now.dictionaries t.pieces.items t.place };
+
+    ghost invariant = { λ t. AreShown t.cells.now.dictionaries t.shown.items };
+}
+
+// What the texts of pieces are made of, and by how many threads at a time.
+#[derive(Drop)]
+struct Making<'m, N: Numbers> {
+    alloc: Global,
+    threads: usize,
+    cells: &'m FinestCells<N>,
+    shown: &'m [Shown],
+    pieces: &'m [BriefRows],
+}
+
+/// The printed text of the cube of the facts whose finest cells these are: all of its rows are there, kept short, and the text
+/// of the first pieces is made, one by each thread. With one thread, or none, no thread is started. The only error is that
+/// memory ran out, or numbers to count the facts with.
+pub fn keep_walked<'c, T: Threads + Sync, N: Numbers + Send + Sync>(
+    rt: &T,
+    alloc: Global,
+    threads: usize,
+    cells: &'c FinestCells<N>,
+) -> Result<KeptText<'c, N>, AllocError>
+    ensures { IfOk result (λ text. (facts : List Fact) → IsCubeOfAll facts cells.now →
+        IsPrinted cells.now.schema facts text) }
+{
+    let header = text_of_header(alloc, cells.schema())?;
+    let shown = all_shown(alloc, cells)?;
+    let pieces = pieces_of_cube(rt, alloc, threads, cells)?;
+    let making = Making {
+        alloc,
+        threads,
+        cells,
+        shown: &shown,
+        pieces: &pieces,
+    };
+    let mut first = making.texts(rt, 0, threads)?;
+    let place = first.len();
+    let mut made = Vec::new(alloc);
+    made.push(header)?;
+    made.append(&mut first)?;
+    Ok(KeptText {
+        alloc,
+        threads,
+        cells,
+        shown,
+        made,
+        pieces,
+        place,
+    })
+}
+
+impl<'c, N: Numbers + Send + Sync> KeptText<'c, N> {
+    /// Writes the text, and flushes the writer once at its end. What isn't made yet is made a few pieces at a time, one by each
+    /// thread, and let go of once it went out. A piece for whose text there is no memory is waited for, and tried again: by
+    /// then the texts that went out before it have given back theirs.
+    pub fn write<T: Threads + Wait + Sync, W: Write>(
+        self,
+        rt: &T,
+        out: &mut W,
+    ) -> Result<(), WriteFault>
+        ensures whole { OnOk result (Appends (W.contents out.old) (W.contents out.new) self) }
+        ensures within { IfErr result (λ fault. fault.sent ≤ length self) }
+        ensures part { IfErr result (λ fault.
+            Appends (W.contents out.old) (W.contents out.new) (take fault.sent self)) }
+    {
+        let KeptText {
+            alloc,
+            threads,
+            cells,
+            shown,
+            made,
+            pieces,
+            place,
+        } = self;
+        let making = Making {
+            alloc,
+            threads,
+            cells,
+            shown: &shown,
+            pieces: &pieces,
+        };
+        making.write(rt, made, place, out)
+    }
+}
+
+impl<'m, N: Numbers + Send + Sync> Making<'m, N> {
+    // Writes the texts that are made, and those of the pieces from a place on, and flushes the writer once at their end.
+    fn write<T: Threads + Wait + Sync, W: Write>(
+        &self,
+        rt: &T,
+        made: Vec<Vec<u8>>,
+        place: usize,
+        out: &mut W,
+    ) -> Result<(), WriteFault>
+        requires { AreShown self.now.cells.now.dictionaries self.now.shown.now }
+        ensures whole { OnOk result (Appends (W.contents out.old) (W.contents out.new)
+            (text_of_pieces made.items ++ text_from self.now.cells.now.dictionaries self.now.pieces.now place)) }
+        ensures part { IfErr result (λ fault. SendsPart 0
+            (text_of_pieces made.items ++ text_from self.now.cells.now.dictionaries self.now.pieces.now place)
+            fault.sent (W.contents out.old) (W.contents out.new)) }
+    {
+        let sent = send_pieces(out, 0, &made)?;
+        drop(made);
+        let sent = self.send_from(rt, place, sent, out)?;
+        out.flush().map_err(|_| WriteFault { sent })
+    }
+
+    // Writes the texts of the pieces from a place on, behind so many bytes that had gone out, and flushes nothing. What is
+    // answered is how many bytes went out in all.
+    fn send_from<T: Threads + Wait + Sync, W: Write>(
+        &self,
+        rt: &T,
+        from: usize,
+        before: usize,
+        out: &mut W,
+    ) -> Result<usize, WriteFault>
+        requires { AreShown self.now.cells.now.dictionaries self.now.shown.now }
+        ensures count { IfOk result (λ sent. sent ≡ before
+            + length (text_from self.now.cells.now.dictionaries self.now.pieces.now from)) }
+        ensures whole { OnOk result (Appends (W.contents out.old) (W.contents out.new)
+            (text_from self.now.cells.now.dictionaries self.now.pieces.now from)) }
+        ensures part { IfErr result (λ fault. SendsPart before
+            (text_from self.now.cells.now.dictionaries self.now.pieces.now from)
+            fault.sent (W.contents out.old) (W.contents out.new)) }
+    {
+        let mut place = from;
+        let mut sent = before;
+        while place < self.pieces.len() {
+            let texts = self.next_texts(rt, place);
+            sent = send_pieces(out, sent, &texts)?;
+            place += texts.len();
+        }
+        Ok(sent)
+    }
+
+    // The texts of the pieces from a place on, one at least, and one by each thread where there is memory for them. It waits
+    // while there is none for one.
+    fn next_texts<T: Threads + Wait + Sync>(&self, rt: &T, place: usize) -> Vec<Vec<u8>>
+        requires { place < length self.now.pieces.now }
+        ensures some { 0 < length result.items }
+        ensures follow { FollowTexts self.now.cells.now.dictionaries self.now.shown.now self.now.pieces.now place
+            result.items }
+    {
+        if let Ok(texts) = self.texts(rt, place, self.threads) {
+            return texts;
+        }
+        for _ in rt.forever() {
+            if let Ok(texts) = self.texts(rt, place, 1) {
+                return texts;
+            }
+            thread::yield_now();
+        }
+        unreachable!()
+    }
+
+    // The texts of the pieces from a place on, so many at most and one at least where there are some, each made on a thread of
+    // its own. The only error is that memory ran out.
+    fn texts<T: Threads + Sync>(
+        &self,
+        rt: &T,
+        place: usize,
+        most: usize,
+    ) -> Result<Vec<Vec<u8>>, AllocError>
+        requires { place ≤ length self.now.pieces.now }
+        ensures some { IfOk result (λ texts. place < length self.now.pieces.now → 0 < length texts.items) }
+        ensures follow { IfOk result (λ texts. FollowTexts self.now.cells.now.dictionaries self.now.shown.now
+            self.now.pieces.now place texts.items) }
+    {
+        let count = most.max(1).min(self.pieces.len() - place);
+        let pieces = &self.pieces[place..place + count];
+        let made = texts_of(rt, self.alloc, self.cells, self.shown, pieces)?;
+        all_made(self.alloc, made)
+    }
+}
+
+// The lines of the rows of each piece, each made on a thread of its own.
+fn texts_of<T: Threads + Sync, N: Numbers + Send + Sync>(
+    rt: &T,
+    alloc: Global,
+    cells: &FinestCells<N>,
+    shown: &[Shown],
+    pieces: &[BriefRows],
+) -> Result<Vec<Result<Vec<u8>, AllocError>>, AllocError>
+    ensures long { IfOk result (λ texts. length texts.items ≡ length pieces.now) }
+    ensures each { IfOk result (λ texts. (i : ℕ) (unused : _) → i < length pieces.now →
+        IfOk (get_or texts.items i unused) (λ text. AreShown cells.now.dictionaries shown.now →
+        text.items ≡ brief_text cells.now.dictionaries (get_or pieces.now i []))) }
+{
+    map_indices(
+        rt,
+        alloc,
+        pieces.len(),
+        &|which| { pieces[which].text(alloc, cells, shown) },
+    )
+}
