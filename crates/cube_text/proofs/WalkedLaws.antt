@@ -2,12 +2,13 @@
 use Rattle.std.proofs.Common.{◌≡◌, ◌∙◌, ◌+◌, ◌++◌, ◌<◌, ◌≤◌, ◌∷◌, [], ℕ, List, length, get_or, map, refl, sym, ap, subst}
 use Rattle.std.proofs.Common.{append_assoc, arith, suc}
 use Rattle.std.specs.Global.{Vec}
-use Rattle.std.specs.List.{AllZip, flat_map}
-use Rattle.std.specs.Prelude.{All, IsTrue, true, ◌||◌}
+use Rattle.std.specs.List.{AllZip, flat_map, list_any}
+use Rattle.std.specs.Prelude.{All, IfOk, Ok, Result, ◌||◌}
+use Rattle.std.specs.declared.alloc.AllocError.{AllocError}
 use Rattle.std.proofs.Math.Seq.{drop-append_seam, take-append_seam}
 use Rattle.std.proofs.lemmas.Bool.{and_parts}
 use Rattle.std.proofs.lemmas.Grind.{flat_map-append}
-use Rattle.std.proofs.lemmas.List.{append-nil, map-append}
+use Rattle.std.proofs.lemmas.List.{append-nil, get_or-map, length-map, map-append}
 use Rattle.std.proofs.lemmas.List.Elements.{All-drop, All-head, All-tail, All-take, All-weaker}
 use Rattle.std.proofs.lemmas.List.Sums.{list_all-from_AllPass}
 use Rattle.cube_core.specs.Covers.{covers}
@@ -83,11 +84,11 @@ some_coordinate finest [] facts cube schema all some = absurd (omega (arith, som
 some_coordinate finest (cell ∷ cells) facts cube schema all some =
     let s = finest.schema in
     let key : Key = key_at finest.dictionaries cell.0.codes in
-    let is = (cube.keys facts all).cells key .0 (0, omega arith, refl) in
+    let is = ((cube.keys facts all).cells key).0 (0, omega arith, refl) in
     let parts = and_parts (is_among (mask_of key) s.grouping_sets)
     (is_total (length s.dimensions) key || list_any (covers key) facts) is in
     let wide : length key.coords ≡ length s.dimensions =
-    is_cell-length s facts key (list_all-from_AllPass facts all.fit) parts.1 in
+    is_cell-length s facts key (list_all-from_AllPass (fits s) facts all.fit) parts.1 in
     omega (arith, wide, length-coords_at finest.dictionaries cell.0.codes, schema.some_dimension)
 
 IsShowable-cube : (finest : Lattice) (cells : CodedCells) (facts : List Fact) → AreCellsOfCube finest cells
@@ -187,6 +188,20 @@ AreRowsOfParts-each finest (part ∷ parts) (list ∷ lists) long each =
                 ∙ sym (flat_map-append (line_with (digits_of_answers finest.schema)) first.rows second.rows);
           };
     }
+
+-- what was made of the parts
+pub AreRowsOfParts-made : (finest : Lattice) (parts : List PartOfWalk) (lists : List (Vec Brief))
+    (made : List (Result (Vec Brief) AllocError)) → map Ok lists ≡ made → length made ≡ length parts
+    → ((i : ℕ) (unused : Result (Vec Brief) AllocError) (part : PartOfWalk) → i < length parts
+    → IfOk (get_or made i unused) (λ pieces. AreRowsOfPart finest (get_or parts i part) (rows_of pieces.items)))
+    → AreRowsOfParts finest parts (rows_of (pieces_of lists))
+AreRowsOfParts-made finest parts lists made are long each =
+    let count : length lists ≡ length parts = sym (length-map lists Ok)
+    ∙ ap (λ (l : List (Result (Vec Brief) AllocError)). length l) are ∙ long in
+    AreRowsOfParts-each finest parts lists count (λ i part list inside.
+    let one : get_or made i (Ok list) ≡ Ok (get_or lists i list) =
+    rw (← are) (get_or-map Ok lists i list (Ok list) (omega (arith, inside, count))) in
+    rw one at (each i (Ok list) part inside))
 
 pub ArePrintedRows-parts : (finest : Lattice) (parts : List PartOfWalk) (rows : Brief) → IsSchema finest.schema
     → AreRowsOfParts finest parts rows → ArePartsOfCube finest parts → ArePrintedRows finest rows

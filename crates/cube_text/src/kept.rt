@@ -1,5 +1,5 @@
 //! The text of a cube, most of which is made while it is written, so that no more than a few pieces of it take memory.
-ghost use Rattle.std.specs.Prelude.{◌≡◌, ◌+◌, ◌<◌, ◌≤◌, ◌++◌, ℕ, List, drop, get_or, length, take, IfErr, IfOk, OnOk};
+ghost use Rattle.std.specs.Prelude.{◌≡◌, ◌+◌, ◌<◌, ◌≤◌, ◌++◌, [], ℕ, List, drop, get_or, length, take, IfErr, IfOk, OnOk};
 ghost use Rattle.std.specs.Io.KnownBytes.{Appends};
 ghost use Rattle.cube_core.specs.Printed.{IsPrinted};
 ghost use Rattle.cube_core.specs.declared.fact.Fact.{Fact};
@@ -107,10 +107,10 @@ impl<'c, N: Numbers + Send + Sync> KeptText<'c, N> {
         rt: &T,
         out: &mut W,
     ) -> Result<(), WriteFault>
-        ensures whole { OnOk result (Appends (W.contents out.old) (W.contents out.new) self) }
-        ensures within { IfErr result (λ fault. fault.sent ≤ length self) }
+        ensures whole { OnOk result (Appends (W.contents out.old) (W.contents out.new) self.entry) }
+        ensures within { IfErr result (λ fault. fault.sent ≤ length self.entry) }
         ensures part { IfErr result (λ fault.
-            Appends (W.contents out.old) (W.contents out.new) (take fault.sent self)) }
+            Appends (W.contents out.old) (W.contents out.new) (take fault.sent self.entry)) }
     {
         let KeptText {
             alloc,
