@@ -1,18 +1,16 @@
 -- Laws of rows kept short: how they grow, and what text they stand for.
 use Rattle.std.proofs.Common.{◌≡◌, ◌∙◌, ◌+◌, ◌-◌, ◌++◌, ◌<◌, ◌≤◌, ◌∷◌, [], ℕ, List, length, get_or, map, take, drop}
 use Rattle.std.proofs.Common.{refl, sym, ap, append_assoc, arith, length-append, length-drop, length-take, suc}
-use Rattle.std.specs.Prelude.{All, Ok, OnOk, IfOk, Result}
+use Rattle.std.specs.Prelude.{All, Ok, IfOk, Result}
 use Rattle.std.specs.Global.{Vec}
 use Rattle.std.specs.List.{flat_map}
 use Rattle.std.specs.declared.alloc.AllocError.{AllocError}
-use Rattle.std.proofs.Math.Seq.{drop-append_seam, take-append_seam}
+use Rattle.std.proofs.Math.Seq.{drop-append_seam}
 use Rattle.std.proofs.lemmas.Grind.{flat_map-append}
 use Rattle.std.proofs.lemmas.List.{append-nil, append_cancel_right, drop-append-le, drop-drop, get_or-map, length-map, map-append, take-append-drop, take-append-le, take_all, take_more}
 use Rattle.std.proofs.lemmas.List.Elements.{All-head, All-tail, All-weaker}
 use Rattle.cube_core.specs.Layout.{Layout}
 use Rattle.cube_core.specs.Text.{answer_texts, coord_text, digits_of_answers, grouping_text}
-use Rattle.cube_core.specs.declared.key.Key.{Key}
-use Rattle.cube_core.specs.declared.key.Row.{Row}
 use Rattle.cube_cells.specs.BottomUp.{TakesAll, under_keys}
 use Rattle.cube_cells.specs.Codes.{Dictionaries, coords_at, key_at}
 use Rattle.cube_cells.specs.Cube.{Lattice}

@@ -1,5 +1,5 @@
 -- Laws of the rows of a walk: those of its cells, one after another, are the printed cube.
-use Rattle.std.proofs.Common.{◌≡◌, ◌∙◌, ◌+◌, ◌++◌, ◌<◌, ◌≤◌, ◌∷◌, [], ℕ, List, length, get_or, map, refl, sym, ap, subst}
+use Rattle.std.proofs.Common.{◌≡◌, ◌∙◌, ◌++◌, ◌<◌, ◌≤◌, ◌∷◌, [], ℕ, List, length, get_or, map, refl, sym, ap, subst}
 use Rattle.std.proofs.Common.{append_assoc, arith, suc}
 use Rattle.std.specs.Global.{Vec}
 use Rattle.std.specs.List.{AllZip, flat_map, list_any}
@@ -9,13 +9,12 @@ use Rattle.std.proofs.Math.Seq.{drop-append_seam, take-append_seam}
 use Rattle.std.proofs.lemmas.Bool.{and_parts}
 use Rattle.std.proofs.lemmas.Grind.{flat_map-append}
 use Rattle.std.proofs.lemmas.List.{append-nil, get_or-map, length-map, map-append}
-use Rattle.std.proofs.lemmas.List.Elements.{All-drop, All-head, All-tail, All-take, All-weaker}
+use Rattle.std.proofs.lemmas.List.Elements.{All-drop, All-head, All-tail, All-take}
 use Rattle.std.proofs.lemmas.List.Sums.{list_all-from_AllPass}
 use Rattle.cube_core.specs.Covers.{covers}
 use Rattle.cube_core.specs.Cube.{is_total}
 use Rattle.cube_core.specs.GroupingSet.{is_among, mask_of}
 use Rattle.cube_core.specs.Layout.{IsSchema}
-use Rattle.cube_core.specs.Printed.{IsPrinted}
 use Rattle.cube_core.specs.Takes.{fits}
 use Rattle.cube_core.specs.Text.{digits_of_answers, header_fields, line}
 use Rattle.cube_core.specs.declared.fact.Fact.{Fact}
@@ -25,7 +24,7 @@ use Rattle.cube_core.proofs.CellKeyLaws.{is_cell-length}
 use Rattle.cube_core.proofs.ListLaws.{AllZip-append}
 use Rattle.cube_cells.specs.BottomUp.{AreCellsOfCube, TakesAll, TakesCube}
 use Rattle.cube_cells.specs.Codes.{key_at}
-use Rattle.cube_cells.specs.Coded.{CodedCells, IsCodedCell, decoded}
+use Rattle.cube_cells.specs.Coded.{CodedCells, decoded}
 use Rattle.cube_cells.specs.Cube.{Lattice}
 use Rattle.cube_cells.specs.Fill.{IsCubeOfAll}
 use Rattle.cube_cells.specs.Rows.{IsRowOf}

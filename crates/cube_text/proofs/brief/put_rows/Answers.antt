@@ -1,4 +1,4 @@
-use Rattle.std.proofs.Common.{◌<◌, ◌∙◌, [], ℕ, List, arith, get_or, length, sym}
+use Rattle.std.proofs.Common.{◌<◌, [], ℕ, List, arith, get_or, length, sym}
 use Rattle.std.proofs.lemmas.List.{append-nil, get_or-map, length-map}
 use Rattle.cube_cells.specs.declared.cube.codes.Codes.{Codes}
 use Rattle.cube_text.specs.Brief.{between, rows_with}

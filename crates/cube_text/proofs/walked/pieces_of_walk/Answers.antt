@@ -1,5 +1,5 @@
 use Rattle.std.proofs.lemmas.Result.{IfOk-weaker}
-use Rattle.cube_text.specs.Brief.{ArePrintedRows, Brief}
+use Rattle.cube_text.specs.Brief.{ArePrintedRows}
 use Rattle.std.proofs.Common.{subst, sym}
 use Rattle.cube_text.proofs.WalkedLaws.{ArePrintedRows-TakesCube}
 use Rattle.cube_text.proofs.walked.pieces_of_walk.Goals as goal

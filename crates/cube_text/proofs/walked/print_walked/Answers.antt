@@ -1,4 +1,4 @@
-use Rattle.std.proofs.Common.{◌≡◌, ◌++◌, ◌∙◌, List, ℕ, ap, subst, sym}
+use Rattle.std.proofs.Common.{◌++◌, ◌∙◌, List, ℕ, ap, subst, sym}
 use Rattle.cube_core.specs.Printed.{IsPrinted}
 use Rattle.cube_text.specs.Brief.{brief_text, rows_of}
 use Rattle.cube_text.proofs.walked.print_walked.Goals as goal

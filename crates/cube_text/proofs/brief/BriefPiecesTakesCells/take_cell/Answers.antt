@@ -2,7 +2,7 @@ use Rattle.std.proofs.Common.{◌≡◌, ◌∙◌, ◌++◌, List, ap, append_a
 use Rattle.cube_core.specs.Layout.{Layout}
 use Rattle.cube_core.specs.declared.text.Text.{Text}
 use Rattle.cube_cells.proofs.Cells.TakenLaws.{TakesAll-same}
-use Rattle.cube_text.specs.Brief.{Brief, RowsOver, TakesRow, rows_of, rows_under}
+use Rattle.cube_text.specs.Brief.{Brief, TakesRow, rows_of, rows_under}
 use Rattle.cube_text.proofs.BriefLaws.{TakesAll-rows_under}
 use Rattle.cube_text.proofs.brief.BriefPiecesTakesCells.take_cell.Goals as goal
 

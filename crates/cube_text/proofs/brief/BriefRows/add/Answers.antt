@@ -1,4 +1,4 @@
-use Rattle.std.proofs.Common.{◌≡◌, ◌++◌, arith, length, rules}
+use Rattle.std.proofs.Common.{◌≡◌, arith, length}
 use Rattle.std.proofs.lemmas.Result.{on_ok_weaker}
 use Rattle.cube_text.proofs.BriefLaws.{rows_with-more}
 use Rattle.cube_text.proofs.brief.BriefRows.add.Goals as goal
