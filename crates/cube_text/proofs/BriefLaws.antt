@@ -227,7 +227,10 @@ TakesAll-rows_under finest cell (codes ∷ keys) ending rows old new is old_is n
     let first : TakesRow old codes cell mid = rw old_is (record {
       same = refl;
       adds = λ width. record { ending = ending; is = is; added = refl };
-    }) in
-    (mid, first, TakesAll-rows_under finest cell keys ending more mid new is refl
-        (new_is ∙ ap (λ (l : Brief). record { finest = finest; rows = l })
-        (sym (append_assoc rows ((codes, ending) ∷ []) (rows_under ending keys)))))
+    }) in (
+      mid,
+      first,
+      TakesAll-rows_under finest cell keys ending more mid new is refl
+          (new_is ∙ ap (λ (l : Brief). record { finest = finest; rows = l })
+          (sym (append_assoc rows ((codes, ending) ∷ []) (rows_under ending keys)))),
+    )

@@ -220,11 +220,7 @@ impl<'c, N: Numbers> TakesCells<N> for BriefPieces<'c, N> {
 
 impl<'c, N: Numbers> BriefPieces<'c, N> {
     /// No row yet.
-    pub(crate) fn new(
-        alloc: Global,
-        cells: &'c FinestCells<N>,
-        width: usize,
-    ) -> BriefPieces<'c, N>
+    pub(crate) fn new(alloc: Global, cells: &'c FinestCells<N>, width: usize) -> BriefPieces<'c, N>
         ensures { result ≡ record { finest = cells.now; rows = [] } }
     {
         BriefPieces {

@@ -113,10 +113,7 @@ fn pieces_of_part<N: Numbers>(
 }
 
 // The pieces of lists, one list behind the other.
-fn put_together(
-    alloc: Global,
-    lists: Vec<Vec<BriefRows>>,
-) -> Result<Vec<BriefRows>, AllocError>
+fn put_together(alloc: Global, lists: Vec<Vec<BriefRows>>) -> Result<Vec<BriefRows>, AllocError>
     ensures { IfOk result (λ pieces. pieces.items ≡ flat_map (λ list. list.items) lists.items) }
 {
     let mut pieces = Vec::new(alloc);
