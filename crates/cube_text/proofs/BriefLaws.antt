@@ -22,7 +22,7 @@ use Rattle.cube_lines.specs.Pieces.{text_of_pieces}
 use Rattle.cube_lines.proofs.TextLaws.{EndsLine-keyed}
 use Rattle.cube_text.specs.Brief.{Brief, IsEnding, IsWithin, RowsOver, TakesRow, between, brief_line, brief_text}
 use Rattle.cube_text.specs.Brief.{rows_of, rows_under, rows_with}
-use Rattle.cube_text.specs.Kept.{FollowTexts, text_from}
+use Rattle.cube_text.specs.Kept.{AreNextTexts, text_from}
 use Rattle.cube_text.specs.Rows.{line_with}
 use Rattle.cube_text.specs.Shown.{AreShown}
 use Rattle.cube_text.specs.declared.brief.BriefRow.{BriefRow}
@@ -182,19 +182,20 @@ text_of_pieces-brief dictionaries (piece ∷ pieces) (text ∷ texts) long each 
     ∙ sym (brief_text-append dictionaries piece (rows_of pieces))
 
 -- the texts of so many pieces from a place on follow one another
-pub FollowTexts-made : (dictionaries : Dictionaries) (shown : List Shown) (pieces slice : List Brief) (place count : ℕ)
+pub AreNextTexts-made : (dictionaries : Dictionaries) (shown : List Shown) (pieces slice : List Brief) (place count : ℕ)
     (texts : List (Vec ℕ)) (made : List (Result (Vec ℕ) AllocError)) → place + count ≤ length pieces
     → slice ≡ take count (drop place pieces) → map Ok texts ≡ made → length made ≡ length slice
     → ((i : ℕ) (unused : Result (Vec ℕ) AllocError) → i < length slice → IfOk (get_or made i unused) (λ text.
     AreShown dictionaries shown → text.items ≡ brief_text dictionaries (get_or slice i [])))
-    → FollowTexts dictionaries shown pieces place texts
-FollowTexts-made dictionaries shown pieces slice place count texts made within slice_is are long each =
+    → (place < length pieces → 0 < count) → AreNextTexts dictionaries shown pieces place texts
+AreNextTexts-made dictionaries shown pieces slice place count texts made within slice_is are long each some =
     let rest = drop place pieces in
     let many : length slice ≡ count = ap (λ (l : List Brief). length l) slice_is
     ∙ omega (arith, within, length-take count rest, length-drop place pieces) in
     let as_many : length texts ≡ length slice =
     sym (length-map texts Ok) ∙ ap (λ (l : List (Result (Vec ℕ) AllocError)). length l) are ∙ long in
     record {
+      some = λ more. omega (arith, some more, many, as_many);
       within = omega (arith, within, many, as_many);
       text_is = λ is.
           let texts_are = text_of_pieces-brief dictionaries slice texts as_many (λ i unused inside.

@@ -6,7 +6,8 @@ ghost use Rattle.cube_core.specs.declared.fact.Fact.{Fact};
 ghost use Rattle.cube_cells.specs.Fill.{IsCubeOfAll};
 ghost use Rattle.cube_lines.specs.Pieces.{SendsPart, text_of_pieces};
 ghost use Rattle.cube_text.specs.Brief.{brief_text, rows_of};
-ghost use Rattle.cube_text.specs.Kept.{FollowTexts, text_from};
+ghost use Rattle.std.specs.Thread.{IsSend, IsSync};
+ghost use Rattle.cube_text.specs.Kept.{AreNextTexts, SendsTexts, text_from};
 ghost use Rattle.cube_text.specs.Shown.{AreShown};
 
 use crate::brief::BriefRows;
@@ -21,7 +22,7 @@ use std::io::Write;
 use std::marker::Model;
 use std::sync::Wait;
 use std::thread;
-use std::thread::{Threads, map_indices};
+use std::thread::{Threads, join_mut, map_indices};
 
 /// The printed text of a cube: the texts of the first pieces, and the rows of the others, kept short.
 #[derive(Drop)]
@@ -148,46 +149,96 @@ impl<'m, N: Numbers + Send + Sync> Making<'m, N> {
             (text_of_pieces made.items ++ text_from self.now.cells.now.dictionaries self.now.pieces.now place)
             fault.sent (W.contents out.old) (W.contents out.new)) }
     {
-        let sent = send_pieces(out, 0, &made)?;
-        drop(made);
-        let sent = self.send_from(rt, place, sent, out)?;
+        let sent = self.send_all(rt, made, place, out)?;
         out.flush().map_err(|_| WriteFault { sent })
     }
 
-    // Writes the texts of the pieces from a place on, behind so many bytes that had gone out, and flushes nothing. What is
-    // answered is how many bytes went out in all.
-    fn send_from<T: Threads + Wait + Sync, W: Write>(
+    // The same without a flush. What is answered is how many bytes went out.
+    fn send_all<T: Threads + Wait + Sync, W: Write>(
         &self,
         rt: &T,
+        made: Vec<Vec<u8>>,
         from: usize,
-        before: usize,
         out: &mut W,
     ) -> Result<usize, WriteFault>
         requires { AreShown self.now.cells.now.dictionaries self.now.shown.now }
-        ensures count { IfOk result (λ sent. sent ≡ before
-            + length (text_from self.now.cells.now.dictionaries self.now.pieces.now from)) }
+        ensures count { IfOk result (λ sent. sent ≡ length
+            (text_of_pieces made.items ++ text_from self.now.cells.now.dictionaries self.now.pieces.now from)) }
         ensures whole { OnOk result (Appends (W.contents out.old) (W.contents out.new)
-            (text_from self.now.cells.now.dictionaries self.now.pieces.now from)) }
-        ensures part { IfErr result (λ fault. SendsPart before
-            (text_from self.now.cells.now.dictionaries self.now.pieces.now from)
+            (text_of_pieces made.items ++ text_from self.now.cells.now.dictionaries self.now.pieces.now from)) }
+        ensures part { IfErr result (λ fault. SendsPart 0
+            (text_of_pieces made.items ++ text_from self.now.cells.now.dictionaries self.now.pieces.now from)
             fault.sent (W.contents out.old) (W.contents out.new)) }
     {
+        let mut texts = made;
         let mut place = from;
-        let mut sent = before;
+        let mut sent = 0;
         while place < self.pieces.len() {
-            let texts = self.next_texts(rt, place);
-            sent = send_pieces(out, sent, &texts)?;
+            let (next, result) = self.send_and_make(rt, &texts, sent, place, out);
+            sent = result?;
+            texts.clear();
+            texts = self.made_or_next(rt, place, next);
             place += texts.len();
         }
-        Ok(sent)
+        send_pieces(out, sent, &texts)
+    }
+
+    // Writes texts behind so many bytes that had gone out, and flushes nothing. Meanwhile, where there is more than one thread,
+    // others make the texts of the next pieces, from a place on; it is an error where there was no memory for them, or no other
+    // thread.
+    fn send_and_make<T: Threads + Sync, W: Write>(
+        &self,
+        rt: &T,
+        texts: &[Vec<u8>],
+        before: usize,
+        place: usize,
+        out: &mut W,
+    ) -> (Result<Vec<Vec<u8>>, AllocError>, Result<usize, WriteFault>)
+        requires { place < length self.now.pieces.now }
+        ensures next { IfOk result.0 (λ next. AreNextTexts self.now.cells.now.dictionaries self.now.shown.now
+            self.now.pieces.now place next.items) }
+        ensures sends { SendsTexts before (text_of_pieces texts.now) result.1
+            (W.contents out.old) (W.contents out.new) }
+    {
+        if self.threads <= 1 {
+            return (Err(AllocError), send_pieces(out, before, texts));
+        }
+        let mut make = || -> Result<Vec<Vec<u8>>, AllocError>
+            requires { IsSync T.row × IsSend N.row × IsSync N.row × (place < length self.now.pieces.now) }
+            ensures { IfOk result (λ next. AreNextTexts self.entry.now.cells.now.dictionaries
+                self.entry.now.shown.now self.entry.now.pieces.now place next.items) }
+        { self.texts(rt, place, self.threads) };
+        let mut send = || -> Result<usize, WriteFault>
+            ensures { SendsTexts before (text_of_pieces texts.entry.now) result
+                (W.contents out.entry.now) (W.contents out.exit.now) }
+        { send_pieces(out, before, texts) };
+        join_mut(rt, &mut make, &mut send)
+    }
+
+    // The texts of the pieces from a place on: those that others made, or else they are made now.
+    fn made_or_next<T: Threads + Wait + Sync>(
+        &self,
+        rt: &T,
+        place: usize,
+        made: Result<Vec<Vec<u8>>, AllocError>,
+    ) -> Vec<Vec<u8>>
+        requires place { place < length self.now.pieces.now }
+        requires made { IfOk made (λ texts. AreNextTexts self.now.cells.now.dictionaries self.now.shown.now
+            self.now.pieces.now place texts.items) }
+        ensures { AreNextTexts self.now.cells.now.dictionaries self.now.shown.now self.now.pieces.now place
+            result.items }
+    {
+        match made {
+            Ok(texts) => texts,
+            Err(_) => self.next_texts(rt, place),
+        }
     }
 
     // The texts of the pieces from a place on, one at least, and one by each thread where there is memory for them. It waits
     // while there is none for one.
     fn next_texts<T: Threads + Wait + Sync>(&self, rt: &T, place: usize) -> Vec<Vec<u8>>
         requires { place < length self.now.pieces.now }
-        ensures some { 0 < length result.items }
-        ensures follow { FollowTexts self.now.cells.now.dictionaries self.now.shown.now self.now.pieces.now place
+        ensures { AreNextTexts self.now.cells.now.dictionaries self.now.shown.now self.now.pieces.now place
             result.items }
     {
         if let Ok(texts) = self.texts(rt, place, self.threads) {
@@ -211,8 +262,7 @@ impl<'m, N: Numbers + Send + Sync> Making<'m, N> {
         most: usize,
     ) -> Result<Vec<Vec<u8>>, AllocError>
         requires { place ≤ length self.now.pieces.now }
-        ensures some { IfOk result (λ texts. place < length self.now.pieces.now → 0 < length texts.items) }
-        ensures follow { IfOk result (λ texts. FollowTexts self.now.cells.now.dictionaries self.now.shown.now
+        ensures { IfOk result (λ texts. AreNextTexts self.now.cells.now.dictionaries self.now.shown.now
             self.now.pieces.now place texts.items) }
     {
         let count = most.max(1).min(self.pieces.len() - place);
