@@ -8,7 +8,7 @@ use Rattle.std.specs.declared.alloc.AllocError.{AllocError}
 use Rattle.std.proofs.Math.Seq.{drop-append_seam}
 use Rattle.std.proofs.lemmas.Grind.{flat_map-append}
 use Rattle.std.proofs.lemmas.List.{append-nil, append_cancel_right, drop-append-le, drop-drop, get_or-map, length-map, map-append, take-append-drop, take-append-le, take_all, take_more}
-use Rattle.std.proofs.lemmas.List.Elements.{All-head, All-tail, All-weaker}
+use Rattle.std.proofs.lemmas.List.Elements.{All-head, All-tail}
 use Rattle.cube_core.specs.Layout.{Layout}
 use Rattle.cube_core.specs.Text.{answer_texts, coord_text, digits_of_answers, grouping_text}
 use Rattle.cube_cells.specs.BottomUp.{TakesAll, under_keys}
@@ -96,12 +96,6 @@ push_rows-more keys i start end codes rows now new inside is so_far added =
     (ap (λ (one : Codes). map row_of (take i keys) ++ row_of one ∷ []) is
     ∙ sym (map-append row_of (take i keys) (get_or keys i codes ∷ []))
     ∙ ap (λ (l : List Codes). map row_of l) (sym (take_more keys i codes inside)))
-
--- rows within a text are within a longer one
-pub IsWithin-longer : (size longer : ℕ) (rows : List BriefRow) → size ≤ longer → All (IsWithin size) rows
-    → All (IsWithin longer) rows
-IsWithin-longer size longer rows more within = All-weaker (IsWithin size) (IsWithin longer)
-    (λ row is. record { order = is.order; within = omega (arith, more, is.within) }) rows within
 
 -- ---- text
 -- what is made of one element more

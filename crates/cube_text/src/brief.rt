@@ -19,6 +19,9 @@ const PIECE: usize = 1 << 20;
 // About how many bytes of a line there are for each dimension: a text, a GROUPING column and two commas.
 const WIDTH: usize = 16;
 
+// For how many bytes of each line there is room in a text from the beginning.
+const ROOM: usize = 64;
+
 /// About how many bytes there are of each line before its end.
 pub(crate) fn key_width<N: Numbers>(cells: &FinestCells<N>) -> usize
     ensures { IsSchema cells.now.schema }
@@ -97,7 +100,7 @@ impl BriefRows {
         ensures { IfOk result (λ text. AreShown cells.now.dictionaries shown.now →
             text.items ≡ brief_text cells.now.dictionaries self.now) }
     {
-        let mut text = Vec::new(alloc);
+        let mut text = Vec::with_capacity(alloc, self.rows.len().saturating_mul(ROOM))?;
         self.put_text(&mut text, cells, shown)?;
         Ok(text)
     }
