@@ -11,13 +11,15 @@ returns-in-Summaries g c =
     let facts = all_facts c.args.taken.now.ledger.accounts in
     let refusals = map (λ account. account.refusals) c.args.taken.now.ledger.accounts in
     subst (λ (s : Layout). Writes (Tells Cube s facts refusals) c.write_finest.result
-    (g.W.Write.contents c.args.out.now) (g.W.Write.contents c.write_finest.new.out)) c.cells.ensures.schema
-    (c.write_finest.ensures facts refusals c.cells.ensures.facts)
+    (g.W.Write.contents c.args.out.now) (g.W.Write.contents c.write_finest.new.out))
+    (rw c.in-Summaries.is at c.cells.ensures.schema)
+    (c.write_finest.ensures facts refusals (rw c.in-Summaries.is at c.cells.ensures.facts))
 
 pub returns-in-Numbers : goal.returns-in-Numbers
 returns-in-Numbers g c =
     let facts = all_facts c.args.taken.now.ledger.accounts in
     let refusals = map (λ account. account.refusals) c.args.taken.now.ledger.accounts in
-    subst (λ (s : Layout). Writes (Tells Cube s facts refusals) c.write_finest-2.result
-    (g.W.Write.contents c.args.out.now) (g.W.Write.contents c.write_finest-2.new.out)) c.cells.ensures.schema
-    (c.write_finest-2.ensures facts refusals c.cells.ensures.facts)
+    subst (λ (s : Layout). Writes (Tells Cube s facts refusals) c.write_finest-in-Numbers.result
+    (g.W.Write.contents c.args.out.now) (g.W.Write.contents c.write_finest-in-Numbers.new.out))
+    (rw c.in-Numbers.is at c.cells.ensures.schema)
+    (c.write_finest-in-Numbers.ensures facts refusals (rw c.in-Numbers.is at c.cells.ensures.facts))
