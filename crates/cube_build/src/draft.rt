@@ -105,7 +105,6 @@ impl<N: Numbers> Draft<N> {
     }
 
     // Takes the next item of a source. The only error is that memory ran out.
-    #[inline(always)]
     fn apply(&mut self, source: u32, item: FeedItem) -> Result<(), AllocError>
         requires { (1 ≤ source) × (source ≤ length self.old.ledger.accounts) }
         ensures sources { length self.new.ledger.accounts ≡ length self.old.ledger.accounts }

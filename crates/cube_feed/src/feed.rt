@@ -61,7 +61,6 @@ impl<'s, R: Read> Model for Feed<'s, R> {
 }
 
 // Takes the next record of a text, which has this number; false where there is none.
-#[inline(always)]
 fn take_record<R: Read>(text: &mut FeedText<R>, number: u32) -> Result<bool, FeedFault>
     ensures { TakesRecord text.old.left number result text.new }
 {
@@ -95,7 +94,6 @@ fn take_header<R: Read>(
 }
 
 // The item of the record that was taken last, which has this number.
-#[inline(always)]
 fn item_of<R: Read>(
     alloc: Global,
     schema: &Schema,
@@ -123,7 +121,6 @@ fn item_of<R: Read>(
 }
 
 // Reads the records after so many, up to the first that is in the schema's shard, and gives its item.
-#[inline(always)]
 fn take_item<R: Read>(
     alloc: Global,
     schema: &Schema,
@@ -151,7 +148,6 @@ fn take_item<R: Read>(
 }
 
 // Reads the next item, after the header where that wasn't read.
-#[inline(always)]
 fn take_next<R: Read>(
     alloc: Global,
     schema: &Schema,
@@ -204,7 +200,6 @@ impl<'s, R: Read> Feed<'s, R> {
     /// A change that an item has is one that the schema takes: no caller need ask again.
     ///
     /// A fault is the feed's last word, and so is `None`: each later call answers it again.
-    #[inline(always)]
     pub fn next(&mut self) -> Result<Option<Item>, FeedFault>
         ensures gives { Gives self.old.to_come result self.new.to_come }
         ensures taken { IsTaken self.old.schema result }

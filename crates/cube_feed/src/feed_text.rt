@@ -70,7 +70,6 @@ impl<R: Read> Model for FeedText<R> {
 }
 
 // Takes the next record of a text that has no mark behind it.
-#[inline(always)]
 fn advance_to_end<R: Read>(rows: &mut Rows<R>) -> Result<Found, FeedFault>
     ensures takes { IfOk result (λ found.
         TakesNext (left_by false rows.old.source) found

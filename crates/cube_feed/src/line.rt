@@ -214,7 +214,6 @@ fn keep(
 }
 
 // The change of a record that puts a fact and keeps no field, or the record's first fault.
-#[inline(always)]
 fn put_fact(
     alloc: Global,
     schema: &Schema,
@@ -296,7 +295,6 @@ fn is_operation(field: &[u8], letter: u8) -> bool
 }
 
 /// The change that a data record spells, or its first fault; the only error is that memory ran out.
-#[inline(always)]
 pub(crate) fn change(
     alloc: Global,
     schema: &Schema,

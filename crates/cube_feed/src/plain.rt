@@ -48,7 +48,6 @@ pub(crate) enum FieldKind {
 
 /// The change that a record in the order of the schema spells, or its first fault; its plain record is put in place of
 /// another, where it differs. The only error is that memory ran out.
-#[inline(always)]
 pub(crate) fn change_in_order(
     alloc: Global,
     schema: &Schema,
@@ -392,7 +391,6 @@ pub(crate) fn is_read_at(
 
 /// The change that the data record of a number stands for, or its first fault. Its plain record is put in place of another,
 /// where it differs. The only error is that memory ran out.
-#[inline(always)]
 pub(crate) fn change_of_row(
     alloc: Global,
     schema: &Schema,

@@ -140,7 +140,6 @@ impl Account {
     /// Takes an item whose change, where it says one, the schema takes: a refused one is noted with its code, and the
     /// change of any other is made in the book. Where memory runs out, the account is as it was, and the item is
     /// given up.
-    #[inline(always)]
     pub(crate) fn enter(&mut self, schema: &Schema, item: Item) -> Result<(), AllocError>
         requires all_fit { AllFit schema.now (facts_of self.old.book) }
         requires taken { says_taken schema.now item.what ≡ true }

@@ -193,7 +193,6 @@ impl Book {
 
     /// Takes a change as `apply` does, and copies no fact: the one of the change is moved into the book. The answer
     /// is what went out. The id is looked up once.
-    #[inline(always)]
     pub(crate) fn enter(&mut self, change: Change) -> Result<Option<Fact>, BookFault>
         requires { AmendsAlike self.old change }
         ensures made { IfOk result (λ gone. Makes self.old change gone self.new) }
@@ -210,7 +209,6 @@ impl Book {
         }
     }
 
-    #[inline(always)]
     fn insert(&mut self, id: Text, fact: Fact) -> Result<Option<Fact>, BookFault>
         ensures made { IfOk result
             (λ gone. Makes self.old (Change.Insert id fact) gone self.new) }
@@ -296,7 +294,6 @@ impl Book {
 }
 
 // Puts a fact under an id that is absent; answers whether it was.
-#[inline(always)]
 fn put_new(facts: &mut Facts, id: Text, fact: Fact) -> Result<bool, AllocError>
     ensures put { IfOk result
         (λ was. was ≡ true → GainsEntry facts.old.entries id fact facts.new.entries) }

@@ -9,7 +9,6 @@ use std::alloc::{AllocError, Global};
 use std::io::Read;
 
 // Puts copies of an item into a list in place of what it has: one less than so many.
-#[inline(always)]
 fn fill_copies(
     alloc: Global,
     item: &FeedItem,
@@ -29,7 +28,6 @@ fn fill_copies(
 }
 
 // Makes room for one more line in the lot of each outlet.
-#[inline(always)]
 fn make_room(alloc: Global, outlets: &mut [LotOutlet]) -> Result<(), AllocError>
     ensures { outlets.new ≡ outlets.old }
 {
@@ -43,7 +41,6 @@ fn make_room(alloc: Global, outlets: &mut [LotOutlet]) -> Result<(), AllocError>
 /// end. Before, it makes room for a line in the lots of all outlets.
 ///
 /// Room or a copy that finds no memory is the feed's fault F1.
-#[inline(always)]
 pub(crate) fn next_copies<R: Read>(
     alloc: Global,
     feed: &mut Feed<'_, R>,

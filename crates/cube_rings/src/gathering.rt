@@ -28,7 +28,6 @@ struct Taken {
 }
 
 // Applies an item, or drops it where memory ran out before; waits for good where the builder is full.
-#[inline(always)]
 fn accept<W: Wait, B: TakesItems>(
     rt: &W,
     builder: &mut B,
@@ -71,7 +70,6 @@ fn count_one<G: Gate>(link: &GatedLink<'_, G>, taken: &mut Taken)
 }
 
 // Looks once at a link that hasn't ended: takes a parcel, or a lot of which one is to be taken next. Whether one was there.
-#[inline(always)]
 fn look<W: Wait, B: TakesItems, G: Gate>(
     rt: &W,
     link: &GatedLink<'_, G>,

@@ -188,7 +188,6 @@ fn wait_for_place<W: Wait>(
 }
 
 // Puts a line, for which there is room, behind those that wait, and sends them where the lot is full then.
-#[inline(always)]
 fn put_line(outlet: &mut Outlet<Lot>, lot: &mut Vec<FeedItem>, item: FeedItem)
     requires { vec_len lot.old < vec_capacity lot.old }
     ensures link { outlet.new.link ≡ outlet.old.link }
@@ -216,7 +215,6 @@ impl LotOutlet {
 
     /// Sends a line: waits until it has a place among those that wait, and, where it is the last that has one, until the link
     /// has room for all of them. Where no room was made for a line it waits for good.
-    #[inline(always)]
     pub(crate) fn send_line<W: Wait>(&mut self, rt: &W, patience: &mut Patience, item: FeedItem)
         ensures { self.new ≡ sends (Line item ∷ []) self.old }
     {
@@ -276,7 +274,6 @@ impl LotInlet {
     }
 
     /// Takes the next line of the lot that was taken last; None where none of it is left.
-    #[inline(always)]
     pub(crate) fn next_line(&mut self) -> Option<FeedItem>
         ensures link { self.new.link ≡ self.old.link }
         ensures received { IfSome result (λ item.

@@ -45,7 +45,6 @@ impl<'g, G: Gate> Offering<'g, G> {
 }
 
 // Sends an item to a builder, as the next parcel of its link.
-#[inline(always)]
 fn offer_item<W: Wait, G: Gate>(
     rt: &W,
     offering: &mut Offering<'_, G>,
@@ -62,7 +61,6 @@ fn offer_item<W: Wait, G: Gate>(
 }
 
 /// Sends an item to each builder, in their order, as the next parcel of each link: its copies, and itself to the last.
-#[inline(always)]
 pub(crate) fn offer_copies<W: Wait, G: Gate>(
     rt: &W,
     offering: &mut Offering<'_, G>,
