@@ -7,7 +7,7 @@ use Rattle.std.specs.List.{flat_map}
 use Rattle.std.specs.declared.alloc.AllocError.{AllocError}
 use Rattle.std.proofs.Math.Seq.{drop-append_seam}
 use Rattle.std.proofs.lemmas.Grind.{flat_map-append}
-use Rattle.std.proofs.lemmas.List.{append-nil, append_cancel_right, drop-append-le, drop-drop, get_or-map, length-map, map-append, take-append-drop, take-append-le, take_all, take_more}
+use Rattle.std.proofs.lemmas.List.{append-nil, append_cancel_right, drop-append-le, get_or-map, length-map, length-take-le, map-append, take-append-drop, take-append-le, take_all, take_more}
 use Rattle.std.proofs.lemmas.List.Elements.{All-head, All-tail}
 use Rattle.cube_core.specs.Layout.{Layout}
 use Rattle.cube_core.specs.Text.{answer_texts, coord_text, digits_of_answers, grouping_text}
@@ -22,7 +22,7 @@ use Rattle.cube_lines.specs.Pieces.{text_of_pieces}
 use Rattle.cube_lines.proofs.TextLaws.{EndsLine-keyed}
 use Rattle.cube_text.specs.Brief.{Brief, IsEnding, IsWithin, RowsOver, TakesRow, between, brief_line, brief_text}
 use Rattle.cube_text.specs.Brief.{rows_of, rows_under, rows_with}
-use Rattle.cube_text.specs.Kept.{AreNextTexts, text_from}
+use Rattle.cube_text.specs.Kept.{AreNextTexts, lines_of}
 use Rattle.cube_text.specs.Rows.{line_with}
 use Rattle.cube_text.specs.Shown.{AreShown}
 use Rattle.cube_text.specs.declared.brief.BriefRow.{BriefRow}
@@ -175,37 +175,30 @@ text_of_pieces-brief dictionaries (piece ∷ pieces) (text ∷ texts) long each 
     (λ i unused inside. each (suc i) unused (omega (arith, inside))))
     ∙ sym (brief_text-append dictionaries piece (rows_of pieces))
 
--- the texts of so many pieces from a place on follow one another
-pub AreNextTexts-made : (dictionaries : Dictionaries) (shown : List Shown) (pieces slice : List Brief) (place count : ℕ)
-    (texts : List (Vec ℕ)) (made : List (Result (Vec ℕ) AllocError)) → place + count ≤ length pieces
-    → slice ≡ take count (drop place pieces) → map Ok texts ≡ made → length made ≡ length slice
-    → ((i : ℕ) (unused : Result (Vec ℕ) AllocError) → i < length slice → IfOk (get_or made i unused) (λ text.
-    AreShown dictionaries shown → text.items ≡ brief_text dictionaries (get_or slice i [])))
-    → (place < length pieces → 0 < count) → AreNextTexts dictionaries shown pieces place texts
-AreNextTexts-made dictionaries shown pieces slice place count texts made within slice_is are long each some =
-    let rest = drop place pieces in
-    let many : length slice ≡ count = ap (λ (l : List Brief). length l) slice_is
-    ∙ omega (arith, within, length-take count rest, length-drop place pieces) in
-    let as_many : length texts ≡ length slice =
+-- the texts of the first so many pieces follow one another
+pub AreNextTexts-made : (dictionaries : Dictionaries) (shown : List Shown) (pieces : List Brief) (count : ℕ)
+    (texts : List (Vec ℕ)) (made : List (Result (Vec ℕ) AllocError)) → count ≤ length pieces
+    → map Ok texts ≡ made → length made ≡ length (take count pieces)
+    → ((i : ℕ) (unused : Result (Vec ℕ) AllocError) → i < length (take count pieces) → IfOk (get_or made i unused) (λ text.
+    AreShown dictionaries shown → text.items ≡ brief_text dictionaries (get_or (take count pieces) i [])))
+    → (0 < length pieces → 0 < count) → AreNextTexts dictionaries shown pieces texts
+AreNextTexts-made dictionaries shown pieces count texts made within are long each some =
+    let first = take count pieces in
+    let as_many : length texts ≡ length first =
     sym (length-map texts Ok) ∙ ap (λ (l : List (Result (Vec ℕ) AllocError)). length l) are ∙ long in
+    let many : length texts ≡ count = as_many ∙ length-take-le count pieces within in
     record {
-      some = λ more. omega (arith, some more, many, as_many);
-      within = omega (arith, within, many, as_many);
+      some = λ more. omega (arith, some more, many);
+      within = omega (arith, within, many);
       text_is = λ is.
-          let texts_are = text_of_pieces-brief dictionaries slice texts as_many (λ i unused inside.
+          let texts_are = text_of_pieces-brief dictionaries first texts as_many (λ i unused inside.
           let one : get_or made i (Ok unused) ≡ Ok (get_or texts i unused) =
           rw (← are) (get_or-map Ok texts i unused (Ok unused) (omega (arith, inside, as_many))) in
           rw one at (each i (Ok unused) inside) is) in
-          let behind : drop count rest ≡ drop (place + length texts) pieces = drop-drop count place pieces
-          ∙ ap (λ (n : ℕ). drop n pieces) (omega (arith, many, as_many)) in
-          let whole : rest ≡ slice ++ drop (place + length texts) pieces = sym (take-append-drop count rest)
-          ∙ ap (λ (l : List Brief). l ++ drop count rest) (sym slice_is)
-          ∙ ap (λ (l : List Brief). slice ++ l) behind in
-          let back = drop (place + length texts) pieces in
-          ap (λ (l : List Brief). brief_text dictionaries (rows_of l)) whole
-          ∙ ap (λ (l : Brief). brief_text dictionaries l) (rows_of-append slice back)
-          ∙ brief_text-append dictionaries (rows_of slice) (rows_of back)
-          ∙ ap (λ (t : List ℕ). t ++ text_from dictionaries pieces (place + length texts)) (sym texts_are);
+          rw many (ap (λ (l : List Brief). lines_of dictionaries l) (sym (take-append-drop count pieces))
+          ∙ ap (λ (l : Brief). brief_text dictionaries l) (rows_of-append first (drop count pieces))
+          ∙ brief_text-append dictionaries (rows_of first) (rows_of (drop count pieces))
+          ∙ ap (λ (t : List ℕ). t ++ lines_of dictionaries (drop count pieces)) (sym texts_are));
     }
 
 -- ---- cells

@@ -9,19 +9,18 @@ use Rattle.cube_text.specs.Brief.{Brief, brief_text, rows_of}
 use Rattle.cube_text.specs.Shown.{AreShown}
 use Rattle.cube_text.specs.declared.shown.Shown.{Shown}
 
--- the lines of the rows of the pieces from a place on
-abbrev pub text_from : Dictionaries → List Brief → ℕ → List ℕ
-text_from dictionaries pieces place = brief_text dictionaries (rows_of (drop place pieces))
+-- the lines of the rows of pieces
+abbrev pub lines_of : Dictionaries → List Brief → List ℕ
+lines_of dictionaries pieces = brief_text dictionaries (rows_of pieces)
 
--- these are texts of the first pieces from a place on, of one at least where there is one:
--- with the lines of the pieces behind them they are the lines of all from that place on
-pub record AreNextTexts (dictionaries : Dictionaries) (shown : List Shown) (pieces : List Brief) (place : ℕ)
-    (texts : List (Vec ℕ)) : Type 0 where
-  pub some : place < length pieces → 0 < length texts
-  pub within : place + length texts ≤ length pieces
+-- these are texts of the first of some pieces, of one at least where there is one:
+-- with the lines of the pieces behind them they are the lines of all
+pub record AreNextTexts (dictionaries : Dictionaries) (shown : List Shown) (pieces : List Brief) (texts : List (Vec ℕ))
+    : Type 0 where
+  pub some : 0 < length pieces → 0 < length texts
+  pub within : length texts ≤ length pieces
   pub text_is : AreShown dictionaries shown
-      → text_from dictionaries pieces place
-      ≡ text_of_pieces texts ++ text_from dictionaries pieces (place + length texts)
+      → lines_of dictionaries pieces ≡ text_of_pieces texts ++ lines_of dictionaries (drop (length texts) pieces)
 
 -- what writing a text comes to behind so many bytes that had gone out before: it went out whole, and this is how many bytes
 -- went out in all, or its first bytes did, as the fault says

@@ -1,13 +1,13 @@
 //! The text of a cube, most of which is made while it is written, so that no more than a few pieces of it take memory.
-ghost use Rattle.std.specs.Prelude.{◌≡◌, ◌+◌, ◌<◌, ◌≤◌, ◌++◌, [], ℕ, List, drop, get_or, length, take, IfErr, IfOk, OnOk};
+ghost use Rattle.std.specs.Prelude.{◌≡◌, ◌+◌, ◌<◌, ◌≤◌, ◌++◌, [], ℕ, List, drop, get_or, length, take, vec_len, IfErr, IfOk, OnOk};
 ghost use Rattle.std.specs.Io.KnownBytes.{Appends};
 ghost use Rattle.cube_core.specs.Printed.{IsPrinted};
 ghost use Rattle.cube_core.specs.declared.fact.Fact.{Fact};
 ghost use Rattle.cube_cells.specs.Fill.{IsCubeOfAll};
 ghost use Rattle.cube_lines.specs.Pieces.{SendsPart, text_of_pieces};
-ghost use Rattle.cube_text.specs.Brief.{brief_text, rows_of};
+ghost use Rattle.cube_text.specs.Brief.{brief_text};
 ghost use Rattle.std.specs.Thread.{IsSend, IsSync};
-ghost use Rattle.cube_text.specs.Kept.{AreNextTexts, SendsTexts, text_from};
+ghost use Rattle.cube_text.specs.Kept.{AreNextTexts, SendsTexts, lines_of};
 ghost use Rattle.cube_text.specs.Shown.{AreShown};
 
 use crate::brief::BriefRows;
@@ -24,7 +24,8 @@ use std::sync::Wait;
 use std::thread;
 use std::thread::{Threads, join_mut, map_indices};
 
-/// The printed text of a cube: the texts of the first pieces, and the rows of the others, kept short.
+/// The printed text of a cube: the texts of the first pieces, and the rows of the others, kept short. A piece's rows are let go
+/// of once its text is made.
 #[derive(Drop)]
 pub struct KeptText<'c, N: Numbers> {
     alloc: Global,
@@ -33,20 +34,19 @@ pub struct KeptText<'c, N: Numbers> {
     shown: Vec<Shown>,
     // The header line, and the texts of the first pieces.
     made: Vec<Vec<u8>>,
+    // Those whose texts aren't made yet.
     pieces: Vec<BriefRows>,
-    // From which piece on there is no text yet.
-    place: usize,
 }
 
 impl<'c, N: Numbers> Model for KeptText<'c, N> {
     ghost use Rattle.std.specs.Prelude.{◌++◌, ℕ, List};
     ghost use Rattle.cube_lines.specs.Pieces.{text_of_pieces};
-    ghost use Rattle.cube_text.specs.Kept.{text_from};
+    ghost use Rattle.cube_text.specs.Kept.{lines_of};
     ghost use Rattle.cube_text.specs.Shown.{AreShown};
 
     ghost Value = { List ℕ };
 
-    ghost view = { λ t. text_of_pieces t.made.items ++ text_from t.cells.now.dictionaries t.pieces.items t.place };
+    ghost view = { λ t. text_of_pieces t.made.items ++ lines_of t.cells.now.dictionaries t.pieces.items };
 
     ghost invariant = { λ t. AreShown t.cells.now.dictionaries t.shown.items };
 }
@@ -58,7 +58,6 @@ struct Making<'m, N: Numbers> {
     threads: usize,
     cells: &'m FinestCells<N>,
     shown: &'m [Shown],
-    pieces: &'m [BriefRows],
 }
 
 /// The printed text of the cube of the facts whose finest cells these are: all of its rows are there, kept short, and the text
@@ -75,16 +74,15 @@ pub fn keep_walked<'c, T: Threads + Sync, N: Numbers + Send + Sync>(
 {
     let header = text_of_header(alloc, cells.schema())?;
     let shown = all_shown(alloc, cells)?;
-    let pieces = pieces_of_cube(rt, alloc, threads, cells)?;
+    let mut pieces = pieces_of_cube(rt, alloc, threads, cells)?;
     let making = Making {
         alloc,
         threads,
         cells,
         shown: &shown,
-        pieces: &pieces,
     };
-    let mut first = making.texts(rt, 0, threads)?;
-    let place = first.len();
+    let mut first = making.texts(rt, &pieces, threads)?;
+    let_go(&mut pieces, first.len());
     let mut made = Vec::new(alloc);
     made.push(header)?;
     made.append(&mut first)?;
@@ -95,7 +93,6 @@ pub fn keep_walked<'c, T: Threads + Sync, N: Numbers + Send + Sync>(
         shown,
         made,
         pieces,
-        place,
     })
 }
 
@@ -120,36 +117,34 @@ impl<'c, N: Numbers + Send + Sync> KeptText<'c, N> {
             shown,
             made,
             pieces,
-            place,
         } = self;
         let making = Making {
             alloc,
             threads,
             cells,
             shown: &shown,
-            pieces: &pieces,
         };
-        making.write(rt, made, place, out)
+        making.write(rt, made, pieces, out)
     }
 }
 
 impl<'m, N: Numbers + Send + Sync> Making<'m, N> {
-    // Writes the texts that are made, and those of the pieces from a place on, and flushes the writer once at their end.
+    // Writes the texts that are made, and those of pieces behind them, and flushes the writer once at their end.
     fn write<T: Threads + Wait + Sync, W: Write>(
         &self,
         rt: &T,
         made: Vec<Vec<u8>>,
-        place: usize,
+        pieces: Vec<BriefRows>,
         out: &mut W,
     ) -> Result<(), WriteFault>
         requires { AreShown self.now.cells.now.dictionaries self.now.shown.now }
         ensures whole { OnOk result (Appends (W.contents out.old) (W.contents out.new)
-            (text_of_pieces made.items ++ text_from self.now.cells.now.dictionaries self.now.pieces.now place)) }
+            (text_of_pieces made.items ++ lines_of self.now.cells.now.dictionaries pieces.items)) }
         ensures part { IfErr result (λ fault. SendsPart 0
-            (text_of_pieces made.items ++ text_from self.now.cells.now.dictionaries self.now.pieces.now place)
+            (text_of_pieces made.items ++ lines_of self.now.cells.now.dictionaries pieces.items)
             fault.sent (W.contents out.old) (W.contents out.new)) }
     {
-        let sent = self.send_all(rt, made, place, out)?;
+        let sent = self.send_all(rt, made, pieces, out)?;
         out.flush().map_err(|_| WriteFault { sent })
     }
 
@@ -158,45 +153,43 @@ impl<'m, N: Numbers + Send + Sync> Making<'m, N> {
         &self,
         rt: &T,
         made: Vec<Vec<u8>>,
-        from: usize,
+        kept: Vec<BriefRows>,
         out: &mut W,
     ) -> Result<usize, WriteFault>
         requires { AreShown self.now.cells.now.dictionaries self.now.shown.now }
         ensures count { IfOk result (λ sent. sent ≡ length
-            (text_of_pieces made.items ++ text_from self.now.cells.now.dictionaries self.now.pieces.now from)) }
+            (text_of_pieces made.items ++ lines_of self.now.cells.now.dictionaries kept.items)) }
         ensures whole { OnOk result (Appends (W.contents out.old) (W.contents out.new)
-            (text_of_pieces made.items ++ text_from self.now.cells.now.dictionaries self.now.pieces.now from)) }
+            (text_of_pieces made.items ++ lines_of self.now.cells.now.dictionaries kept.items)) }
         ensures part { IfErr result (λ fault. SendsPart 0
-            (text_of_pieces made.items ++ text_from self.now.cells.now.dictionaries self.now.pieces.now from)
+            (text_of_pieces made.items ++ lines_of self.now.cells.now.dictionaries kept.items)
             fault.sent (W.contents out.old) (W.contents out.new)) }
     {
         let mut texts = made;
-        let mut place = from;
+        let mut pieces = kept;
         let mut sent = 0;
-        while place < self.pieces.len() {
-            let (next, result) = self.send_and_make(rt, &texts, sent, place, out);
+        while !pieces.is_empty() {
+            let (next, result) = self.send_and_make(rt, &texts, sent, &pieces, out);
             sent = result?;
             texts.clear();
-            texts = self.made_or_next(rt, place, next);
-            place += texts.len();
+            texts = self.made_or_next(rt, &pieces, next);
+            let_go(&mut pieces, texts.len());
         }
         send_pieces(out, sent, &texts)
     }
 
     // Writes texts behind so many bytes that had gone out, and flushes nothing. Meanwhile, where there is more than one thread,
-    // others make the texts of the next pieces, from a place on; it is an error where there was no memory for them, or no other
-    // thread.
+    // others make the texts of the first of some pieces; it is an error where there was no memory for them, or no other thread.
     fn send_and_make<T: Threads + Sync, W: Write>(
         &self,
         rt: &T,
         texts: &[Vec<u8>],
         before: usize,
-        place: usize,
+        pieces: &[BriefRows],
         out: &mut W,
     ) -> (Result<Vec<Vec<u8>>, AllocError>, Result<usize, WriteFault>)
-        requires { place < length self.now.pieces.now }
         ensures next { IfOk result.0 (λ next. AreNextTexts self.now.cells.now.dictionaries self.now.shown.now
-            self.now.pieces.now place next.items) }
+            pieces.now next.items) }
         ensures sends { SendsTexts before (text_of_pieces texts.now) result.1
             (W.contents out.old) (W.contents out.new) }
     {
@@ -204,10 +197,10 @@ impl<'m, N: Numbers + Send + Sync> Making<'m, N> {
             return (Err(AllocError), send_pieces(out, before, texts));
         }
         let mut make = || -> Result<Vec<Vec<u8>>, AllocError>
-            requires { IsSync T.row × IsSend N.row × IsSync N.row × (place < length self.now.pieces.now) }
+            requires { IsSync T.row × IsSend N.row × IsSync N.row }
             ensures { IfOk result (λ next. AreNextTexts self.entry.now.cells.now.dictionaries
-                self.entry.now.shown.now self.entry.now.pieces.now place next.items) }
-        { self.texts(rt, place, self.threads) };
+                self.entry.now.shown.now pieces.entry.now next.items) }
+        { self.texts(rt, pieces, self.threads) };
         let mut send = || -> Result<usize, WriteFault>
             ensures { SendsTexts before (text_of_pieces texts.entry.now) result
                 (W.contents out.entry.now) (W.contents out.exit.now) }
@@ -215,37 +208,33 @@ impl<'m, N: Numbers + Send + Sync> Making<'m, N> {
         join_mut(rt, &mut make, &mut send)
     }
 
-    // The texts of the pieces from a place on: those that others made, or else they are made now.
+    // The texts of the first of some pieces: those that others made, or else they are made now.
     fn made_or_next<T: Threads + Wait + Sync>(
         &self,
         rt: &T,
-        place: usize,
+        pieces: &[BriefRows],
         made: Result<Vec<Vec<u8>>, AllocError>,
     ) -> Vec<Vec<u8>>
-        requires place { place < length self.now.pieces.now }
-        requires made { IfOk made (λ texts. AreNextTexts self.now.cells.now.dictionaries self.now.shown.now
-            self.now.pieces.now place texts.items) }
-        ensures { AreNextTexts self.now.cells.now.dictionaries self.now.shown.now self.now.pieces.now place
-            result.items }
+        requires { IfOk made (λ texts. AreNextTexts self.now.cells.now.dictionaries self.now.shown.now
+            pieces.now texts.items) }
+        ensures { AreNextTexts self.now.cells.now.dictionaries self.now.shown.now pieces.now result.items }
     {
         match made {
             Ok(texts) => texts,
-            Err(_) => self.next_texts(rt, place),
+            Err(_) => self.next_texts(rt, pieces),
         }
     }
 
-    // The texts of the pieces from a place on, one at least, and one by each thread where there is memory for them. It waits
-    // while there is none for one.
-    fn next_texts<T: Threads + Wait + Sync>(&self, rt: &T, place: usize) -> Vec<Vec<u8>>
-        requires { place < length self.now.pieces.now }
-        ensures { AreNextTexts self.now.cells.now.dictionaries self.now.shown.now self.now.pieces.now place
-            result.items }
+    // The texts of the first of some pieces, one by each thread where there is memory for them, and one at least where there
+    // is a piece. It waits while there is none for one.
+    fn next_texts<T: Threads + Wait + Sync>(&self, rt: &T, pieces: &[BriefRows]) -> Vec<Vec<u8>>
+        ensures { AreNextTexts self.now.cells.now.dictionaries self.now.shown.now pieces.now result.items }
     {
-        if let Ok(texts) = self.texts(rt, place, self.threads) {
+        if let Ok(texts) = self.texts(rt, pieces, self.threads) {
             return texts;
         }
         for _ in rt.forever() {
-            if let Ok(texts) = self.texts(rt, place, 1) {
+            if let Ok(texts) = self.texts(rt, pieces, 1) {
                 return texts;
             }
             thread::yield_now();
@@ -253,23 +242,31 @@ impl<'m, N: Numbers + Send + Sync> Making<'m, N> {
         unreachable!()
     }
 
-    // The texts of the pieces from a place on, so many at most and one at least where there are some, each made on a thread of
+    // The texts of the first of some pieces, so many at most and one at least where there are some, each made on a thread of
     // its own. The only error is that memory ran out.
     fn texts<T: Threads + Sync>(
         &self,
         rt: &T,
-        place: usize,
+        pieces: &[BriefRows],
         most: usize,
     ) -> Result<Vec<Vec<u8>>, AllocError>
-        requires { place ≤ length self.now.pieces.now }
         ensures { IfOk result (λ texts. AreNextTexts self.now.cells.now.dictionaries self.now.shown.now
-            self.now.pieces.now place texts.items) }
+            pieces.now texts.items) }
     {
-        let count = most.max(1).min(self.pieces.len() - place);
-        let pieces = &self.pieces[place..place + count];
-        let made = texts_of(rt, self.alloc, self.cells, self.shown, pieces)?;
+        let count = most.max(1).min(pieces.len());
+        let made = texts_of(rt, self.alloc, self.cells, self.shown, &pieces[..count])?;
         all_made(self.alloc, made)
     }
+}
+
+// Lets go of the first so many of some pieces.
+fn let_go(pieces: &mut Vec<BriefRows>, count: usize)
+    requires { count ≤ vec_len pieces.old }
+    ensures { pieces.new.items ≡ drop count pieces.old.items }
+{
+    let rest = pieces.len() - count;
+    pieces.rotate_left(count);
+    pieces.truncate(rest);
 }
 
 // The lines of the rows of each piece, each made on a thread of its own.
