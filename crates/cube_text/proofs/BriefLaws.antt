@@ -1,101 +1,128 @@
 -- Laws of rows kept short: how they grow, and what text they stand for.
-use Rattle.std.proofs.Common.{◌≡◌, ◌∙◌, ◌+◌, ◌-◌, ◌++◌, ◌<◌, ◌≤◌, ◌∷◌, [], ℕ, List, length, get_or, map, take, drop}
-use Rattle.std.proofs.Common.{refl, sym, ap, append_assoc, arith, length-append, length-drop, length-take, suc}
-use Rattle.std.specs.Prelude.{All, Ok, IfOk, Result}
+use Rattle.std.proofs.Common.{◌≡◌, ◌∙◌, ◌+◌, ◌-◌, ◌*◌, ◌/◌, ◌%◌, ◌==◌, ◌++◌, ◌<◌, ◌≤◌, ◌∷◌, [], ℕ, Bool, true, false, List}
+use Rattle.std.proofs.Common.{if◌then◌else◌, length, get_or, map, take, drop}
+use Rattle.std.proofs.Common.{refl, sym, ap, append_assoc, arith, length-append, length-drop, suc}
+use Rattle.std.specs.Prelude.{All, Ok, IfOk, Result, slice_range}
 use Rattle.std.specs.Global.{Vec}
 use Rattle.std.specs.List.{flat_map}
 use Rattle.std.specs.declared.alloc.AllocError.{AllocError}
 use Rattle.std.proofs.Math.Seq.{drop-append_seam}
 use Rattle.std.proofs.lemmas.Grind.{flat_map-append}
 use Rattle.std.proofs.lemmas.List.{append-nil, append_cancel_right, drop-append-le, get_or-map, length-map, length-take-le, map-append, take-append-drop, take-append-le, take_all, take_more}
-use Rattle.std.proofs.lemmas.List.Elements.{All-head, All-tail}
+use Rattle.std.proofs.lemmas.Bool.{eqb-true}
+use Rattle.std.proofs.lemmas.List.Elements.{All-cons, All-head, All-tail, All-weaker}
 use Rattle.cube_core.specs.Layout.{Layout}
 use Rattle.cube_core.specs.Text.{answer_texts, coord_text, digits_of_answers, grouping_text}
 use Rattle.cube_cells.specs.BottomUp.{TakesAll, under_keys}
-use Rattle.cube_cells.specs.Codes.{Dictionaries, coords_at, key_at}
+use Rattle.cube_cells.specs.Codes.{Dictionaries, all_code, coords_at, kept_codes, key_at}
 use Rattle.cube_cells.specs.Cube.{Lattice}
+use Rattle.cube_cells.specs.Levels.{mask_of_codes}
 use Rattle.cube_cells.specs.Tally.{Tally}
+use Rattle.cube_cells.specs.Walk.{key_in}
 use Rattle.cube_cells.specs.declared.cube.codes.Codes.{Codes}
 use Rattle.cube_cells.proofs.Codes.KeyLaws.{length-coords_at}
 use Rattle.cube_lines.specs.Parts.{key_parts, parts}
 use Rattle.cube_lines.specs.Pieces.{text_of_pieces}
 use Rattle.cube_lines.proofs.TextLaws.{EndsLine-keyed}
-use Rattle.cube_text.specs.Brief.{Brief, IsEnding, IsWithin, RowsOver, TakesRow, between, brief_line, brief_text}
-use Rattle.cube_text.specs.Brief.{rows_of, rows_under, rows_with}
+use Rattle.cube_text.specs.Brief.{AreAlike, Brief, IsEnding, IsWithin, RowsOver, TakesRow, brief_line, brief_text}
+use Rattle.cube_text.specs.Brief.{rows_in, rows_of, rows_under, rows_with}
 use Rattle.cube_text.specs.Kept.{AreNextTexts, lines_of}
 use Rattle.cube_text.specs.Rows.{line_with}
 use Rattle.cube_text.specs.Shown.{AreShown}
-use Rattle.cube_text.specs.declared.brief.BriefRow.{BriefRow}
+use Rattle.cube_text.specs.declared.brief.BriefGroup.{BriefGroup}
 use Rattle.cube_text.specs.declared.shown.Shown.{Shown}
 
--- ---- rows whose ends lie in a text
+-- ---- pieces
+pub rows_of-append : (a b : List Brief) → rows_of (a ++ b) ≡ rows_of a ++ rows_of b
+rows_of-append a b = flat_map-append (λ (rows : Brief). rows) a b
+
+-- ---- groups whose sets and ends lie in a text
 -- what lies in the front of a text
-between-front : (a b : List ℕ) (start end : ℕ) → start ≤ end → end ≤ length a
-    → between (a ++ b) start end ≡ between a start end
-between-front a b start end order within =
+slice_range-front : (a b : List ℕ) (start end : ℕ) → start ≤ end → end ≤ length a
+    → slice_range (a ++ b) start end ≡ slice_range a start end
+slice_range-front a b start end order within =
     ap (λ (t : List ℕ). take (end - start) t) (drop-append-le start a b (omega (arith, order, within)))
     ∙ take-append-le (end - start) (drop start a) b (omega (arith, order, within, length-drop start a))
 
 -- and what lies at its end
-between-back : (a b : List ℕ) → between (a ++ b) (length a) (length (a ++ b)) ≡ b
-between-back a b =
+slice_range-back : (a b : List ℕ) → slice_range (a ++ b) (length a) (length (a ++ b)) ≡ b
+slice_range-back a b =
     ap (λ (t : List ℕ). take (length (a ++ b) - length a) t) (drop-append_seam a b)
     ∙ take_all (length (a ++ b) - length a) b (omega (arith, length-append a b))
 
 -- the text may grow
-rows_with-longer : (endings more : List ℕ) (rows : List BriefRow) → All (IsWithin (length endings)) rows
-    → rows_with (endings ++ more) rows ≡ rows_with endings rows
-rows_with-longer endings more [] within = refl
-rows_with-longer endings more (row ∷ rows) within =
-    let head = All-head (IsWithin (length endings)) row rows within in
-    let one : Codes × List ℕ = (row.codes, between endings row.start row.end) in
-    ap (λ (e : List ℕ). (row.codes, e) ∷ rows_with (endings ++ more) rows)
-    (between-front endings more row.start row.end head.order head.within)
-    ∙ ap (λ (rest : Brief). one ∷ rest)
-    (rows_with-longer endings more rows (All-tail (IsWithin (length endings)) row rows within))
+rows_with-longer : (text more : List ℕ) (groups : List BriefGroup) → All (IsWithin (length text)) groups
+    → rows_with (text ++ more) groups ≡ rows_with text groups
+rows_with-longer text more [] within = refl
+rows_with-longer text more (group ∷ groups) within =
+    let head = All-head (IsWithin (length text)) group groups within in
+    rw (
+      slice_range-front text more group.start group.middle head.sets (omega (arith, head.ending, head.within)),
+      slice_range-front text more group.middle group.end head.ending head.within,
+      rows_with-longer text more groups (All-tail (IsWithin (length text)) group groups within),
+    ) refl
 
--- rows whose ends are what it grew by
-rows_with-under : (endings ending : List ℕ) (start end : ℕ) (keys : List Codes) → start ≡ length endings
-    → end ≡ length (endings ++ ending)
-    → rows_with (endings ++ ending) (map (λ codes. record { codes = codes; start = start; end = end }) keys)
-    ≡ rows_under ending keys
-rows_with-under endings ending start end [] start_is end_is = refl
-rows_with-under endings ending start end (codes ∷ keys) start_is end_is =
-    let here : between (endings ++ ending) start end ≡ ending = rw (start_is, end_is) (between-back endings ending) in
-    let rest : Brief =
-    rows_with (endings ++ ending) (map (λ codes. record { codes = codes; start = start; end = end }) keys) in
-    ap (λ (e : List ℕ). (codes, e) ∷ rest) here
-    ∙ ap (λ (others : Brief). (codes, ending) ∷ others)
-    (rows_with-under endings ending start end keys start_is end_is)
+pub IsWithin-longer : (size more : ℕ) (groups : List BriefGroup) → size ≤ more → All (IsWithin size) groups
+    → All (IsWithin more) groups
+IsWithin-longer size more groups longer within = All-weaker (IsWithin size) (IsWithin more) (λ group is. record {
+  sets = is.sets;
+  ending = is.ending;
+  within = omega (arith, is.within, longer);
+}) groups within
 
-pub rows_with-more : (endings ending after : List ℕ) (start end : ℕ) (keys : List Codes) (rows new : List BriefRow)
-    → All (IsWithin (length endings)) rows → start ≡ length endings → after ≡ endings ++ ending → end ≡ length after
-    → new ≡ rows ++ map (λ codes. record { codes = codes; start = start; end = end }) keys
-    → rows_with after new ≡ rows_with endings rows ++ rows_under ending keys
-rows_with-more endings ending after start end keys rows new within start_is after_is end_is new_is =
-    let Row_of : Codes → BriefRow = λ codes. record { codes = codes; start = start; end = end } in
-    let place : BriefRow → Codes × List ℕ = λ row. (row.codes, between (endings ++ ending) row.start row.end) in
-    rw (after_is, new_is)
-    (map-append place rows (map Row_of keys)
-    ∙ ap (λ (l : Brief). l ++ rows_with (endings ++ ending) (map Row_of keys))
-    (rows_with-longer endings ending rows within)
-    ∙ ap (λ (l : Brief). rows_with endings rows ++ l)
-    (rows_with-under endings ending start end keys start_is (rw after_is at end_is)))
+-- codes are what is kept of them in their own grouping set
+kept_codes-own : (codes : List ℕ) → kept_codes (mask_of_codes codes) codes ≡ codes
+kept_codes-own [] = refl
+kept_codes-own (code ∷ codes) = by_code (code == all_code) refl (kept_codes-own codes) where
+  by_code : (b : Bool) → (code == all_code) ≡ b → kept_codes (mask_of_codes codes) codes ≡ codes
+      → kept_codes ((if b then 0 else 1) + 2 * mask_of_codes codes) (code ∷ codes) ≡ code ∷ codes
+  by_code true all rest =
+      let even : (0 + 2 * mask_of_codes codes) % 2 ≡ 0 = omega arith in
+      let half : (0 + 2 * mask_of_codes codes) / 2 ≡ mask_of_codes codes = omega arith in
+      rw (even, half, rest) (ap (λ (c : ℕ). c ∷ codes) (sym (eqb-true code all_code all)))
+  by_code false some rest =
+      let odd : (1 + 2 * mask_of_codes codes) % 2 ≡ 1 = omega arith in
+      let half : (1 + 2 * mask_of_codes codes) / 2 ≡ mask_of_codes codes = omega arith in
+      rw (odd, half, rest) refl
 
--- a row more under the next of some codes
-pub push_rows-more : (keys : List Codes) (i start end : ℕ) (codes : Codes) (rows now new : List BriefRow)
-    → i < length keys → codes ≡ get_or keys i codes
-    → now ≡ rows ++ map (λ codes. record { codes = codes; start = start; end = end }) (take i keys)
-    → new ≡ now ++ record { codes = codes; start = start; end = end } ∷ []
-    → new ≡ rows ++ map (λ codes. record { codes = codes; start = start; end = end }) (take (i + 1) keys)
-push_rows-more keys i start end codes rows now new inside is so_far added =
-    let row_of : Codes → BriefRow = λ one. record { codes = one; start = start; end = end } in
-    added ∙ ap (λ (l : List BriefRow). l ++ row_of codes ∷ []) so_far
-    ∙ append_assoc rows (map row_of (take i keys)) (row_of codes ∷ [])
-    ∙ ap (λ (l : List BriefRow). rows ++ l)
-    (ap (λ (one : Codes). map row_of (take i keys) ++ row_of one ∷ []) is
-    ∙ sym (map-append row_of (take i keys) (get_or keys i codes ∷ []))
-    ∙ ap (λ (l : List Codes). map row_of l) (sym (take_more keys i codes inside)))
+-- the rows of codes and of others that are like them
+rows_in-alike : (codes : Codes) (keys : List Codes) (ending : List ℕ) → AreAlike codes keys
+    → map (λ set. (key_in codes set, ending)) (map (λ key. mask_of_codes key.codes) keys) ≡ rows_under ending keys
+rows_in-alike codes [] ending alike = refl
+rows_in-alike codes (key ∷ keys) ending alike =
+    let same : Codes → Type 0 = λ key. key_in codes (mask_of_codes key.codes) ≡ key in
+    rw (All-head same key keys alike, rows_in-alike codes keys ending (All-tail same key keys alike)) refl
+
+-- a group more
+pub rows_with-more : (text sets ending after : List ℕ) (start middle end : ℕ) (codes : Codes) (alike : List Codes)
+    (groups : List BriefGroup) → All (IsWithin (length text)) groups → start ≡ length text
+    → sets ≡ (text ++ mask_of_codes codes.codes ∷ []) ++ map (λ key. mask_of_codes key.codes) alike
+    → middle ≡ length sets → after ≡ sets ++ ending → end ≡ length after → AreAlike codes alike
+    → rows_with after (groups ++ record { codes = codes; start = start; middle = middle; end = end } ∷ [])
+    ≡ rows_with text groups ++ rows_under ending (codes ∷ alike)
+rows_with-more text sets ending after start middle end codes alike groups within start_is sets_is middle_is after_is end_is
+    are =
+    let group : BriefGroup = record { codes = codes; start = start; middle = middle; end = end } in
+    let masks : List ℕ = map (λ key. mask_of_codes key.codes) (codes ∷ alike) in
+    let grown : sets ≡ text ++ masks = sets_is
+    ∙ append_assoc text (mask_of_codes codes.codes ∷ []) (map (λ key. mask_of_codes key.codes) alike) in
+    let all : after ≡ text ++ (masks ++ ending) = after_is ∙ ap (λ (t : List ℕ). t ++ ending) grown
+    ∙ append_assoc text masks ending in
+    let ends : slice_range after middle end ≡ ending = rw (end_is, middle_is, after_is) (slice_range-back sets ending) in
+    let long : length text ≤ length sets = rw grown (omega (arith, length-append text masks)) in
+    let begins : slice_range after start middle ≡ masks = ap (λ (t : List ℕ). slice_range t start middle) after_is
+    ∙ slice_range-front sets ending start middle (omega (arith, start_is, middle_is, long)) (omega (arith, middle_is))
+    ∙ (rw (start_is, middle_is, grown) (slice_range-back text masks)) in
+    let own : key_in codes (mask_of_codes codes.codes) ≡ codes =
+    ap (λ (xs : List ℕ). record { codes = xs }) (kept_codes-own codes.codes) in
+    let new : rows_in after group ≡ rows_under ending (codes ∷ alike) =
+    rw (ends, begins) (rows_in-alike codes (codes ∷ alike) ending
+    (All-cons (λ key. key_in codes (mask_of_codes key.codes) ≡ key) codes alike own are)) in
+    ap (λ (l : List Brief). rows_of l) (map-append (rows_in after) groups (group ∷ []))
+    ∙ rows_of-append (map (rows_in after) groups) (rows_in after group ∷ [])
+    ∙ ap (λ (l : Brief). rows_with after groups ++ l) (append-nil (rows_in after group) ∙ new)
+    ∙ ap (λ (l : Brief). l ++ rows_under ending (codes ∷ alike))
+    (ap (λ (t : List ℕ). rows_with t groups) all ∙ rows_with-longer text (masks ++ ending) groups within)
 
 -- ---- text
 -- what is made of one element more
@@ -109,9 +136,6 @@ flat_map-next f xs i d inside =
 pub brief_text-append : (dictionaries : Dictionaries) (a b : Brief)
     → brief_text dictionaries (a ++ b) ≡ brief_text dictionaries a ++ brief_text dictionaries b
 brief_text-append dictionaries a b = flat_map-append (brief_line dictionaries) a b
-
-pub rows_of-append : (a b : List Brief) → rows_of (a ++ b) ≡ rows_of a ++ rows_of b
-rows_of-append a b = flat_map-append (λ (rows : Brief). rows) a b
 
 -- the line of a row more
 pub brief_text-row : (dictionaries : Dictionaries) (rows : Brief) (i : ℕ) (row : Codes × List ℕ) (start old new : List ℕ)

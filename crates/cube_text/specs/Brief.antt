@@ -1,6 +1,6 @@
 -- Rows kept short, of which a text is made later: the codes of each one's key, and how its line ends (this project's
 -- choice).
-use Rattle.std.specs.Prelude.{◌≡◌, ◌-◌, ◌≤◌, ◌++◌, ◌∷◌, [], ℕ, List, length, drop, map, take}
+use Rattle.std.specs.Prelude.{◌≡◌, ◌≤◌, ◌++◌, ◌∷◌, [], ℕ, List, All, length, map, slice_range}
 use Rattle.std.specs.List.{flat_map}
 use Rattle.cube_core.specs.Layout.{Layout}
 use Rattle.cube_core.specs.Printed.{IsPrinted}
@@ -10,11 +10,13 @@ use Rattle.cube_core.specs.declared.fact.Fact.{Fact}
 use Rattle.cube_cells.specs.Codes.{Dictionaries, key_at}
 use Rattle.cube_cells.specs.Cube.{Lattice}
 use Rattle.cube_cells.specs.Fill.{IsCubeOfAll}
+use Rattle.cube_cells.specs.Levels.{mask_of_codes}
 use Rattle.cube_cells.specs.Rows.{AreAnswersOf}
 use Rattle.cube_cells.specs.Tally.{Tally}
+use Rattle.cube_cells.specs.Walk.{key_in}
 use Rattle.cube_cells.specs.declared.cube.codes.Codes.{Codes}
 use Rattle.cube_lines.specs.Parts.{key_parts, parts}
-use Rattle.cube_text.specs.declared.brief.BriefRow.{BriefRow}
+use Rattle.cube_text.specs.declared.brief.BriefGroup.{BriefGroup}
 
 -- rows, each as the codes of its key and the end of its line
 abbrev pub Brief : Type 0
@@ -36,18 +38,24 @@ rows_of pieces = flat_map (λ rows. rows) pieces
 abbrev pub rows_under : List ℕ → List Codes → Brief
 rows_under ending keys = map (λ codes. (codes, ending)) keys
 
--- what of a text lies from one place to another
-abbrev pub between : List ℕ → ℕ → ℕ → List ℕ
-between text start end = take (end - start) (drop start text)
+-- keys that are what is kept of codes in the grouping set of each
+abbrev pub AreAlike : Codes → List Codes → Type 0
+AreAlike codes keys = All (λ key. key_in codes (mask_of_codes key.codes) ≡ key) keys
 
--- rows whose lines' ends lie in a text
-abbrev pub rows_with : List ℕ → List BriefRow → Brief
-rows_with endings rows = map (λ row. (row.codes, between endings row.start row.end)) rows
+-- the rows of a group: a text has the masks of their grouping sets, and behind these the end of their lines
+abbrev pub rows_in : List ℕ → BriefGroup → Brief
+rows_in text group = map (λ set. (key_in group.codes set, slice_range text group.middle group.end))
+    (slice_range text group.start group.middle)
 
--- the end of a row's line lies in a text of so many bytes
-pub record IsWithin (size : ℕ) (row : BriefRow) : Type 0 where
-  pub order : row.start ≤ row.end
-  pub within : row.end ≤ size
+-- the rows of groups
+abbrev pub rows_with : List ℕ → List BriefGroup → Brief
+rows_with text groups = rows_of (map (rows_in text) groups)
+
+-- the sets and the end of the lines of a group lie in a text of so many bytes
+pub record IsWithin (size : ℕ) (group : BriefGroup) : Type 0 where
+  pub sets : group.start ≤ group.middle
+  pub ending : group.middle ≤ group.end
+  pub within : group.end ≤ size
 
 -- a line ends so that shows the answers of a cell: with their texts, a comma behind each but the last, and LF
 pub record IsEnding (s : Layout) (cell : Tally) (ending : List ℕ) : Type 0 where

@@ -1,8 +1,10 @@
-//! The rows of a cube kept short, of which a text is made later: the codes of each one's key, and, once for all keys of a
-//! cell, how their lines end.
-ghost use Rattle.std.specs.Prelude.{◌≡◌, ◌≤◌, ◌++◌, [], ℕ, List, length, map, All, IfOk, OnOk};
+//! The rows of a cube kept short, of which a text is made later: once for all keys of a cell that differ in their grouping
+//! sets alone, the codes of the finest one, these sets, and how their lines end.
+ghost use Rattle.std.specs.Prelude.{◌≡◌, ◌≤◌, ◌++◌, ◌∷◌, [], List, length, map, take, All, IfOk, OnOk};
 ghost use Rattle.cube_core.specs.Layout.{IsSchema};
-ghost use Rattle.cube_text.specs.Brief.{Brief, IsWithin, brief_line, brief_text, rows_of, rows_under, rows_with};
+ghost use Rattle.cube_cells.specs.Levels.{mask_of_codes};
+ghost use Rattle.cube_cells.specs.Walk.{key_in};
+ghost use Rattle.cube_text.specs.Brief.{AreAlike, Brief, IsWithin, brief_line, brief_text, rows_of, rows_under, rows_with};
 ghost use Rattle.cube_text.specs.Shown.{AreShown};
 
 use crate::answers::put_ending;
@@ -29,19 +31,23 @@ pub(crate) fn key_width<N: Numbers>(cells: &FinestCells<N>) -> usize
     cells.schema().dimensions().len().saturating_mul(WIDTH)
 }
 
-/// A row: the codes of its key, and where the end of its line lies among those of its piece.
+/// Rows of one cell: the codes that their keys have, each in a grouping set of its own, and where the masks of these sets lie
+/// among the bytes of the piece, and behind them the end of the lines.
 #[derive(Clone, Copy)]
-pub struct BriefRow {
+pub struct BriefGroup {
     codes: KeyCodes,
     start: u32,
+    middle: u32,
     end: u32,
 }
 
 /// Rows kept short, in their order.
 #[derive(Drop)]
 pub struct BriefRows {
-    rows: Vec<BriefRow>,
-    endings: Vec<u8>,
+    groups: Vec<BriefGroup>,
+    bytes: Vec<u8>,
+    // How many rows there are, for the room of their text.
+    count: usize,
 }
 
 impl Model for BriefRows {
@@ -50,9 +56,9 @@ impl Model for BriefRows {
 
     ghost Value = { Brief };
 
-    ghost view = { λ b. rows_with b.endings.items b.rows.items };
+    ghost view = { λ b. rows_with b.bytes.items b.groups.items };
 
-    ghost invariant = { λ b. All (IsWithin (length b.endings.items)) b.rows.items };
+    ghost invariant = { λ b. All (IsWithin (length b.bytes.items)) b.groups.items };
 }
 
 impl BriefRows {
@@ -61,8 +67,9 @@ impl BriefRows {
         ensures { result ≡ [] }
     {
         BriefRows {
-            rows: Vec::new(alloc),
-            endings: Vec::new(alloc),
+            groups: Vec::new(alloc),
+            bytes: Vec::new(alloc),
+            count: 0,
         }
     }
 
@@ -71,10 +78,46 @@ impl BriefRows {
     pub(crate) fn add(&mut self, keys: &[KeyCodes], ending: &[u8]) -> Result<(), AllocError>
         ensures { OnOk result (self.new ≡ self.old ++ rows_under ending.now keys.now) }
     {
-        let start = place_of(self.endings.len())?;
-        self.endings.extend_from_slice(ending)?;
-        let end = place_of(self.endings.len())?;
-        push_rows(&mut self.rows, keys, start, end)
+        let Some((codes, others)) = keys.split_first() else {
+            return Ok(());
+        };
+        let (alike, later) = others.split_at(count_alike(codes, others));
+        self.add_group(codes, alike, ending)?;
+        self.add(later, ending)
+    }
+
+    // The same for some codes, and for each of others that are like them.
+    fn add_group(
+        &mut self,
+        codes: &KeyCodes,
+        alike: &[KeyCodes],
+        ending: &[u8],
+    ) -> Result<(), AllocError>
+        requires { AreAlike codes.now alike.now }
+        ensures { OnOk result (self.new ≡ self.old ++ rows_under ending.now (codes.now ∷ alike.now)) }
+    {
+        let start = place_of(self.bytes.len())?;
+        self.bytes.push(codes.mask())?;
+        put_sets(&mut self.bytes, alike)?;
+        let middle = place_of(self.bytes.len())?;
+        self.bytes.extend_from_slice(ending)?;
+        let end = place_of(self.bytes.len())?;
+        self.groups.push(BriefGroup {
+            codes: *codes,
+            start,
+            middle,
+            end,
+        })?;
+        self.count = self.count.saturating_add(alike.len()).saturating_add(1);
+        Ok(())
+    }
+
+    /// Gives back the room that no row takes.
+    pub(crate) fn shrink(&mut self)
+        ensures { self.new ≡ self.old }
+    {
+        self.groups.shrink_to_fit();
+        self.bytes.shrink_to_fit();
     }
 
     /// Puts the lines of the rows at the end of a text. The only error is that memory ran out.
@@ -87,7 +130,7 @@ impl BriefRows {
         ensures { OnOk result (AreShown cells.now.dictionaries shown.now →
             text.new.items ≡ text.old.items ++ brief_text cells.now.dictionaries self.now) }
     {
-        put_rows(text, cells, shown, &self.rows, &self.endings)
+        put_groups(text, cells, shown, &self.groups, &self.bytes)
     }
 
     /// The lines of the rows. The only error is that memory ran out.
@@ -100,7 +143,7 @@ impl BriefRows {
         ensures { IfOk result (λ text. AreShown cells.now.dictionaries shown.now →
             text.items ≡ brief_text cells.now.dictionaries self.now) }
     {
-        let mut text = Vec::with_capacity(alloc, self.rows.len().saturating_mul(ROOM))?;
+        let mut text = Vec::with_capacity(alloc, self.count.saturating_mul(ROOM))?;
         self.put_text(&mut text, cells, shown)?;
         Ok(text)
     }
@@ -116,43 +159,65 @@ fn place_of(place: usize) -> Result<u32, AllocError>
     }
 }
 
-// Puts a row behind others for each of some codes, the end of whose line lies from one place to another.
-fn push_rows(
-    rows: &mut Vec<BriefRow>,
-    keys: &[KeyCodes],
-    start: u32,
-    end: u32,
-) -> Result<(), AllocError>
-    ensures more { OnOk result (rows.new.items ≡ rows.old.items
-        ++ map (λ codes. record { codes = codes; start = start; end = end }) keys.now) }
-    ensures within { (size : ℕ) → start ≤ end → end ≤ size → All (IsWithin size) rows.old.items →
-        All (IsWithin size) rows.new.items }
+// How many of the first of some keys are what is kept of codes in the grouping set of each.
+fn count_alike(codes: &KeyCodes, keys: &[KeyCodes]) -> usize
+    ensures few { result ≤ length keys.now }
+    ensures alike { AreAlike codes.now (take result keys.now) }
 {
-    for codes in keys {
-        rows.push(BriefRow {
-            codes: *codes,
-            start,
-            end,
-        })?;
+    let mut count = 0;
+    while count < keys.len() && codes.kept(keys[count].mask()) == keys[count] {
+        count += 1;
+    }
+    count
+}
+
+// Puts the masks of the grouping sets of keys at the end of a text.
+fn put_sets(text: &mut Vec<u8>, keys: &[KeyCodes]) -> Result<(), AllocError>
+    ensures sets { OnOk result (text.new.items
+        ≡ text.old.items ++ map (λ key. mask_of_codes key.codes) keys.now) }
+    ensures longer { length text.old.items ≤ length text.new.items }
+{
+    for key in keys {
+        text.push(key.mask())?;
     }
     Ok(())
 }
 
-// Puts the lines of rows at the end of a text, whose ends lie in another.
+// Puts the lines of the rows of groups at the end of a text, whose sets and whose lines' ends lie in another.
+fn put_groups<N: Numbers>(
+    text: &mut Vec<u8>,
+    cells: &FinestCells<N>,
+    shown: &[Shown],
+    groups: &[BriefGroup],
+    bytes: &[u8],
+) -> Result<(), AllocError>
+    requires { All (IsWithin (length bytes.now)) groups.now }
+    ensures { OnOk result (AreShown cells.now.dictionaries shown.now →
+        text.new.items ≡ text.old.items ++ brief_text cells.now.dictionaries (rows_with bytes.now groups.now)) }
+{
+    for group in groups {
+        let sets = &bytes[group.start as usize..group.middle as usize];
+        let ending = &bytes[group.middle as usize..group.end as usize];
+        put_rows(text, cells, shown, &group.codes, sets, ending)?;
+    }
+    Ok(())
+}
+
+// Puts the line of a row at the end of a text for each of some grouping sets in which codes are kept.
 fn put_rows<N: Numbers>(
     text: &mut Vec<u8>,
     cells: &FinestCells<N>,
     shown: &[Shown],
-    rows: &[BriefRow],
-    endings: &[u8],
+    codes: &KeyCodes,
+    sets: &[u8],
+    ending: &[u8],
 ) -> Result<(), AllocError>
-    requires { All (IsWithin (length endings.now)) rows.now }
     ensures { OnOk result (AreShown cells.now.dictionaries shown.now →
-        text.new.items ≡ text.old.items ++ brief_text cells.now.dictionaries (rows_with endings.now rows.now)) }
+        text.new.items ≡ text.old.items ++ brief_text cells.now.dictionaries
+        (map (λ set. (key_in codes.now set, ending.now)) sets.now)) }
 {
-    for row in rows {
-        let ending = &endings[row.start as usize..row.end as usize];
-        put_row(text, cells, shown, &row.codes, ending)?;
+    for set in sets {
+        put_row(text, cells, shown, &codes.kept(*set), ending)?;
     }
     Ok(())
 }
@@ -269,7 +334,8 @@ fn begin_piece(
     if size < PIECE {
         return Ok(size);
     }
-    let piece = mem::replace(last, BriefRows::new(alloc));
+    let mut piece = mem::replace(last, BriefRows::new(alloc));
+    piece.shrink();
     full.push(piece)?;
     Ok(0)
 }
