@@ -12,5 +12,6 @@ returns c =
     let end : c.in_ok-end.end ≡ length after = omega (arith, c.in_ok-end.ensures, c.len-3.ensures) in
     rw (← c.self.view_is, c.in_ok-push-2.ensures.items) (rows_with-more text sets c.args.ending.now after
     c.in_ok-start.start c.in_ok-middle.middle c.in_ok-end.end c.args.codes.now c.args.alike.now
-    c.self.inside.groups.items c.self.invariant start (rw (c.in_ok-push.ensures.items, c.mask.ensures) at c.in_ok-put_sets.ensures.sets)
-    middle c.in_ok-extend_from_slice.ensures.items end c.requires)
+    c.self.inside.groups.items c.self.invariant start
+    (rw (c.in_ok-push.ensures.items, c.mask.ensures) at c.in_ok-put_sets.ensures.sets) middle
+    c.in_ok-extend_from_slice.ensures.items end c.requires)
