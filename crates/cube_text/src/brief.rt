@@ -21,9 +21,6 @@ const PIECE: usize = 1 << 20;
 // About how many bytes of a line there are for each dimension: a text, a GROUPING column and two commas.
 const WIDTH: usize = 16;
 
-// For how many bytes of each line there is room in a text from the beginning.
-const ROOM: usize = 64;
-
 /// About how many bytes there are of each line before its end.
 pub(crate) fn key_width<N: Numbers>(cells: &FinestCells<N>) -> usize
     ensures { IsSchema cells.now.schema }
@@ -46,8 +43,8 @@ pub struct BriefGroup {
 pub struct BriefRows {
     groups: Vec<BriefGroup>,
     bytes: Vec<u8>,
-    // How many rows there are, for the room of their text.
-    count: usize,
+    // About how many bytes of text the rows stand for.
+    size: usize,
 }
 
 impl Model for BriefRows {
@@ -69,21 +66,26 @@ impl BriefRows {
         BriefRows {
             groups: Vec::new(alloc),
             bytes: Vec::new(alloc),
-            count: 0,
+            size: 0,
         }
     }
 
-    /// Puts a row behind the others for each of some codes, whose lines all end so. The only error is that memory ran out,
-    /// also of numbers for so many bytes.
-    pub(crate) fn add(&mut self, keys: &[KeyCodes], ending: &[u8]) -> Result<(), AllocError>
+    /// Puts a row behind the others for each of some codes, whose lines all end so and have about so many bytes before that.
+    /// The only error is that memory ran out, also of numbers for so many bytes.
+    pub(crate) fn add(
+        &mut self,
+        keys: &[KeyCodes],
+        width: usize,
+        ending: &[u8],
+    ) -> Result<(), AllocError>
         ensures { OnOk result (self.new ≡ self.old ++ rows_under ending.now keys.now) }
     {
         let Some((codes, others)) = keys.split_first() else {
             return Ok(());
         };
         let (alike, later) = others.split_at(count_alike(codes, others));
-        self.add_group(codes, alike, ending)?;
-        self.add(later, ending)
+        self.add_group(codes, alike, width, ending)?;
+        self.add(later, width, ending)
     }
 
     // The same for some codes, and for each of others that are like them.
@@ -91,6 +93,7 @@ impl BriefRows {
         &mut self,
         codes: &KeyCodes,
         alike: &[KeyCodes],
+        width: usize,
         ending: &[u8],
     ) -> Result<(), AllocError>
         requires { AreAlike codes.now alike.now }
@@ -108,7 +111,9 @@ impl BriefRows {
             middle,
             end,
         })?;
-        self.count = self.count.saturating_add(alike.len()).saturating_add(1);
+        let line = width.saturating_add(ending.len());
+        let size = line.saturating_mul(alike.len().saturating_add(1));
+        self.size = self.size.saturating_add(size);
         Ok(())
     }
 
@@ -143,7 +148,7 @@ impl BriefRows {
         ensures { IfOk result (λ text. AreShown cells.now.dictionaries shown.now →
             text.items ≡ brief_text cells.now.dictionaries self.now) }
     {
-        let mut text = Vec::with_capacity(alloc, self.count.saturating_mul(ROOM))?;
+        let mut text = Vec::with_capacity(alloc, self.size)?;
         self.put_text(&mut text, cells, shown)?;
         Ok(text)
     }
@@ -249,8 +254,6 @@ pub struct BriefPieces<'c, N: Numbers> {
     ending: Vec<u8>,
     full: Vec<BriefRows>,
     last: BriefRows,
-    // About how many bytes of text the last piece stands for.
-    size: usize,
 }
 
 impl<'c, N: Numbers> Model for BriefPieces<'c, N> {
@@ -273,15 +276,8 @@ impl<'c, N: Numbers> TakesCells<N> for BriefPieces<'c, N> {
         }
         self.ending.clear();
         put_ending(&mut self.ending, self.cells, cell)?;
-        self.last.add(keys, &self.ending)?;
-        let line = self.width.saturating_add(self.ending.len());
-        let size = keys.len().saturating_mul(line);
-        self.size = begin_piece(
-            self.alloc,
-            &mut self.full,
-            &mut self.last,
-            self.size.saturating_add(size),
-        )?;
+        self.last.add(keys, self.width, &self.ending)?;
+        begin_piece(self.alloc, &mut self.full, &mut self.last)?;
         Ok(())
     }
 }
@@ -298,7 +294,6 @@ impl<'c, N: Numbers> BriefPieces<'c, N> {
             ending: Vec::new(alloc),
             full: Vec::new(alloc),
             last: BriefRows::new(alloc),
-            size: 0,
         }
     }
 
@@ -313,7 +308,6 @@ impl<'c, N: Numbers> BriefPieces<'c, N> {
             cells: _,
             width: _,
             ending,
-            size: _,
         } = self;
         drop(ending);
         full.push(last)?;
@@ -321,21 +315,19 @@ impl<'c, N: Numbers> BriefPieces<'c, N> {
     }
 }
 
-// Begins a new piece where the last one stands for so many bytes of text that it is full. What is answered is for how many
-// the last one stands then.
+// Begins a new piece where the last one stands for so much text that it is full.
 fn begin_piece(
     alloc: Global,
     full: &mut Vec<BriefRows>,
     last: &mut BriefRows,
-    size: usize,
-) -> Result<usize, AllocError>
+) -> Result<(), AllocError>
     ensures { OnOk result (rows_of full.new.items ++ last.new ≡ rows_of full.old.items ++ last.old) }
 {
-    if size < PIECE {
-        return Ok(size);
+    if last.size < PIECE {
+        return Ok(());
     }
     let mut piece = mem::replace(last, BriefRows::new(alloc));
     piece.shrink();
     full.push(piece)?;
-    Ok(0)
+    Ok(())
 }

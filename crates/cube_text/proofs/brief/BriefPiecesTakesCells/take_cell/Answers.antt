@@ -27,7 +27,7 @@ returns g c =
     let added : c.add.new.self ≡ c.self.inside.last ++ rows_under ending keys =
     rw c.deref.ensures.value at c.in_ok-add.ensures in
     let all : rows_of c.begin_piece.new.full.items ++ c.begin_piece.new.last ≡ rows ++ rows_under ending keys =
-    c.in_ok-self-inside.ensures ∙ ap (λ (l : Brief). full ++ l) added
+    c.in_ok-begin_piece.ensures ∙ ap (λ (l : Brief). full ++ l) added
     ∙ sym (append_assoc full c.self.inside.last (rows_under ending keys)) in
     rw (← c.self.view_is) (TakesAll-rows_under finest c.args.cell.now keys ending rows _ _ c.in_ok-put_ending.ensures
     refl (ap (λ (l : Brief). record { finest = finest; rows = l }) all))
