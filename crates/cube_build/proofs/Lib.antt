@@ -13,3 +13,5 @@ mod SameLaws
 mod CountingLaws
 mod CounterShareLaws
 mod TakenLaws
+mod ShardedLaws
+mod ShardLedgerLaws
