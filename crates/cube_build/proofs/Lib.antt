@@ -15,3 +15,4 @@ mod CounterShareLaws
 mod TakenLaws
 mod ShardedLaws
 mod ShardLedgerLaws
+mod UnitedLaws

@@ -13,7 +13,7 @@ use Rattle.cube_core.specs.declared.change.Item.{Item}
 use Rattle.cube_core.specs.declared.condition.Condition.{Condition}
 use Rattle.cube_ledger.specs.Ledger.{AccountStandsAt, AccountView, AtSource, Enters, LedgerView, account_of, new_account}
 use Rattle.cube_ledger.proofs.StandLaws.{AccountStandsAt-Enters}
-use Rattle.cube_build.specs.Sharded.{AllSettle, Awaits, IsSharded, NoneWaits, Settles, ShardStandsAt, ShardView}
+use Rattle.cube_build.specs.Sharded.{AllSettle, Awaits, Keeps, NoneWaits, Settles, ShardStandsAt, ShardView}
 use Rattle.cube_build.specs.Sharded.{ShardedView, ShardsCameTo, is_of_shard, last_of, numbers_of, shard_of_what, with_waiting}
 use Rattle.cube_build.proofs.ShardedLaws.{Rise-push, last_of-push, of_place-here, of_place-other}
 
@@ -133,14 +133,29 @@ settled-alike s old new long settle alike = λ place d below.
 pub settled-none : (old new : List ShardView) → length new ≡ length old → AllSettle old new → NoneWaits new
 settled-none old new long settle = λ place d below. (settle place d (omega (arith, long, below))).none_waits
 
--- ---- the ledgers of all shards
-accounts-of : (shards : List ShardView) → All (λ (l : LedgerView). length l.accounts ≡ 1) (map (λ (shard : ShardView). shard.ledger) shards)
-    → flat_map (λ (l : LedgerView). l.accounts) (map (λ (shard : ShardView). shard.ledger) shards)
-    ≡ map (λ (shard : ShardView). account_of shard.ledger 1) shards
-accounts-of [] one = refl
-accounts-of (shard ∷ shards) one =
-    let ledgers = map (λ (shard : ShardView). shard.ledger) shards in
-    (λ i. account-one shard.ledger.accounts (All-head (λ (l : LedgerView). length l.accounts ≡ 1) shard.ledger ledgers one) i
-    ++ flat_map (λ (l : LedgerView). l.accounts) ledgers)
-    ∙ ap (λ accounts. account_of shard.ledger 1 ∷ accounts)
-    (accounts-of shards (All-tail (λ (l : LedgerView). length l.accounts ≡ 1) shard.ledger ledgers one))
+-- an item was put to those that wait in its shard
+pub awaits-made : (item : Item) (s : Layout) (shards : List ShardView) (last place number : ℕ) (spent : Bool)
+    (waited : ShardView) → spent ≡ false → place ≡ shard_of_what (length shards) item.what → place < length shards
+    → last < number → number ≡ item.number → ((d : ShardView) → waited ≡ with_waiting (get_or shards place d) item)
+    → Awaits item (record { schema = s; shards = shards; last = last; is_spent = spent })
+    (record { schema = s; shards = set shards place waited; last = number; is_spent = spent })
+awaits-made item s shards last place number spent waited unspent own within above is waits = record {
+  before = unspent;
+  schema = refl;
+  above = omega (arith, above, is);
+  last_is = is;
+  place_within = omega (arith, own, within);
+  shard = waited;
+  shard_is = λ d. rw (← own) (waits d);
+  shards_are = ap (λ n. set shards n waited) own;
+}
+
+pub keeps-settled : (s : Layout) (old new : List ShardView) (last : ℕ) (spent : Bool) → length new ≡ length old
+    → AllSettle old new → ((place : ℕ) (d : ShardView) → place < length new → (get_or new place d).is_spent ≡ false)
+    → Keeps (record { schema = s; shards = old; last = last; is_spent = spent })
+    (record { schema = s; shards = new; last = last; is_spent = spent })
+keeps-settled s old new last spent long settle unspent = record {
+  schema = refl;
+  came = settled-came (record { schema = s; shards = old; last = last; is_spent = spent })
+      (record { schema = s; shards = new; last = last; is_spent = spent }) refl long settle unspent;
+}

@@ -162,7 +162,7 @@ impl<'t, T: Threads + Sync> ShardedLedger<'t, T> {
         conditions: &[Condition],
     ) -> Result<Counts<N>, AllocError>
         ensures { IfOk result (λ counts. (first : ShardedView) (arrivals : Arrivals) →
-            ShardedStandsFrom first self arrivals →
+            ShardedStandsFrom first self.entry arrivals →
             AreCountsAt conditions.now first.schema arrivals counts) }
     {
         let mut whole = self;

@@ -76,9 +76,9 @@ fn finished<T: Threads + Sync, N: Numbers + Send + Sync>(
     conditions: &[Condition],
 ) -> Result<MadePart<N>, AllocError>
     ensures counts { IfOk result (λ part. (first : ShardedView) (arrivals : Arrivals) →
-        ShardedStandsFrom first gatherer.builder arrivals →
+        ShardedStandsFrom first gatherer.entry.builder arrivals →
         AreCountsAt conditions.now first.schema arrivals part.builder) }
-    ensures inlets { IfOk result (λ part. part.inlets.items ≡ gatherer.inlets.items) }
+    ensures inlets { IfOk result (λ part. part.inlets.items ≡ gatherer.entry.inlets.items) }
 {
     let Gatherer {
         builder: sharded,
