@@ -16,3 +16,4 @@ mod TakenLaws
 mod ShardedLaws
 mod ShardLedgerLaws
 mod UnitedLaws
+mod ShardingLaws

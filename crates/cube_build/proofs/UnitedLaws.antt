@@ -186,6 +186,7 @@ counts-at conditions first settled fresh apart ledgers arrivals counts is own as
           (get_or apart.accounts place new_account)
       each place below =
           let within : place < length shards = omega (arith, long, below) in
+          let at : place ≡ 0 + place = omega arith in
           let shard = get_or shards place no_shard in
           let stands = came.each place no_shard within in
           let done : stands.done ≡ of_place (length shards) place items =
@@ -195,7 +196,7 @@ counts-at conditions first settled fresh apart ledgers arrivals counts is own as
           ap (λ (l : List AccountView). get_or l place new_account) they
           ∙ get_or-map account shards place no_shard new_account within in
           subst (λ n. AccountStandsAt apart.schema (of_place (length shards) n items)
-          (get_or apart.accounts place new_account)) (omega arith)
+          (get_or apart.accounts place new_account)) at
           (rw here (subst (λ (l : List Item). AccountStandsAt apart.schema l (account shard)) done
           (subst (λ (s : Layout). AccountStandsAt s stands.done (account shard)) alike stands.stands)))
 

@@ -38,6 +38,7 @@ pub(crate) struct ShardedLedger<'t, T: Threads + Sync> {
 }
 
 impl<'t, T: Threads + Sync> Model for ShardedLedger<'t, T> {
+    ghost use Rattle.std.specs.Thread.{IsSync};
     ghost use Rattle.cube_build.specs.Sharded.{ShardedView, IsSharded};
 
     ghost Value = { ShardedView };
@@ -49,7 +50,7 @@ impl<'t, T: Threads + Sync> Model for ShardedLedger<'t, T> {
       is_spent = s.is_spent;
     } };
 
-    ghost invariant = { λ s. IsSharded s.fresh s.shards.items };
+    ghost invariant = { λ s. IsSync T.row × IsSharded s.fresh s.shards.items };
 }
 
 impl<'t, T: Threads + Sync> TakesItems for ShardedLedger<'t, T> {
@@ -71,7 +72,7 @@ impl<'t, T: Threads + Sync> TakesItems for ShardedLedger<'t, T> {
     }
 
     fn take_item(&mut self, source: u32, item: FeedItem) -> Result<(), AllocError> {
-        let _ = source;
+        let _ = (source, &self.rt);
         self.put_in(item)?;
         self.settle_if_many()
     }
@@ -194,7 +195,7 @@ fn new_shards(
     requires { 1 ≤ count }
     ensures { IfOk result (λ shards. AreNewShards schema.now count shards.items) }
 {
-    let room = BATCH / count;
+    let room = BATCH / count + BATCH / 16;
     let mut shards = Vec::with_capacity(alloc, count)?;
     for _ in 0..count {
         shards.push(ShardLedger::new(alloc, schema, room)?)?;
