@@ -3,9 +3,9 @@ use Rattle.std.proofs.Common.{◌≡◌, ◌≢◌, ◌<◌, ◌≤◌, ◌+◌,
 use Rattle.std.proofs.Common.{flat_map, get_or, refl, sym, ap, ◌∙◌, subst, arith, inl, inr, append_assoc, set, Result, Ok, Err}
 use Rattle.std.specs.Prelude.{OnOk, is_err}
 use Rattle.std.specs.List.{All}
-use Rattle.std.proofs.lemmas.Bool.{cases_Bool, eqb-true, eq-eqb, false_from_ne_true}
+use Rattle.std.proofs.lemmas.Bool.{cases_Bool, cases_lt, eqb-true, eq-eqb, false_from_ne_true}
 use Rattle.std.proofs.lemmas.List.{append-nil, get_or-map, get_or-set_other, get_or-set_same, length-map, length-set}
-use Rattle.std.proofs.lemmas.List.{map-append}
+use Rattle.std.proofs.lemmas.List.{get_or_append_left, get_or-append_right, get_or_default, length-append, map-append}
 use Rattle.std.proofs.lemmas.List.Elements.{All-head, All-set, All-tail}
 use Rattle.cube_core.specs.Arrival.{Arrivals, of_source}
 use Rattle.cube_core.specs.Layout.{Layout}
@@ -13,7 +13,7 @@ use Rattle.cube_core.specs.declared.change.Item.{Item}
 use Rattle.cube_core.specs.declared.condition.Condition.{Condition}
 use Rattle.cube_ledger.specs.Ledger.{AccountStandsAt, AccountView, AtSource, Enters, LedgerView, account_of, new_account}
 use Rattle.cube_ledger.proofs.StandLaws.{AccountStandsAt-Enters}
-use Rattle.cube_build.specs.Sharded.{AllSettle, Awaits, Keeps, NoneWaits, Settles, ShardStandsAt, ShardView}
+use Rattle.cube_build.specs.Sharded.{AllSettle, Awaits, Keeps, NoneWaits, SettleAlike, Settles, ShardStandsAt, ShardView}
 use Rattle.cube_build.specs.Sharded.{ShardedView, ShardsCameTo, is_of_shard, last_of, numbers_of, shard_of_what, with_waiting}
 use Rattle.cube_build.proofs.ShardedLaws.{Rise-push, last_of-push, of_place-here, of_place-other}
 
@@ -158,4 +158,67 @@ keeps-settled s old new last spent long settle unspent = record {
   schema = refl;
   came = settled-came (record { schema = s; shards = old; last = last; is_spent = spent })
       (record { schema = s; shards = new; last = last; is_spent = spent }) refl long settle unspent;
+}
+
+-- ---- shards settled one after another
+-- the shards before a place were settled, and the others are as they were
+pub record SettledTo (old now : List ShardView) (i : ℕ) : Type 0 where
+  pub number : length now ≡ length old
+  pub done : (place : ℕ) (d : ShardView) → place < i → place < length old
+      → Settles (get_or old place d) (get_or now place d)
+  pub left : (place : ℕ) (d : ShardView) → i ≤ place → get_or now place d ≡ get_or old place d
+
+pub SettledTo-none : (shards : List ShardView) → SettledTo shards shards 0
+SettledTo-none shards = record {
+  number = refl;
+  done = λ place d below within. absurd (omega (arith, below));
+  left = λ place d from. refl;
+}
+
+pub SettledTo-more : (old now : List ShardView) (i : ℕ) (e next : ShardView) → i < length now
+    → Settles (get_or now i e) next → SettledTo old now i → SettledTo old (set now i next) (i + 1)
+SettledTo-more old now i e next inside settles to = record {
+  number = length-set now i next ∙ to.number;
+  done = λ place d below within. elim (cases_Bool (place == i)) [
+    | inl here ↦
+        let at : place ≡ i = eqb-true place i here in
+        let was : get_or now i e ≡ get_or old i d = get_or_default now i e d inside ∙ to.left i d (omega arith) in
+        rw (at, get_or-set_same now i next d inside) (subst (λ (shard : ShardView). Settles shard next) was settles)
+    | inr other ↦
+        let apart : place ≢ i = λ same. cc (sym other ∙ eq-eqb place i same) in
+        rw (get_or-set_other now i place next d apart) (to.done place d (omega (arith, below, apart)) within)
+  ];
+  left = λ place d from.
+      get_or-set_other now i place next d (λ same. absurd (omega (arith, same, from))) ∙ to.left place d (omega (arith, from));
+}
+
+pub SettleAlike-all : (old now : List ShardView) (i : ℕ) → length old ≤ i → SettledTo old now i → SettleAlike old now
+SettleAlike-all old now i past to = record {
+  number = to.number;
+  each = λ place d below. to.done place d (omega (arith, past, below)) below;
+}
+
+-- two lists of shards
+pub SettleAlike-append : (low high low_new high_new : List ShardView) → SettleAlike low low_new
+    → SettleAlike high high_new → SettleAlike (low ++ high) (low_new ++ high_new)
+SettleAlike-append low high low_new high_new of_low of_high = record {
+  number = omega (
+    arith,
+    length-append low high,
+    length-append low_new high_new,
+    of_low.number,
+    of_high.number,
+  );
+  each = λ place d below. elim (cases_lt place (length low)) [
+    | inl before ↦
+        rw (
+          get_or_append_left low high d place before,
+          get_or_append_left low_new high_new d place (omega (arith, before, of_low.number)),
+        ) (of_low.each place d before)
+    | inr after ↦
+        rw (
+          get_or-append_right low high (length low) place d refl after,
+          get_or-append_right low_new high_new (length low) place d of_low.number after,
+        ) (of_high.each (place - length low) d (omega (arith, below, after, length-append low high)))
+  ];
 }

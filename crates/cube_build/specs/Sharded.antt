@@ -59,6 +59,11 @@ pub record Settles (old new : ShardView) : Type 0 where
 abbrev pub AllSettle : List ShardView → List ShardView → Type 0
 AllSettle old new = (place : ℕ) (d : ShardView) → place < length old → Settles (get_or old place d) (get_or new place d)
 
+-- as many shards as before, each of which was settled
+pub record SettleAlike (old new : List ShardView) : Type 0 where
+  pub number : length new ≡ length old
+  pub each : AllSettle old new
+
 -- numbers that rise, all of them above one
 abbrev pub Rise : ℕ → List ℕ → Type 0
 Rise above [] = ⊤

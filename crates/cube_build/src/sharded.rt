@@ -2,7 +2,7 @@
 ghost use Rattle.std.specs.Prelude.{◌≡◌, ◌≤◌, ◌<◌, ℕ, false, true, length, get_or, map, IfOk, OnOk, OnErr};
 ghost use Rattle.std.specs.List.{All};
 ghost use Rattle.cube_core.specs.Arrival.{Arrivals};
-ghost use Rattle.cube_build.specs.Sharded.{AllSettle, AreCountsAt, AreNewShards, Awaits, IsNewSharded, Keeps, NoneWaits, ShardView, ShardedStandsFrom, ShardedView};
+ghost use Rattle.cube_build.specs.Sharded.{AreCountsAt, AreNewShards, Awaits, IsNewSharded, Keeps, NoneWaits, SettleAlike, ShardView, ShardedStandsFrom, ShardedView};
 
 use crate::counts::Counts;
 use crate::draft::put_together;
@@ -14,7 +14,7 @@ use cube_feed::{FeedItem, TakesItems};
 use cube_ledger::Ledger;
 use std::alloc::{AllocError, Global};
 use std::marker::Model;
-use std::thread::{Threads, for_each_mut};
+use std::thread::{Threads, join_mut};
 
 /// How many items wait at most before they are entered.
 const BATCH: usize = 8_192;
@@ -27,7 +27,7 @@ const FEW: usize = 1_024;
 ///
 /// It takes items whose numbers rise, as those of a feed do.
 #[derive(Drop)]
-pub(crate) struct ShardedLedger<'t, T: Threads + Sync> {
+pub(crate) struct ShardedLedger<'t, T: Threads> {
     rt: &'t T,
     alloc: Global,
     fresh: Ledger,
@@ -37,8 +37,7 @@ pub(crate) struct ShardedLedger<'t, T: Threads + Sync> {
     is_spent: bool,
 }
 
-impl<'t, T: Threads + Sync> Model for ShardedLedger<'t, T> {
-    ghost use Rattle.std.specs.Thread.{IsSync};
+impl<'t, T: Threads> Model for ShardedLedger<'t, T> {
     ghost use Rattle.cube_build.specs.Sharded.{ShardedView, IsSharded};
 
     ghost Value = { ShardedView };
@@ -50,10 +49,10 @@ impl<'t, T: Threads + Sync> Model for ShardedLedger<'t, T> {
       is_spent = s.is_spent;
     } };
 
-    ghost invariant = { λ s. IsSync T.row × IsSharded s.fresh s.shards.items };
+    ghost invariant = { λ s. IsSharded s.fresh s.shards.items };
 }
 
-impl<'t, T: Threads + Sync> TakesItems for ShardedLedger<'t, T> {
+impl<'t, T: Threads> TakesItems for ShardedLedger<'t, T> {
     ghost use Rattle.std.specs.Prelude.{false};
     ghost use Rattle.cube_build.specs.Sharded.{ShardedStandsFrom};
 
@@ -72,13 +71,13 @@ impl<'t, T: Threads + Sync> TakesItems for ShardedLedger<'t, T> {
     }
 
     fn take_item(&mut self, source: u32, item: FeedItem) -> Result<(), AllocError> {
-        let _ = (source, &self.rt);
+        let _ = source;
         self.put_in(item)?;
         self.settle_if_many()
     }
 }
 
-impl<'t, T: Threads + Sync> ShardedLedger<'t, T> {
+impl<'t, T: Threads> ShardedLedger<'t, T> {
     /// A ledger in so many shards that has taken nothing. The only error is that memory ran out.
     pub fn new(
         rt: &'t T,
@@ -154,7 +153,9 @@ impl<'t, T: Threads + Sync> ShardedLedger<'t, T> {
         }
         Ok(())
     }
+}
 
+impl<'t, T: Threads + Sync> ShardedLedger<'t, T> {
     /// The counts of the facts of interest of all that was taken, made by so many threads; the books are let go of. The only
     /// error is that memory ran out.
     pub fn finish<N: Numbers + Send + Sync>(
@@ -203,20 +204,48 @@ fn new_shards(
     Ok(shards)
 }
 
-// Enters what waits in each shard, by at most so many threads.
-fn settle_shards<T: Threads + Sync>(rt: &T, threads: usize, shards: &mut [ShardLedger])
-    requires { 1 ≤ threads }
-    ensures number { length shards.new ≡ length shards.old }
-    ensures each { AllSettle shards.old shards.new }
+// Enters what waits in each shard, by so many threads: each enters the items of a piece of the shards.
+#[cycle(pieces)]
+fn settle_shards<T: Threads>(rt: &T, pieces: usize, shards: &mut [ShardLedger])
+    ensures { SettleAlike shards.old shards.new }
 {
-    for_each_mut(
-        rt,
-        shards,
-        threads,
-        &|_, shard| {
-            shard.settle();
-        },
-    );
+    if pieces < 2 {
+        settle_in_turn(shards);
+    } else {
+        let (first, others) = shards.split_at_mut(shards.len() / pieces);
+        settle_both(rt, pieces, first, others);
+    }
+}
+
+// Enters what waits in the first piece of the shards, and in the others, side by side.
+#[cycle(pieces)]
+fn settle_both<T: Threads>(
+    rt: &T,
+    pieces: usize,
+    first: &mut [ShardLedger],
+    others: &mut [ShardLedger],
+)
+    requires { 1 < pieces }
+    ensures first { SettleAlike first.old first.new }
+    ensures others { SettleAlike others.old others.new }
+{
+    let mut front = ||
+        ensures { SettleAlike first.entry.now first.exit.now }
+    { settle_in_turn(first) };
+    let mut back = ||
+        requires { 1 < pieces }
+        ensures { SettleAlike others.entry.now others.exit.now }
+    { settle_shards(rt, pieces - 1, others) };
+    join_mut(rt, &mut front, &mut back);
+}
+
+// Enters what waits in each shard, one after another.
+fn settle_in_turn(shards: &mut [ShardLedger])
+    ensures { SettleAlike shards.old shards.new }
+{
+    for shard in shards.iter_mut() {
+        shard.settle();
+    }
 }
 
 fn is_any_spent(shards: &[ShardLedger]) -> bool

@@ -5,11 +5,8 @@ use Rattle.cube_build.proofs.sharded.ShardedLedger.new.Goals as goal
 
 pub invariant_of-result : goal.invariant_of-result
 invariant_of-result g c =
-    (
-      c.type_bounds.sync-T,
-      new-sharded c.args.schema.now c.args.count c.in_ok-fresh.fresh c.in_ok-shards.shards.items c.in_ok-shards.ensures
-          c.in_ok-fresh.ensures.schema c.in_ok-fresh.ensures.accounts c.requires.some c.requires.few,
-    )
+    new-sharded c.args.schema.now c.args.count c.in_ok-fresh.fresh c.in_ok-shards.shards.items c.in_ok-shards.ensures
+    c.in_ok-fresh.ensures.schema c.in_ok-fresh.ensures.accounts c.requires.some c.requires.few
 
 pub returns : goal.returns
 returns g c = record {

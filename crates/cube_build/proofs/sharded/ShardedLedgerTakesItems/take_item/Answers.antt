@@ -14,10 +14,3 @@ returns-clause-unchanged g c =
     on_err_weaker c.settle_if_many.result
     (λ spent. λ first arrivals stands. sharded-spent first c.settle_if_many.new.self arrivals spent)
     c.settle_if_many.ensures.spent
-
--- the invariant says that its runtime may be shared
-pub put_in-requires-sync-T : goal.put_in-requires-sync-T
-put_in-requires-sync-T g c κs within = c.self.invariant.0
-
-pub settle_if_many-requires-sync-T : goal.settle_if_many-requires-sync-T
-settle_if_many-requires-sync-T g c κs within = c.self.invariant.0
