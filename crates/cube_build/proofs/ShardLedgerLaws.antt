@@ -104,8 +104,10 @@ awaits-came item old new awaits items came =
             (came.each place d (omega (arith, long, below))))
         | inr other ↦
             let apart : place ≢ own = λ same. cc (sym other ∙ eq-eqb own place (sym same)) in
-            rw (of_place-other count place items item other,
-            get_or-set_other old.shards own place awaits.shard d apart)
+            rw (
+              of_place-other count place items item other,
+              get_or-set_other old.shards own place awaits.shard d apart,
+            )
             (came.each place d (omega (arith, long, below)))
       ]);
     }

@@ -64,30 +64,30 @@ rise-same above low (x ∷ xs) (y ∷ ys) up up_too same =
       | inr after ↦ elim (Contains-cases x xs y ((same y).1 (Contains-head y ys))) [
         | inl is ↦ is
         | inr later ↦ absurd (omega (
-            arith,
-            Rise-above y.number ys x up_too.1 after,
-            Rise-above x.number xs y up.1 later,
-          ))
+          arith,
+          Rise-above y.number ys x up_too.1 after,
+          Rise-above x.number xs y up.1 later,
+        ))
       ]
     ] in
     let number : x.number ≡ y.number = ap (λ (r : Refusal). r.number) first in
     let rest : xs ≡ ys = rise-same x.number y.number xs ys up.1 up_too.1 (λ one. (
       λ among. elim (Contains-cases y ys one ((same one).0 (Contains-tail x xs one among))) [
         | inl is ↦ absurd (omega (
-            arith,
-            Rise-above x.number xs one up.1 among,
-            number,
-            ap (λ (r : Refusal). r.number) is,
-          ))
+          arith,
+          Rise-above x.number xs one up.1 among,
+          number,
+          ap (λ (r : Refusal). r.number) is,
+        ))
         | inr after ↦ after
       ],
       λ among. elim (Contains-cases x xs one ((same one).1 (Contains-tail y ys one among))) [
         | inl is ↦ absurd (omega (
-            arith,
-            Rise-above y.number ys one up_too.1 among,
-            number,
-            ap (λ (r : Refusal). r.number) is,
-          ))
+          arith,
+          Rise-above y.number ys one up_too.1 among,
+          number,
+          ap (λ (r : Refusal). r.number) is,
+        ))
         | inr after ↦ after
       ],
     )) in
@@ -248,11 +248,11 @@ module _ (s : Layout) (count : ℕ) where
           elim (Contains-append_cases (refusals_of s before) new one (subst (λ rs. Contains rs one) after among)) [
             | inl was ↦ let at = (alike one).0 was in (at.0, at.1, still at.0 at.2)
             | inr now ↦ (
-                own,
-                own-below item.what,
-                subst (λ rs. Contains rs one) (sym (refused-here own before item (eq-eqb own own refl)))
-                    (Contains-append_right (refusals_of s (of_place count own before)) new one now),
-              )
+              own,
+              own-below item.what,
+              subst (λ rs. Contains rs one) (sym (refused-here own before item (eq-eqb own own refl)))
+                  (Contains-append_right (refusals_of s (of_place count own before)) new one now),
+            )
           ]
 
       from : (place : ℕ) → IsRefusedIn (before ++ item ∷ []) one place

@@ -188,11 +188,7 @@ impl<'t, T: Threads + Sync> ShardedLedger<'t, T> {
 }
 
 // So many shards that have taken nothing. The only error is that memory ran out.
-fn new_shards(
-    alloc: Global,
-    schema: &Schema,
-    count: usize,
-) -> Result<Vec<ShardLedger>, AllocError>
+fn new_shards(alloc: Global, schema: &Schema, count: usize) -> Result<Vec<ShardLedger>, AllocError>
     requires { 1 ≤ count }
     ensures { IfOk result (λ shards. AreNewShards schema.now count shards.items) }
 {
