@@ -13,3 +13,7 @@ mod SameLaws
 mod CountingLaws
 mod CounterShareLaws
 mod TakenLaws
+mod ShardedLaws
+mod ShardLedgerLaws
+mod UnitedLaws
+mod ShardingLaws

@@ -96,7 +96,7 @@ has-own ledger counts are =
     subst (λ (l : LedgerView). HaveFactsOf l counts.cube) (sym are.ledger_is) are.has
 
 -- what has taken all feeds gives such a part
-taken-part : {B N : Type 0} (stands : B → Arrivals → Type 0) (s : Layout) (conditions : List Condition)
+pub taken-part : {B N : Type 0} (stands : B → Arrivals → Type 0) (s : Layout) (conditions : List Condition)
     (sources : SourceBytes) (feeds : List (List Item)) (gatherer : Gatherer B) (whole : LedgerView) (part : MadePart N)
     → AreGood s sources → AllZip (AreItemsOf s) sources feeds → (takes : TakesFeeds stands feeds gatherer)
     → whole.schema ≡ s → length whole.accounts ≡ length sources → LedgerStandsAt whole takes.arrivals

@@ -11,3 +11,4 @@ pub mod Counting
 pub mod CountedRun
 pub mod CounterShares
 pub mod Taken
+pub mod Sharded

@@ -176,8 +176,12 @@ pub(crate) fn new_drafts<N: Numbers>(
     Ok(drafts)
 }
 
-// A ledger with the accounts of these, which have its schema, in their order. The only error is that memory ran out.
-fn put_together(alloc: Global, schema: &Schema, ledgers: Vec<Ledger>) -> Result<Ledger, AllocError>
+/// A ledger with the accounts of these, which have its schema, in their order. The only error is that memory ran out.
+pub(crate) fn put_together(
+    alloc: Global,
+    schema: &Schema,
+    ledgers: Vec<Ledger>,
+) -> Result<Ledger, AllocError>
     requires schema { All (λ ledger. ledger.schema ≡ schema.now) ledgers.items }
     requires most { sum_by (λ ledger. length ledger.accounts) ledgers.items ≤ 64 }
     ensures schema { IfOk result (λ whole. whole.schema ≡ schema.now) }

@@ -21,10 +21,14 @@ pub mod laws;
 mod making;
 mod parted;
 mod plain;
+mod shard_ledger;
+mod sharded;
+mod sharding;
 mod shares;
 mod taken;
 mod taking;
 mod trace;
+mod united;
 
 pub use builder::Builder;
 pub use building::{build, build_ledger, build_where};

@@ -13,6 +13,7 @@ use crate::building::feed_parts;
 use crate::counting::{count_where, need_no_book};
 use crate::draft::Draft;
 use crate::making::MadePart;
+use crate::sharding::take_in_shards;
 use crate::trace::LedgerTrace;
 use cube_cells::{BaseCuboid, Counted, FinestCells, Numbers, Summary};
 use cube_core::{Condition, Schema};
@@ -233,6 +234,9 @@ pub(crate) fn take_part<
 {
     if need_no_book(schema) {
         return count_where(rt, alloc, schema, readers, settings, gate, conditions);
+    }
+    if readers.len() == 1 && settings.threads() > 1 {
+        return take_in_shards(rt, alloc, schema, readers, settings, gate, conditions);
     }
     let mut gatherers = feed_parts(rt, alloc, schema, readers, settings, gate)?;
     let gatherer = gatherers.swap_remove(0);

@@ -5,6 +5,7 @@ ghost use Rattle.cube_ledger.specs.Interest.{ledger_of_interest};
 ghost use Rattle.cube_ledger.specs.Ledger.{LedgerView};
 ghost use Rattle.cube_build.specs.CounterShares.{appended};
 ghost use Rattle.cube_build.specs.Counting.{putting, refusing};
+ghost use Rattle.cube_build.specs.Sharded.{united};
 
 use cube_core::{Condition, Fact, Text};
 use cube_ledger::Ledger;
@@ -78,6 +79,13 @@ impl LedgerTrace {
         LedgerTrace::read(&Appended { old: self, other })
     }
 
+    /// The trace of the ledger of one source that has the facts of the accounts of one, and the refusals of another.
+    pub fn uniting(apart: &Ledger, refused: &Ledger) -> LedgerTrace
+        ensures { result.ledger ≡ united apart.now refused.now }
+    {
+        LedgerTrace::read(&United { apart, refused })
+    }
+
     /// The trace of this ledger with the facts of interest alone.
     pub fn keeping(&self, conditions: &[Condition]) -> LedgerTrace
         ensures { result.ledger ≡ ledger_of_interest conditions.now self.now.ledger }
@@ -130,6 +138,16 @@ struct Appended<'a> {
 
 impl<'a> Traced for Appended<'a> {
     ghost ledger = { λ x. appended x.old.now.ledger x.other.now.ledger };
+}
+
+#[derive(Drop)]
+struct United<'a> {
+    apart: &'a Ledger,
+    refused: &'a Ledger,
+}
+
+impl<'a> Traced for United<'a> {
+    ghost ledger = { λ x. united x.apart.now x.refused.now };
 }
 
 #[derive(Drop)]
