@@ -1,16 +1,13 @@
 -- Shards of a feed while its items wait and are entered.
-use Rattle.std.proofs.Common.{◌≡◌, ◌≢◌, ◌<◌, ◌≤◌, ◌+◌, ◌-◌, ◌==◌, ℕ, Bool, true, false, List, [], ◌∷◌, ◌++◌, length, map, filter}
-use Rattle.std.proofs.Common.{flat_map, get_or, refl, sym, ap, ◌∙◌, subst, arith, inl, inr, append_assoc, set, Result, Ok, Err}
+use Rattle.std.proofs.Common.{◌≡◌, ◌≢◌, ◌<◌, ◌≤◌, ◌+◌, ◌-◌, ◌==◌, ℕ, Bool, false, List, [], ◌∷◌, ◌++◌, length, filter}
+use Rattle.std.proofs.Common.{get_or, refl, sym, ap, ◌∙◌, subst, arith, inl, inr, append_assoc, set, Result, Ok, Err}
 use Rattle.std.specs.Prelude.{OnOk, is_err}
 use Rattle.std.specs.List.{All}
-use Rattle.std.proofs.lemmas.Bool.{cases_Bool, cases_lt, eqb-true, eq-eqb, false_from_ne_true}
-use Rattle.std.proofs.lemmas.List.{append-nil, get_or-map, get_or-set_other, get_or-set_same, length-map, length-set}
+use Rattle.std.proofs.lemmas.Bool.{cases_Bool, cases_lt, eqb-true, eq-eqb}
+use Rattle.std.proofs.lemmas.List.{append-nil, get_or-set_other, get_or-set_same, length-set}
 use Rattle.std.proofs.lemmas.List.{get_or_append_left, get_or-append_right, get_or_default, length-append, map-append}
-use Rattle.std.proofs.lemmas.List.Elements.{All-head, All-set, All-tail}
-use Rattle.cube_core.specs.Arrival.{Arrivals, of_source}
 use Rattle.cube_core.specs.Layout.{Layout}
 use Rattle.cube_core.specs.declared.change.Item.{Item}
-use Rattle.cube_core.specs.declared.condition.Condition.{Condition}
 use Rattle.cube_ledger.specs.Ledger.{AccountStandsAt, AccountView, AtSource, Enters, LedgerView, account_of, new_account}
 use Rattle.cube_ledger.proofs.StandLaws.{AccountStandsAt-Enters}
 use Rattle.cube_build.specs.Sharded.{AllSettle, Awaits, Keeps, NoneWaits, SettleAlike, Settles, ShardStandsAt, ShardView}

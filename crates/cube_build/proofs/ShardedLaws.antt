@@ -1,11 +1,10 @@
 -- One feed taken in shards: what the accounts of all shards have together is what one account of the feed has.
-use Rattle.std.proofs.Common.{◌≡◌, ◌≢◌, ◌<◌, ◌≤◌, ◌+◌, ◌==◌, ◌⊎◌, ◌↔◌, ℕ, zero, suc, Bool, true, false, not, List, [], ◌∷◌, ◌++◌}
-use Rattle.std.proofs.Common.{length, map, filter, flat_map, get_or, refl, sym, ap, ◌∙◌, subst, arith, inl, inr, Contains}
+use Rattle.std.proofs.Common.{◌≡◌, ◌≢◌, ◌<◌, ◌≤◌, ◌+◌, ◌==◌, ◌↔◌, ℕ, suc, Bool, true, false, not, List, [], ◌∷◌, ◌++◌}
+use Rattle.std.proofs.Common.{length, filter, flat_map, get_or, refl, sym, ap, ◌∙◌, subst, arith, inl, inr, Contains}
 use Rattle.std.proofs.Common.{append_assoc, Option, Some, None, IsSome, Result, Ok, Err, option_map, if◌then◌else◌}
-use Rattle.std.specs.Prelude.{◌%◌, is_some}
+use Rattle.std.specs.Prelude.{is_some}
 use Rattle.std.specs.Cmp.Lexicographic.{nat_list_eq_equiv}
-use Rattle.std.specs.List.{AllByRecursion, IsDistinct, cons_option}
-use Rattle.std.specs.Map.{keys_of, values_of}
+use Rattle.std.specs.List.{IsDistinct, cons_option}
 use Rattle.std.specs.Option.{option_to_list}
 use Rattle.std.specs.Str.{bytes_eq}
 use Rattle.std.proofs.lemmas.Bool.{cases_Bool, eqb-true, eq-eqb, false≢true, false_from_ne_true}
@@ -29,7 +28,7 @@ use Rattle.cube_core.specs.declared.fact.Fact.{Fact}
 use Rattle.cube_core.proofs.ListLaws.{AllByRecursion-Contains, Contains-AllByRecursion, Contains-cases, Contains-head}
 use Rattle.cube_core.proofs.ListLaws.{Contains-nil, Contains-tail, filter-failed, filter-passed, flat_map-Contains}
 use Rattle.cube_core.proofs.RefusalLaws.{refusals_of-more}
-use Rattle.cube_ledger.specs.Book.{Entries, IsBook, fact_at, facts_of, ids_of}
+use Rattle.cube_ledger.specs.Book.{Entries, IsBook, fact_at, ids_of}
 use Rattle.cube_ledger.specs.Ledger.{AccountStandsAt, AccountView, new_account, refusal}
 use Rattle.cube_build.specs.Sharded.{AreMerged, Rise, books_of, is_of_shard, last_of, numbers_of, refused_numbers}
 use Rattle.cube_build.specs.Sharded.{shard_of_what}

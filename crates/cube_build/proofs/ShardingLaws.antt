@@ -1,8 +1,8 @@
 -- One feed taken in shards, from its first item to what is counted of it.
 use Rattle.std.proofs.Common.{◌≡◌, ◌≤◌, ◌<◌, ◌==◌, ◌∷◌, ◌++◌, [], ◌∙◌, ℕ, List, ap, arith, filter, get_or, length, map, refl}
-use Rattle.std.proofs.Common.{replicate, subst, sum_by, sym, true, false}
+use Rattle.std.proofs.Common.{replicate, subst, sum_by, sym, true}
 use Rattle.std.specs.List.{All, AllZip}
-use Rattle.std.proofs.lemmas.List.{get_or-map, map-append}
+use Rattle.std.proofs.lemmas.List.{map-append}
 use Rattle.std.proofs.lemmas.List.Elements.{All-cons, All-head, All-nil, All-tail, filter-append}
 use Rattle.std.proofs.lemmas.List.Sums.{sum_by-cons}
 use Rattle.cube_core.specs.Arrival.{Arrivals, of_source}
@@ -15,7 +15,7 @@ use Rattle.cube_ledger.specs.Ledger.{LedgerView, new_account}
 use Rattle.cube_rings.specs.FeedingAll.{IsNew, TakeAll, TakesFeeds}
 use Rattle.cube_rings.specs.declared.gatherer.Gatherer.{Gatherer}
 use Rattle.cube_rings.proofs.TakeLaws.{all_zip-at}
-use Rattle.cube_build.specs.Sharded.{AreCountsAt, AreNewShards, Awaits, IsNewShard, IsOneSharded, IsSharded, Keeps}
+use Rattle.cube_build.specs.Sharded.{AreCountsAt, AreNewShards, Awaits, IsOneSharded, IsSharded, Keeps}
 use Rattle.cube_build.specs.Sharded.{ShardView, ShardedStandsFrom, ShardedView, ShardsCameTo}
 use Rattle.cube_build.specs.Taken.{IsTakenPart}
 use Rattle.cube_build.specs.declared.making.MadePart.{MadePart}

@@ -1,5 +1,5 @@
 -- The ledgers of the shards of a feed, put together: their facts of interest, their refusals, and where they stand.
-use Rattle.std.proofs.Common.{◌≡◌, ◌≤◌, ◌<◌, ◌+◌, ◌∷◌, ◌++◌, [], ◌∙◌, ℕ, List, Contains, IsPermutation, ap, arith, filter}
+use Rattle.std.proofs.Common.{◌≡◌, ◌<◌, ◌+◌, ◌∷◌, ◌++◌, [], ◌∙◌, ℕ, List, Contains, IsPermutation, ap, arith}
 use Rattle.std.proofs.Common.{false, flat_map, set, take, IfOk, Result, Ok, Err, get_or, length, map, refl, subst, sym}
 use Rattle.std.specs.List.{All}
 use Rattle.std.proofs.lemmas.List.{append-nil, get_or-map, length-map, map-append, take_more}
@@ -14,14 +14,14 @@ use Rattle.cube_core.specs.declared.condition.Condition.{Condition}
 use Rattle.cube_core.specs.declared.fact.Fact.{Fact}
 use Rattle.cube_cells.specs.Cube.{Lattice}
 use Rattle.cube_cells.specs.Fill.{IsCubeOfAll}
-use Rattle.cube_ledger.specs.Book.{Entries, facts_of}
+use Rattle.cube_ledger.specs.Book.{facts_of}
 use Rattle.cube_ledger.specs.Interest.{account_of_interest, entries_of_interest, ledger_of_interest}
-use Rattle.cube_ledger.specs.Ledger.{AccountStandsAt, AccountView, LedgerStandsAt, LedgerView, account_of, all_facts}
+use Rattle.cube_ledger.specs.Ledger.{AccountStandsAt, AccountView, LedgerView, account_of, all_facts}
 use Rattle.cube_ledger.specs.Ledger.{AtSource, new_account, with_refusal}
 use Rattle.cube_build.specs.Builder.{BuilderView}
-use Rattle.cube_build.specs.Counting.{AreCounts, AreFinestCounts, AreRefusedOf, HaveFactsOf, IsOverFinest}
+use Rattle.cube_build.specs.Counting.{AreCounts, AreRefusedOf, HaveFactsOf, IsOverFinest}
 use Rattle.cube_build.specs.Sharded.{AreCountsAt, AreMerged, AreUnitedCounts, HasRefusals, IsSharded, NoneWaits, Rise}
-use Rattle.cube_build.specs.Sharded.{ShardView, ShardedView, ShardsCameTo, books_of, is_of_shard, numbers_of}
+use Rattle.cube_build.specs.Sharded.{ShardView, ShardedView, ShardsCameTo, books_of}
 use Rattle.cube_build.specs.Sharded.{last_of, refused_numbers, united}
 use Rattle.cube_build.proofs.ShardLedgerLaws.{account-one}
 use Rattle.cube_build.proofs.ShardedLaws.{Rise-push, last_of-push, of_place, united-stands}

@@ -1,4 +1,4 @@
-use Rattle.std.proofs.Common.{◌≡◌, ◌∷◌, ◌++◌, [], ◌∙◌, List, ap, length, rules, subst, sym, append_assoc}
+use Rattle.std.proofs.Common.{◌≡◌, ◌∷◌, ◌++◌, [], ◌∙◌, List, ap, rules, subst, sym, append_assoc}
 use Rattle.cube_core.specs.declared.change.Item.{Item}
 use Rattle.cube_ledger.specs.Ledger.{AccountStandsAt, account_of}
 use Rattle.cube_build.proofs.ShardLedgerLaws.{entered, entered-one, nil-from}

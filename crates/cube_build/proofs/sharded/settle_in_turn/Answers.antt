@@ -1,4 +1,4 @@
-use Rattle.std.proofs.Common.{length, rules}
+use Rattle.std.proofs.Common.{rules}
 use Rattle.cube_build.proofs.ShardLedgerLaws.{SettleAlike-all, SettledTo-more, SettledTo-none}
 use Rattle.cube_build.proofs.sharded.settle_in_turn.Goals as goal
 

@@ -1,4 +1,4 @@
-use Rattle.std.proofs.Common.{◌≡◌, ap, List}
+use Rattle.std.proofs.Common.{List}
 use Rattle.cube_core.specs.declared.change.Refusal.{Refusal}
 use Rattle.cube_ledger.specs.Ledger.{LedgerView}
 use Rattle.cube_build.specs.Sharded.{AreMerged, HasRefusals, Rise, refused_numbers}

@@ -1,4 +1,4 @@
-use Rattle.std.proofs.Common.{◌≡◌, ◌<◌, get_or, length, rules}
+use Rattle.std.proofs.Common.{◌<◌, get_or, length, rules}
 use Rattle.cube_core.specs.declared.change.Refusal.{Refusal}
 use Rattle.cube_build.proofs.UnitedLaws.{refusing-more}
 use Rattle.cube_build.proofs.united.refuse_all.Goals as goal

@@ -1,6 +1,5 @@
-use Rattle.std.proofs.Common.{◌≡◌, ◌∙◌, List, ap, subst, sym}
+use Rattle.std.proofs.Common.{◌≡◌, ◌∙◌, ap, subst, sym}
 use Rattle.cube_core.specs.Layout.{Layout}
-use Rattle.cube_core.specs.declared.change.Refusal.{Refusal}
 use Rattle.cube_cells.specs.Fill.{IsCubeOfAll}
 use Rattle.cube_ledger.specs.Interest.{ledger_of_interest}
 use Rattle.cube_ledger.specs.Ledger.{LedgerView, all_facts}

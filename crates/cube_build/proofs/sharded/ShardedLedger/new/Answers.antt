@@ -1,5 +1,4 @@
 use Rattle.std.proofs.Common.{false, refl}
-use Rattle.cube_build.specs.Sharded.{ShardedView}
 use Rattle.cube_build.proofs.ShardingLaws.{new-came, new-sharded}
 use Rattle.cube_build.proofs.sharded.ShardedLedger.new.Goals as goal
 

@@ -1,4 +1,4 @@
-use Rattle.std.proofs.Common.{◌≡◌, ◌<◌, ◌++◌, ◌∙◌, ℕ, false, take, drop, length, get_or, rules}
+use Rattle.std.proofs.Common.{◌≡◌, ◌<◌, ◌++◌, ℕ, false, take, drop, length, get_or, rules}
 use Rattle.cube_cells.proofs.Tallies.ValueLaws.{take-append-drop}
 use Rattle.cube_build.specs.Sharded.{AllSettle, SettleAlike, ShardView}
 use Rattle.cube_build.proofs.ShardLedgerLaws.{keeps-settled}
