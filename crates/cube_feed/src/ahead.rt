@@ -7,6 +7,7 @@ ghost use Rattle.cube_feed.specs.Reading.{Advances, IsReadingFault};
 use crate::batch::Batch;
 use crate::fault::FeedFault;
 use crate::feed_bytes::FeedBytes;
+use crate::left_trace::Traced;
 use crate::record_source::RecordSource;
 use crate::steady_source::SteadySource;
 use csv::ByteRecord;
@@ -38,6 +39,10 @@ impl<R: Read> Model for Ahead<R> {
     ghost Value = { Option (List (List (List ℕ))) };
 
     ghost view = { λ a. in_front (waiting a.batch) a.source };
+}
+
+impl<R: Read> Traced for Ahead<R> {
+    ghost left = { λ a. a };
 }
 
 impl<R: Read> Ahead<R> {

@@ -7,19 +7,19 @@ use crate::ahead::Ahead;
 use crate::batch::Batch;
 use crate::fault::FeedFault;
 use crate::feed_bytes::FeedBytes;
+use crate::left_trace::LeftTrace;
 use crate::record_source::RecordSource;
 use csv::ByteRecord;
 use std::alloc::Global;
 use std::io::Read;
 use std::marker::Model;
-use std::snapshot::Snapshot;
 
 /// The records of a feed: a batch that was read, and what is left behind it, unless that is lent.
 #[derive(Drop)]
 pub(crate) struct LendingSource<R: Read> {
     batch: Batch,
     ahead: Option<Ahead<R>>,
-    rest: Snapshot<Ahead<R>>,
+    rest: LeftTrace,
 }
 
 impl<R: Read> Model for LendingSource<R> {
@@ -29,11 +29,11 @@ impl<R: Read> Model for LendingSource<R> {
     ghost Value = { LendingView };
 
     ghost view = { λ s. record {
-      left = in_front (waiting s.batch) s.rest.value;
-      lent = lent_of s.ahead s.rest.value;
+      left = in_front (waiting s.batch) s.rest.left;
+      lent = lent_of s.ahead s.rest.left;
     } };
 
-    ghost invariant = { λ s. IfSome s.ahead (λ ahead. ahead ≡ s.rest.value) };
+    ghost invariant = { λ s. IfSome s.ahead (λ ahead. ahead ≡ s.rest.left) };
 }
 
 impl<R: Read> LendingSource<R> {
@@ -43,7 +43,7 @@ impl<R: Read> LendingSource<R> {
         ensures lent { result.lent ≡ None }
     {
         let ahead = Ahead::new(alloc, source);
-        let rest = Snapshot::of(&ahead);
+        let rest = LeftTrace::of(&ahead);
         LendingSource {
             batch: Batch::new(alloc),
             ahead: Some(ahead),
@@ -68,7 +68,7 @@ impl<R: Read> LendingSource<R> {
             return Err(FeedFault::Memory);
         };
         let answer = ahead.advance(row);
-        self.rest = Snapshot::of(&*ahead);
+        self.rest = LeftTrace::of(&*ahead);
         answer
     }
 
@@ -91,7 +91,7 @@ impl<R: Read + Drop> LendingSource<R> {
         }
         let mut ahead = self.ahead.take()?;
         ahead.refill(&mut self.batch);
-        self.rest = Snapshot::of(&ahead);
+        self.rest = LeftTrace::of(&ahead);
         if ahead.goes_on() {
             return Some(ahead);
         }

@@ -17,6 +17,7 @@ mod feed_item;
 mod feed_text;
 mod field;
 mod header;
+mod left_trace;
 mod lending_source;
 mod line;
 mod place;

@@ -4,11 +4,11 @@ ghost use Rattle.csv.specs.Records.{fields_of};
 ghost use Rattle.cube_feed.specs.Reading.{Advances, IsReadingFault};
 
 use crate::fault::FeedFault;
+use crate::left_trace::LeftTrace;
 use crate::record_source::RecordSource;
 use csv::ByteRecord;
 use std::io::Read;
 use std::marker::Model;
-use std::snapshot::Snapshot;
 
 /// What comes next of a source.
 #[derive(Clone, Copy)]
@@ -26,8 +26,8 @@ enum Next {
 pub(crate) struct SteadySource<R: Read> {
     source: RecordSource<R>,
     next: Next,
-    first: Snapshot<RecordSource<R>>,
-    left: Snapshot<RecordSource<R>>,
+    first: LeftTrace,
+    left: LeftTrace,
 }
 
 impl<R: Read> Model for SteadySource<R> {
@@ -36,9 +36,9 @@ impl<R: Read> Model for SteadySource<R> {
 
     ghost Value = { Option (List (List (List ℕ))) };
 
-    ghost view = { λ s. known_by s.first.value s.left.value };
+    ghost view = { λ s. known_by s.first.left s.left.left };
 
-    ghost invariant = { λ s. IsSteady s.next s.first.value s.source s.left.value };
+    ghost invariant = { λ s. IsSteady s.next s.first.left s.source s.left.left };
 }
 
 impl<R: Read> SteadySource<R> {
@@ -46,8 +46,8 @@ impl<R: Read> SteadySource<R> {
     pub(crate) fn new(source: RecordSource<R>) -> SteadySource<R>
         ensures { result ≡ source }
     {
-        let first = Snapshot::of(&source);
-        let left = Snapshot::of(&source);
+        let first = LeftTrace::of(&source);
+        let left = LeftTrace::of(&source);
         SteadySource {
             source,
             next: Next::Reads,
@@ -74,7 +74,7 @@ impl<R: Read> SteadySource<R> {
         }
         let answer = self.source.advance(row);
         match answer {
-            Ok(true) => self.left = Snapshot::of(&self.source),
+            Ok(true) => self.left = LeftTrace::of(&self.source),
             Ok(false) => self.next = Next::Ends,
             Err(fault) => self.next = Next::Fails(fault),
         }
