@@ -1,23 +1,17 @@
 //! The ledger of one shard of a feed.
 ghost use Rattle.std.specs.Prelude.{◌≡◌, ◌≤◌, ◌<◌, ◌++◌, ◌%◌, List, length, IfOk, OnOk, OnErr};
 ghost use Rattle.cube_core.specs.Life.{id_of};
-ghost use Rattle.cube_core.specs.Shard.{fnv_hash, with_byte};
+ghost use Rattle.cube_core.specs.Shard.{fnv_hash};
 ghost use Rattle.cube_core.specs.declared.change.Item.{Item as TheItem};
 ghost use Rattle.cube_ledger.specs.Ledger.{AccountStandsAt, account_of};
 ghost use Rattle.cube_build.specs.Sharded.{IsNewShard, Settles, shard_of_what, with_waiting};
 
-use cube_core::{Change, Schema, Text};
+use cube_core::{Change, Schema, fnv_hash};
 use cube_feed::FeedItem;
-use cube_ledger::Ledger;
+use cube_ledger::{Ledger, id_of};
 use std::alloc::{AllocError, Global};
 use std::marker::Model;
 use std::mem::replace;
-
-/// What all hashes begin with, as FNV-1a of 64 bits has it (RFC 9923).
-const OFFSET_BASIS: u64 = 14_695_981_039_346_656_037;
-
-/// What each step of the hash multiplies by.
-const FNV_PRIME: u64 = 1_099_511_628_211;
 
 /// A ledger of one source for the ids of a shard, with the items that wait to be entered in it.
 #[derive(Drop)]
@@ -127,34 +121,4 @@ fn shard_of_change(count: usize, change: &Change) -> usize
 {
     let hash = fnv_hash(id_of(change).as_str().as_bytes());
     (hash % count as u64) as usize
-}
-
-// The id that a change names.
-fn id_of(change: &Change) -> &Text
-    ensures { result.now ≡ id_of change.now }
-{
-    match change {
-        Change::Insert { id, .. } => id,
-        Change::Update { id, .. } => id,
-        Change::Amend { id, .. } => id,
-        Change::Upsert { id, .. } => id,
-        Change::Delete { id } => id,
-        Change::Remove { id } => id,
-    }
-}
-
-// The FNV-1a hash of bytes.
-fn fnv_hash(bytes: &[u8]) -> u64
-    ensures { result ≡ fnv_hash bytes.now }
-{
-    bytes
-        .iter()
-        .fold(OFFSET_BASIS, |hash, byte| with_byte(hash, *byte))
-}
-
-// A hash with one byte more.
-fn with_byte(hash: u64, byte: u8) -> u64
-    ensures { result ≡ with_byte hash byte }
-{
-    (hash ^ u64::from(byte)).wrapping_mul(FNV_PRIME)
 }

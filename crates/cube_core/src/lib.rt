@@ -46,7 +46,7 @@ pub use schema::Schema;
 pub use schema_fault::SchemaFault;
 pub use schema_toml::position_of;
 pub use sequence::Sequence;
-pub use shard::Shard;
+pub use shard::{Shard, fnv_hash};
 pub use small_sequence::SmallSequence;
 pub use squares::Squares;
 pub use text::Text;

@@ -35,8 +35,8 @@ impl Shard {
     }
 }
 
-// The FNV-1a hash of bytes.
-fn fnv_hash(bytes: &[u8]) -> u64
+/// The FNV-1a hash of bytes, of 64 bits (RFC 9923).
+pub fn fnv_hash(bytes: &[u8]) -> u64
     ensures { result ≡ fnv_hash bytes.now }
 {
     bytes

@@ -6,6 +6,7 @@ pub mod NumberLaws
 mod ColumnLaws
 mod PlainFieldLaws
 mod RecordLaws
+mod AheadLaws
 mod MarkLaws
 mod BoundLaws
 mod SkipLaws

@@ -1,6 +1,7 @@
 pub mod Contiguous
 pub mod SoundFields
 pub mod Reading
+pub mod Ahead
 pub mod Columns
 pub mod PlainFields
 pub mod FeedBytes

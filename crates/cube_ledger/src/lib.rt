@@ -16,6 +16,7 @@ mod taking;
 pub use account::Account;
 pub use book::{Book, BookFault, Delta};
 pub use build::build_ledger;
+pub use code::id_of;
 pub use fault::BuildFault;
 pub use ledger::Ledger;
 pub use ruling::Ruling;
