@@ -16,7 +16,7 @@ use crate::making::MadePart;
 use crate::sharding::take_in_shards;
 use crate::trace::LedgerTrace;
 use cube_cells::{BaseCuboid, Counted, FinestCells, Numbers, Summary};
-use cube_core::{Condition, Schema};
+use cube_core::{Condition, Schema, VALUES_IN_PLACE};
 use cube_ledger::Ledger;
 use cube_rings::{FeedingFault, Gate, Gatherer, LotInlet, Settings};
 use std::alloc::{AllocError, Global};
@@ -235,7 +235,7 @@ pub(crate) fn take_part<
     if need_no_book(schema) {
         return count_where(rt, alloc, schema, readers, settings, gate, conditions);
     }
-    if readers.len() == 1 && settings.threads() > 1 {
+    if readers.len() == 1 && pays_in_shards(schema, settings.threads()) {
         return take_in_shards(rt, alloc, schema, readers, settings, gate, conditions);
     }
     let mut gatherers = feed_parts(rt, alloc, schema, readers, settings, gate)?;
@@ -244,6 +244,12 @@ pub(crate) fn take_part<
         Ok(part) => Ok(part),
         Err(_) => Err(FeedingFault::Full),
     }
+}
+
+// Whether the books of one feed are better kept in shards, which so many threads enter: there are several, and the texts of
+// a fact lie in it. Those of more dimensions lie in memory of their own, which one thread takes and another lets go of.
+fn pays_in_shards(schema: &Schema, threads: usize) -> bool {
+    threads > 1 && schema.dimensions().len() <= VALUES_IN_PLACE
 }
 
 // The counts of the facts of interest of what was gathered, made by so many threads, with the inlets. The only error is that

@@ -6,7 +6,6 @@ pub mod NumberLaws
 mod ColumnLaws
 mod PlainFieldLaws
 mod RecordLaws
-mod AheadLaws
 mod MarkLaws
 mod BoundLaws
 mod SkipLaws

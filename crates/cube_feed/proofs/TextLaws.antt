@@ -1,7 +1,7 @@
 -- The text of a feed, by the records that are read of its bytes and their mark.
 use Rattle.std.proofs.Common.{◌≡◌, ◌==◌, ◌<◌, ℕ, Bool, true, false, List, [], ◌∷◌, ◌++◌, length, Option, Some, None}
 use Rattle.std.proofs.Common.{refl, sym, ap, subst, IfSome, true≢false}
-use Rattle.std.specs.Prelude.{◌&&◌, ◌||◌, nat_lt, option_map, is_some, if◌then◌else◌}
+use Rattle.std.specs.Prelude.{⊤, ◌&&◌, ◌||◌, not, nat_lt, option_map, is_some, if◌then◌else◌}
 use Rattle.std.specs.Option.{option_map_or}
 use Rattle.std.proofs.lemmas.Bool.{and_parts, eqb-true, false_from_ne_true, ltb-true}
 use Rattle.std.proofs.lemmas.List.{append-nil}
@@ -154,24 +154,21 @@ TakesNext-none (Some []) false view new none = refl
 TakesNext-none (Some (fields ∷ rest)) by_name view new none = cc (none.0)
 
 -- without a mark the next record is the next of the text
-pub TakesNext-plain : (to_come : Option (List (List (List ℕ)))) (view : RecordsView)
-    (lent : Option (Option (List (List (List ℕ))))) → Advances to_come true view
-    → TakesNext (left_by false to_come) Record
-    (record { left = left_by false view.left; fields = view.fields; lent = lent })
-TakesNext-plain None view lent next = tt
-TakesNext-plain (Some []) view lent next = cc next
-TakesNext-plain (Some (fields ∷ rest)) view lent next = rw (next.1, next.2) (rest, refl, refl)
+pub TakesNext-plain : (to_come : Option (List (List (List ℕ)))) (view : RecordsView) → Advances to_come true view
+    → TakesNext (left_by false to_come) Record (record { left = left_by false view.left; fields = view.fields })
+TakesNext-plain None view next = tt
+TakesNext-plain (Some []) view next = cc next
+TakesNext-plain (Some (fields ∷ rest)) view next = rw (next.1, next.2) (rest, refl, refl)
 
 -- with a mark it is the next of the text where another one follows
-pub TakesNext-more : (to_come : Option (List (List (List ℕ)))) (taken ahead : RecordsView)
-    (lent : Option (Option (List (List (List ℕ))))) → Advances to_come true taken
+pub TakesNext-more : (to_come : Option (List (List (List ℕ)))) (taken ahead : RecordsView) → Advances to_come true taken
     → Advances taken.left true ahead
     → TakesNext (left_by true to_come) Record
-    (record { left = left_by true (with_ahead true ahead.fields ahead.left); fields = taken.fields; lent = lent })
-TakesNext-more None taken ahead lent next behind = tt
-TakesNext-more (Some []) taken ahead lent next behind = cc next
-TakesNext-more (Some (fields ∷ [])) taken ahead lent next behind = cc (rw next.2 at behind)
-TakesNext-more (Some (fields ∷ second ∷ rest)) taken ahead lent next behind =
+    (record { left = left_by true (with_ahead true ahead.fields ahead.left); fields = taken.fields })
+TakesNext-more None taken ahead next behind = tt
+TakesNext-more (Some []) taken ahead next behind = cc next
+TakesNext-more (Some (fields ∷ [])) taken ahead next behind = cc (rw next.2 at behind)
+TakesNext-more (Some (fields ∷ second ∷ rest)) taken ahead next behind =
     let after = rw next.2 at behind in
     rw (next.1, after.1, after.2) ((without_mark (second ∷ rest)).records, refl, refl)
 

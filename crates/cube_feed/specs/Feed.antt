@@ -61,21 +61,13 @@ after_header schema columns number left =
     option_map (λ (known : TextLeft). with_fault (comes_after schema columns number known)) left
 
 -- what a caller sees of a feed:
--- its schema, the number of its last item, its end once it has come there, what is to come,
--- where its reader tells its bytes, and the records that are lent, where some are
+-- its schema, the number of its last item, its end once it has come there, and what is to come,
+-- where its reader tells its bytes
 pub record FeedView : Type 0 where
   pub schema : Layout
   pub number : ℕ
   pub ended : Option (Option FeedFault)
   pub to_come : KnownRest
-  pub lent : Option (Option (List (List (List ℕ))))
-
--- nothing but what is lent of a feed may have changed
-pub record IsSameFeed (old new : FeedView) : Type 0 where
-  pub schema : new.schema ≡ old.schema
-  pub number : new.number ≡ old.number
-  pub ended : new.ended ≡ old.ended
-  pub to_come : new.to_come ≡ old.to_come
 
 -- the end that a feed has come to
 abbrev pub ended_of : Stage → Option (Option FeedFault)

@@ -91,12 +91,11 @@ abbrev pub with_ahead : Bool → List (List ℕ) → Option (List (List (List �
 with_ahead false fields records = records
 with_ahead true fields records = option_map (λ rest. fields ∷ rest) records
 
--- what a caller sees of a text that is read: what is left, where its reader tells its bytes, the fields of the record that was
--- taken last, and the records that are lent, where some are
+-- what a caller sees of a text that is read: what is left, where its reader tells its bytes, and the fields of the record
+-- that was taken last
 pub record TextView : Type 0 where
   pub left : Option TextLeft
   pub fields : List (List ℕ)
-  pub lent : Option (Option (List (List (List ℕ))))
 
 -- the first of the whole records that were left was taken, or there was none, and the text ended so
 abbrev pub TakesNext : Option TextLeft → Found → TextView → Type 0

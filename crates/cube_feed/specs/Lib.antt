@@ -1,7 +1,6 @@
 pub mod Contiguous
 pub mod SoundFields
 pub mod Reading
-pub mod Ahead
 pub mod Columns
 pub mod PlainFields
 pub mod FeedBytes

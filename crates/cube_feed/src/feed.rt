@@ -5,9 +5,8 @@ ghost use Rattle.cube_core.specs.Items.{change_of};
 ghost use Rattle.cube_core.specs.FeedRecords.{feed_of, plain_of};
 ghost use Rattle.cube_feed.specs.FeedText.{TakesRecord};
 ghost use Rattle.cube_feed.specs.Reading.{IsReadingFault};
-ghost use Rattle.cube_feed.specs.Feed.{HasEnded, Gives, IsSameFeed, IsNumbered, IsTaken, Numbers, TakesHeader, IsFeed, after_header, ended_of, end_answer, number_after, to_come_of, with_fault};
+ghost use Rattle.cube_feed.specs.Feed.{HasEnded, Gives, IsNumbered, IsTaken, Numbers, TakesHeader, IsFeed, after_header, ended_of, end_answer, number_after, to_come_of, with_fault};
 
-use crate::ahead::Ahead;
 use crate::columns::find_columns;
 use crate::fault::FeedFault;
 use crate::feed_text::{FeedText, Found};
@@ -56,7 +55,6 @@ impl<'s, R: Read> Model for Feed<'s, R> {
       number = f.number;
       ended = ended_of f.stage;
       to_come = to_come_of f.schema.now f.rows.columns f.number f.stage f.rows.text.left;
-      lent = f.rows.text.lent;
     } };
 
     ghost invariant = { λ f. IsFeed f.schema.now f.number f.stage };
@@ -64,8 +62,7 @@ impl<'s, R: Read> Model for Feed<'s, R> {
 
 // Takes the next record of a text, which has this number; false where there is none.
 fn take_record<R: Read>(text: &mut FeedText<R>, number: u32) -> Result<bool, FeedFault>
-    ensures takes { TakesRecord text.old.left number result text.new }
-    ensures lent { text.new.lent ≡ text.old.lent }
+    ensures { TakesRecord text.old.left number result text.new }
 {
     match text.advance()? {
         Found::Record => Ok(true),
@@ -81,8 +78,7 @@ fn take_header<R: Read>(
     schema: &Schema,
     rows: &mut Rows<R>,
 ) -> Result<bool, FeedFault>
-    ensures takes { TakesHeader schema.now rows.old.text.left result rows.new.columns rows.new.text.left }
-    ensures lent { rows.new.text.lent ≡ rows.old.text.lent }
+    ensures { TakesHeader schema.now rows.old.text.left result rows.new.columns rows.new.text.left }
 {
     if !take_record(&mut rows.text, 0)? {
         return Ok(false);
@@ -136,7 +132,6 @@ fn take_item<R: Read>(
         (after_header schema.now rows.new.columns (number_after number result) rows.new.text.left) }
     ensures item { IfOk result (λ next. IfSome next (λ item. IsNumbered schema.now number item.number)) }
     ensures taken { IsTaken schema.now result }
-    ensures lent { rows.new.text.lent ≡ rows.old.text.lent }
 {
     for before in number..schema.max_records() {
         if !take_record(&mut rows.text, before + 1)? {
@@ -166,7 +161,6 @@ fn take_next<R: Read>(
         (after_header schema.now rows.new.columns (number_after number result) rows.new.text.left) }
     ensures item { IfOk result (λ next. IfSome next (λ item. IsNumbered schema.now number item.number)) }
     ensures taken { IsTaken schema.now result }
-    ensures lent { rows.new.text.lent ≡ rows.old.text.lent }
 {
     if let Stage::Start = stage {
         if !take_header(alloc, schema, rows)? {
@@ -184,7 +178,6 @@ impl<'s, R: Read> Feed<'s, R> {
         ensures schema { result.schema ≡ schema.now }
         ensures number { result.number ≡ 0 }
         ensures open { result.ended ≡ None }
-        ensures lent { result.lent ≡ None }
         ensures to_come { result.to_come
             ≡ option_map (λ bytes. with_fault (feed_of schema.now bytes)) (R.remaining reader) }
     {
@@ -206,8 +199,7 @@ impl<'s, R: Read> Feed<'s, R> {
     ///
     /// A change that an item has is one that the schema takes: no caller need ask again.
     ///
-    /// A fault is the feed's last word, and so is `None`: each later call answers it again. While records are lent, ask
-    /// [`has_ready`](Feed::has_ready) before: without a record that is ready the answer is `Memory`.
+    /// A fault is the feed's last word, and so is `None`: each later call answers it again.
     pub fn next(&mut self) -> Result<Option<Item>, FeedFault>
         ensures gives { Gives self.old.to_come result self.new.to_come }
         ensures taken { IsTaken self.old.schema result }
@@ -216,7 +208,6 @@ impl<'s, R: Read> Feed<'s, R> {
         ensures failed { IfErr result (λ fault. HasEnded self.new (Some fault)) }
         ensures lasting { IfSome self.old.ended (λ end. (result ≡ end_answer end) × (self.new ≡ self.old)) }
         ensures schema { self.new.schema ≡ self.old.schema }
-        ensures lent { self.new.lent ≡ self.old.lent }
     {
         if let Stage::Ended(end) = self.stage {
             return match end {
@@ -240,38 +231,5 @@ impl<'s, R: Read> Feed<'s, R> {
             Err(fault) => self.stage = Stage::Ended(Some(*fault)),
         }
         next
-    }
-}
-
-impl<R: Read + Drop> Feed<'_, R> {
-    /// Whether the next item is one of the records that were read ahead. No contract speaks of the answer.
-    pub fn has_ready(&self) -> bool {
-        self.rows.text.has_ready()
-    }
-
-    /// Lends what is left behind the records that were read ahead, so that another thread reads on while these are taken. It
-    /// reads the first of them itself, and lends where these aren't all. `None` where nothing is worth lending: before the
-    /// first item, in a shard, whose next item may be many records away, and while records that were read ahead are left.
-    pub fn lend(&mut self) -> Option<Ahead<R>>
-        ensures same { IsSameFeed self.old self.new }
-        ensures some { IfSome result (λ ahead. self.new.lent ≡ Some ahead) }
-        ensures none { IfNone result (self.new.lent ≡ self.old.lent) }
-    {
-        if self.schema.shard().count != 1 {
-            return None;
-        }
-        match self.stage {
-            Stage::Records => self.rows.text.lend(),
-            Stage::Start | Stage::Ended(_) => None,
-        }
-    }
-
-    /// Takes back what it lent.
-    pub fn take_back(&mut self, ahead: Ahead<R>)
-        requires { self.old.lent ≡ Some ahead }
-        ensures same { IsSameFeed self.old self.new }
-        ensures lent { self.new.lent ≡ None }
-    {
-        self.rows.text.take_back(ahead);
     }
 }

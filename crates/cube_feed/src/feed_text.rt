@@ -1,17 +1,15 @@
 //! The text of a feed: its whole records one after the other, and whether it ends within a quoted field or in a record that
 //! is too long.
-ghost use Rattle.std.specs.Prelude.{◌≡◌, true, false, None, Some, IfOk, IfErr, IfNone, IfSome, is_some, option_map};
+ghost use Rattle.std.specs.Prelude.{◌≡◌, true, false, IfOk, IfErr, is_some, option_map};
 ghost use Rattle.csv.specs.Records.{fields_of};
 ghost use Rattle.cube_core.specs.Layout.{IsSchema};
 ghost use Rattle.cube_core.specs.Plain.{delimiter_of};
 ghost use Rattle.cube_feed.specs.FeedText.{TakesNext, bounds_of, end_mark, end_of, ends_in_excess, is_mark, is_marked, left_by, text_of, with_ahead};
 ghost use Rattle.cube_feed.specs.Reading.{Advances, IsReadingFault};
 
-use crate::ahead::Ahead;
 use crate::fault::FeedFault;
 use crate::feed_bytes::{Bounds, EXCESS_MARK, FeedBytes};
 use crate::field::bytes_at;
-use crate::lending_source::LendingSource;
 use crate::place::Place;
 use crate::record_source::RecordSource;
 use csv::ByteRecord;
@@ -37,7 +35,7 @@ pub(crate) enum Found {
 /// The records that are read of a feed, and the one that was read ahead.
 #[derive(Drop)]
 struct Rows<R: Read> {
-    source: LendingSource<R>,
+    source: RecordSource<FeedBytes<R>>,
     row: ByteRecord,
     // The record behind the one that was taken last, where `is_ahead` says that it was read.
     ahead: ByteRecord,
@@ -64,9 +62,8 @@ impl<R: Read> Model for FeedText<R> {
     ghost Value = { TextView };
 
     ghost view = { λ t. record {
-      left = left_by t.is_marked (with_ahead t.rows.is_ahead (fields_of t.rows.ahead) t.rows.source.left);
+      left = left_by t.is_marked (with_ahead t.rows.is_ahead (fields_of t.rows.ahead) t.rows.source);
       fields = fields_of t.rows.row;
-      lent = t.rows.source.lent;
     } };
 
     ghost invariant = { λ t. t.is_marked ≡ false → t.rows.is_ahead ≡ false };
@@ -75,14 +72,10 @@ impl<R: Read> Model for FeedText<R> {
 // Takes the next record of a text that has no mark behind it.
 fn advance_to_end<R: Read>(rows: &mut Rows<R>) -> Result<Found, FeedFault>
     ensures takes { IfOk result (λ found.
-        TakesNext (left_by false rows.old.source.left) found (record {
-          left = left_by false rows.new.source.left;
-          fields = fields_of rows.new.row;
-          lent = rows.new.source.lent;
-        })) }
+        TakesNext (left_by false rows.old.source) found
+        (record { left = left_by false rows.new.source; fields = fields_of rows.new.row })) }
     ensures fault { IfErr result IsReadingFault }
     ensures kept { rows.new.is_ahead ≡ rows.old.is_ahead }
-    ensures lent { rows.new.source.lent ≡ rows.old.source.lent }
 {
     if rows.source.advance(&mut rows.row)? {
         Ok(Found::Record)
@@ -94,10 +87,9 @@ fn advance_to_end<R: Read>(rows: &mut Rows<R>) -> Result<Found, FeedFault>
 // Reads the first record ahead, where none was; the answer is whether there is one.
 fn read_first<R: Read>(rows: &mut Rows<R>) -> Result<bool, FeedFault>
     ensures takes { IfOk result (λ found.
-        Advances (with_ahead rows.old.is_ahead (fields_of rows.old.ahead) rows.old.source.left) found
-        (record { left = rows.new.source.left; fields = fields_of rows.new.ahead })) }
+        Advances (with_ahead rows.old.is_ahead (fields_of rows.old.ahead) rows.old.source) found
+        (record { left = rows.new.source; fields = fields_of rows.new.ahead })) }
     ensures fault { IfErr result IsReadingFault }
-    ensures lent { rows.new.source.lent ≡ rows.old.source.lent }
 {
     if rows.is_ahead {
         return Ok(true);
@@ -108,14 +100,12 @@ fn read_first<R: Read>(rows: &mut Rows<R>) -> Result<bool, FeedFault>
 // Takes the next record of a text that has a mark behind it, once the record behind it was read.
 fn advance_to_mark<R: Read>(rows: &mut Rows<R>) -> Result<Found, FeedFault>
     ensures takes { IfOk result (λ found.
-        TakesNext (left_by true (with_ahead rows.old.is_ahead (fields_of rows.old.ahead) rows.old.source.left)) found
+        TakesNext (left_by true (with_ahead rows.old.is_ahead (fields_of rows.old.ahead) rows.old.source)) found
         (record {
-          left = left_by true (with_ahead rows.new.is_ahead (fields_of rows.new.ahead) rows.new.source.left);
+          left = left_by true (with_ahead rows.new.is_ahead (fields_of rows.new.ahead) rows.new.source);
           fields = fields_of rows.new.row;
-          lent = rows.new.source.lent;
         })) }
     ensures fault { IfErr result IsReadingFault }
-    ensures lent { rows.new.source.lent ≡ rows.old.source.lent }
 {
     if !read_first(rows)? {
         return Ok(Found::End);
@@ -144,15 +134,13 @@ fn end_of(last: &ByteRecord) -> Found
 impl<R: Read> FeedText<R> {
     /// The text that a reader gives of a feed of a schema; takes no memory and reads nothing.
     pub(crate) fn new(alloc: Global, schema: &Schema, reader: R) -> FeedText<R>
-        ensures left { result.left ≡ option_map (text_of schema.now) (R.remaining reader) }
-        ensures lent { result.lent ≡ None }
+        ensures { result.left ≡ option_map (text_of schema.now) (R.remaining reader) }
     {
         let is_by_name = reads_by_name(schema);
         let bytes = FeedBytes::new(reader, bounds_of(schema), end_mark(is_by_name));
-        let source = RecordSource::new(alloc, bytes, delimiter(schema));
         FeedText {
             rows: Rows {
-                source: LendingSource::new(alloc, source),
+                source: RecordSource::new(alloc, bytes, delimiter(schema)),
                 row: ByteRecord::new(alloc),
                 ahead: ByteRecord::new(alloc),
                 is_ahead: false,
@@ -167,7 +155,6 @@ impl<R: Read> FeedText<R> {
     pub(crate) fn advance(&mut self) -> Result<Found, FeedFault>
         ensures takes { IfOk result (λ found. TakesNext self.old.left found self.new) }
         ensures fault { IfErr result IsReadingFault }
-        ensures lent { self.new.lent ≡ self.old.lent }
     {
         if self.is_marked {
             advance_to_mark(&mut self.rows)
@@ -181,34 +168,6 @@ impl<R: Read> FeedText<R> {
         ensures { fields_of result.now ≡ self.now.fields }
     {
         &self.rows.row
-    }
-
-    /// Whether the next record, and where a mark is behind the text the one behind it, can be taken without reading.
-    pub(crate) fn has_ready(&self) -> bool {
-        let is_first = self.is_marked && !self.rows.is_ahead;
-        self.rows.source.has_ready(if is_first { 2 } else { 1 })
-    }
-}
-
-impl<R: Read + Drop> FeedText<R> {
-    /// Lends the records that are left behind those that were read, where it is worth it.
-    pub(crate) fn lend(&mut self) -> Option<Ahead<R>>
-        ensures left { self.new.left ≡ self.old.left }
-        ensures fields { self.new.fields ≡ self.old.fields }
-        ensures some { IfSome result (λ ahead. self.new.lent ≡ Some ahead) }
-        ensures none { IfNone result (self.new.lent ≡ self.old.lent) }
-    {
-        self.rows.source.lend()
-    }
-
-    /// Takes back what was lent.
-    pub(crate) fn take_back(&mut self, ahead: Ahead<R>)
-        requires { self.old.lent ≡ Some ahead }
-        ensures left { self.new.left ≡ self.old.left }
-        ensures fields { self.new.fields ≡ self.old.fields }
-        ensures lent { self.new.lent ≡ None }
-    {
-        self.rows.source.take_back(ahead);
     }
 }
 

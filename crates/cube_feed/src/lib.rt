@@ -5,8 +5,6 @@
 //! change that the fields of a record spell, or its first fault.
 #![tactic(auto)]
 
-mod ahead;
-mod batch;
 mod columns;
 mod condition;
 mod contiguous;
@@ -17,8 +15,6 @@ mod feed_item;
 mod feed_text;
 mod field;
 mod header;
-mod left_trace;
-mod lending_source;
 mod line;
 mod place;
 mod plain;
@@ -26,11 +22,9 @@ mod record_reader;
 mod record_source;
 mod rest;
 mod spelled_list;
-mod steady_source;
 mod takes_items;
 mod units;
 
-pub use ahead::Ahead;
 pub use condition::read_condition;
 pub use fault::FeedFault;
 pub use feed::Feed;

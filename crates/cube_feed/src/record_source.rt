@@ -4,7 +4,6 @@ ghost use Rattle.csv.specs.Records.{fields_of};
 ghost use Rattle.cube_feed.specs.Reading.{Advances, IsReadingFault, records_by};
 
 use crate::fault::FeedFault;
-use crate::left_trace::Traced;
 use csv::{ByteRecord, ErrorKind, Reader, ReaderBuilder};
 use std::alloc::Global;
 use std::io::Read;
@@ -25,10 +24,6 @@ impl<R: Read> Model for RecordSource<R> {
     ghost view = { λ s. left_of R.remaining s.reader };
 
     ghost invariant = { λ s. ReadsPlainly s.reader };
-}
-
-impl<R: Read> Traced for RecordSource<R> {
-    ghost left = { λ s. s };
 }
 
 impl<R: Read> RecordSource<R> {

@@ -6,7 +6,7 @@ use Rattle.cube_feed.specs.Feed.{KnownRest}
 use Rattle.cube_feed.specs.declared.fault.FeedFault.{FeedFault}
 use Rattle.cube_feed.specs.declared.fault.FeedFault.TheVariants.{Memory, Read, Header, TooMany, OpenQuote, LongRecord}
 use Rattle.cube_rings.specs.Link.{Sending}
-use Rattle.cube_rings.specs.Parcels.{lines_of, parcels_of, sends}
+use Rattle.cube_rings.specs.Parcels.{parcels_of, sends}
 use Rattle.cube_rings.specs.declared.parcel.Parcel.{Parcel}
 use Rattle.cube_rings.specs.declared.parcel.FeederEnd.{FeederEnd}
 
@@ -31,30 +31,6 @@ Stops (Some rest) items (Some Header) = AreAll rest items (Some Header)
 Stops (Some rest) items (Some TooMany) = AreAll rest items (Some TooMany)
 Stops (Some rest) items (Some (OpenQuote number)) = AreAll rest items (Some (OpenQuote number))
 Stops (Some rest) items (Some (LongRecord number)) = AreAll rest items (Some (LongRecord number))
-
--- these items came of a feed, and this is still to come
-abbrev pub SoFar : KnownRest → List Item → KnownRest → Type 0
-SoFar None items now = ⊤
-SoFar (Some rest) items now = (left : RestOfFeed (Option FeedFault)) × (now ≡ Some left)
-    × (rest ≡ record { items = items ++ left.items; end = left.end })
-
--- what came of a feed was sent on each link
-pub record HasSent (rest now : KnownRest) (old new : List (Sending Parcel)) : Type 0 where
-  pub items : List Item
-  pub so_far : SoFar rest items now
-  pub sent : new ≡ map (sends (lines_of items)) old
-
--- the items that came of a feed until it stopped were sent on each link
-pub record SendsLines (rest : KnownRest) (old new : List (Sending Parcel)) (stop : Option FeedFault) : Type 0 where
-  pub items : List Item
-  pub stops : Stops rest items stop
-  pub sent : new ≡ map (sends (lines_of items)) old
-
--- what came of a feed was sent on each link: this is still to come, or the feed has stopped so
-abbrev pub SendsOn : KnownRest → KnownRest → List (Sending Parcel) → List (Sending Parcel) → Option (Option FeedFault)
-    → Type 0
-SendsOn rest now old new None = HasSent rest now old new
-SendsOn rest now old new (Some stop) = SendsLines rest old new stop
 
 -- the items that came of a feed until it stopped were sent on each link, and then the end
 pub record SendsAll (rest : KnownRest) (old new : List (Sending Parcel)) (stop : Option FeedFault) : Type 0 where

@@ -50,7 +50,6 @@ pub(crate) fn next_copies<R: Read>(
     requires { 1 ≤ length outlets.old }
     ensures outlets { outlets.new ≡ outlets.old }
     ensures gives { Gives feed.old.to_come result feed.new.to_come }
-    ensures lent { feed.new.lent ≡ feed.old.lent }
     ensures copies { IfOk result (λ next. IfSome next (λ item.
         (vec_len copies.new + 1 ≡ length outlets.old) × All (λ copy. copy ≡ item) copies.new.items)) }
 {

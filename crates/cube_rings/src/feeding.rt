@@ -1,16 +1,45 @@
 //! Sending a feed to the builders.
-ghost use Rattle.std.specs.Prelude.{◌≤◌, vec_len};
-ghost use Rattle.cube_rings.specs.Feeding.{AreReceipts, Feeds};
+ghost use Rattle.std.specs.Prelude.{◌≡◌, ◌≤◌, vec_len, length};
+ghost use Rattle.cube_rings.specs.Feeding.{SendsAll, AreReceipts, Feeds};
 
+use crate::copies::next_copies;
 use crate::gate::Gate;
 use crate::lots::{LotOutlet, LotReceipt};
+use crate::offering::{Offering, offer_copies, offer_end};
 use crate::parcel::FeederEnd;
-use crate::sender::Sender;
-use cube_feed::Feed;
+use cube_feed::{Feed, FeedFault};
 use std::alloc::Global;
 use std::io::Read;
 use std::sync::Wait;
-use std::thread::Threads;
+
+// Sends each item of a feed to each builder and then the end. The answer is the fault that stopped it, if one did.
+fn send_all<W: Wait, R: Read + Drop, G: Gate>(
+    rt: &W,
+    alloc: Global,
+    source: u32,
+    feed: &mut Feed<'_, R>,
+    outlets: &mut [LotOutlet],
+    gate: &G,
+) -> Option<FeedFault>
+    requires { (1 ≤ length outlets.old) × (length outlets.old ≤ 8) }
+    ensures { SendsAll feed.old.to_come outlets.old outlets.new result }
+{
+    let mut copies = Vec::new(alloc);
+    let mut offering = Offering::new(source, gate);
+    for _ in rt.forever() {
+        let stop = match next_copies(alloc, feed, outlets, &mut copies) {
+            Ok(Some(item)) => {
+                offer_copies(rt, &mut offering, outlets, item, &mut copies);
+                continue;
+            }
+            Ok(None) => None,
+            Err(fault) => Some(fault),
+        };
+        offer_end(rt, &mut offering, outlets);
+        return stop;
+    }
+    unreachable!()
+}
 
 // Finishes each outlet.
 fn finish_all(outlets: Vec<LotOutlet>) -> [Option<LotReceipt>; 8]
@@ -29,24 +58,22 @@ fn finish_all(outlets: Vec<LotOutlet>) -> [Option<LotReceipt>; 8]
 ///
 /// Before it offers any copy of an item it makes room for it in each lot, and all copies, none for one builder; room or a copy
 /// that finds no memory stops it with F1, and that item is in no link. While a link is full it yields, and after a while
-/// sleeps for less than a millisecond at a time, where the link has room for 64 lots or more. Where records are to be read
-/// ahead, a thread is started for some thousands of them, which reads the next ones meanwhile; what is sent doesn't depend on
-/// it.
-pub fn feed_out<'e, T: Threads + Wait + Sync, R: Read + Drop + Send, G: Gate>(
-    rt: &T,
+/// sleeps for less than a millisecond at a time, where the link has room for 64 lots or more.
+pub fn feed_out<W: Wait, R: Read + Drop, G: Gate>(
+    rt: &W,
     alloc: Global,
     source: u32,
-    feed: Feed<'e, R>,
+    feed: Feed<'_, R>,
     outlets: Vec<LotOutlet>,
-    gate: &'e G,
-    is_ahead: bool,
+    gate: &G,
 ) -> FeederEnd
     requires { (1 ≤ vec_len outlets) × (vec_len outlets ≤ 8) }
     ensures { Feeds feed.entry.to_come outlets.items result }
 {
-    let mut sender = Sender::new(alloc, source, feed, outlets, gate);
-    let stop = sender.send_all(rt, is_ahead);
-    let outlets = sender.into_outlets();
+    let mut feed = feed;
+    let mut outlets = outlets;
+    let stop = send_all(rt, alloc, source, &mut feed, outlets.as_mut_slice(), gate);
+    drop(feed);
     FeederEnd {
         receipts: finish_all(outlets),
         stop,

@@ -10,7 +10,6 @@
 //! [takes items](cube_feed::TakesItems), and [`feed_shares`] does where each builder has sources of its own.
 #![tactic(auto)]
 
-mod beside;
 mod copies;
 mod ends;
 mod fault;
@@ -26,7 +25,6 @@ mod offering;
 mod parcel;
 mod patience;
 mod roster;
-mod sender;
 mod settings;
 mod settling;
 mod setup;

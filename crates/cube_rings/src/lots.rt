@@ -23,9 +23,6 @@ const LINES: usize = 128;
 /// The fewest lines of a lot, at any number of sources: a lot is an allocation, which is shared among so many lines.
 const FEWEST_LINES: usize = 16;
 
-/// The most sources whose records are read ahead: where there are more, their feeders keep the processors busy.
-const FEW_SOURCES: usize = 2;
-
 /// What goes over a link at once: some lines of a feed, or its end (this project's choice).
 #[derive(Debug, Drop)]
 pub(crate) enum Lot {
@@ -113,12 +110,6 @@ pub fn lot_size(capacity: usize, sources: usize) -> usize {
         return 1;
     }
     (LINES / sources).max(FEWEST_LINES)
-}
-
-/// Whether records are to be read ahead, where each of so many sources has links with room for `capacity` lots: at a small
-/// room the two ends are to meet at every line. No contract speaks of the answer.
-pub fn is_read_ahead(capacity: usize, sources: usize) -> bool {
-    capacity >= MANY_LOTS && sources <= FEW_SOURCES
 }
 
 /// The two ends of a new link with room for `capacity` lots of so many lines, 1 to 65536 (this project's choice).

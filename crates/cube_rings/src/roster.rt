@@ -7,13 +7,11 @@ use crate::words::Word;
 use cube_feed::Feed;
 use std::io::Read;
 
-/// A feeder that is to be started: the feed of a source, its links to the builders, and whether its records are to be read
-/// ahead.
+/// A feeder that is to be started: the feed of a source, and its links to the builders.
 #[derive(Drop)]
 pub struct Feeder<'e, R: Read + Drop> {
     pub feed: Feed<'e, R>,
     pub outlets: Vec<LotOutlet>,
-    pub is_ahead: bool,
 }
 
 /// The ends of the links for the threads' words, and what the joined threads gave back.

@@ -1,5 +1,5 @@
 //! Starting and joining the feeders.
-ghost use Rattle.std.specs.Prelude.{◌≡◌, ◌≤◌, ◌+◌, ◌++◌, ◌∷◌, [], vec_len, vec_capacity, OnOk, IfSome};
+ghost use Rattle.std.specs.Prelude.{◌≡◌, ◌≤◌, ◌+◌, vec_len, vec_capacity, OnOk, IfSome};
 ghost use Rattle.std.specs.List.{All, AllZip};
 ghost use Rattle.cube_rings.specs.Feeding.{Feeds};
 ghost use Rattle.cube_rings.specs.Starting.{RosterHasRoom, IsReady, HasGathered, Keeps, StartsLast};
@@ -30,24 +30,20 @@ impl<'e, R: Read + Drop> Promise<Option<FeederEnd>> for PromisesFeed<'e, R> {
         (Feeds p.feeder.value.feed.to_come p.feeder.value.outlets.items) };
 }
 
-fn feed_on_word<'e, T: Threads + Wait + Sync, R: Read + Drop + Send, G: Gate>(
-    rt: &T,
+fn feed_on_word<W: Wait, R: Read + Drop, G: Gate>(
+    rt: &W,
     alloc: Global,
     source: u32,
     post: Inlet<Word>,
-    feeder: Feeder<'e, R>,
-    gate: &'e G,
+    feeder: Feeder<'_, R>,
+    gate: &G,
 ) -> Option<FeederEnd>
     requires { (1 ≤ vec_len feeder.outlets) × (vec_len feeder.outlets ≤ 8) }
     ensures { IfSome result (Feeds feeder.entry.feed.to_come feeder.entry.outlets.items) }
 {
-    let Feeder {
-        feed,
-        outlets,
-        is_ahead,
-    } = feeder;
+    let Feeder { feed, outlets } = feeder;
     match wait_for_word(rt, post) {
-        Word::Go => Some(feed_out(rt, alloc, source, feed, outlets, gate, is_ahead)),
+        Word::Go => Some(feed_out(rt, alloc, source, feed, outlets, gate)),
         Word::Stop => None,
     }
 }
@@ -69,17 +65,6 @@ pub(crate) fn gather_all<W: Wait, B: TakesItems, G: Gate>(
         gate,
     );
     gatherer.wanting = answer.is_err();
-}
-
-// Takes the last of the feeders, which has outlets, and few.
-fn take_last<'e, R: Read + Drop>(feeders: &mut Vec<Feeder<'e, R>>) -> Feeder<'e, R>
-    requires some { 1 ≤ vec_len feeders.old }
-    requires outlets { All
-        (λ feeder. (1 ≤ vec_len feeder.outlets) × (vec_len feeder.outlets ≤ 8)) feeders.old.items }
-    ensures split { feeders.old.items ≡ feeders.new.items ++ result ∷ [] }
-    ensures outlets { (1 ≤ vec_len result.outlets) × (vec_len result.outlets ≤ 8) }
-{
-    feeders.pop().unwrap()
 }
 
 // Starts the last of the feeders, and gives back the others. What a feeder holds is large, so it is in no call of the
@@ -111,7 +96,7 @@ fn start_last<
 {
     let source = feeders.len() as u32;
     let mut feeders = feeders;
-    let feeder = take_last(&mut feeders);
+    let feeder = feeders.pop().unwrap();
     let promise = PromisesFeed {
         feeder: Snapshot::of(&feeder),
     };

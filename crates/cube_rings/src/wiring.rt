@@ -6,7 +6,7 @@ ghost use Rattle.cube_rings.specs.Wiring.{Grows, Connects, AreLinked};
 
 use crate::gatherer::{Gatherer, Place};
 use crate::link_ends::{Inlet, Outlet, link};
-use crate::lots::{LotOutlet, is_read_ahead, lot_link, lot_size};
+use crate::lots::{LotOutlet, lot_link, lot_size};
 use crate::roster::Feeder;
 use crate::words::Word;
 use cube_core::Schema;
@@ -47,14 +47,13 @@ fn connect<B: Drop>(
     Ok(outlets)
 }
 
-// The feeder of a reader, linked to every builder; its records are to be read ahead or not.
+// The feeder of a reader, linked to every builder.
 fn feeder_of<'e, R: Read + Drop, B: Drop>(
     alloc: Global,
     schema: &'e Schema,
     reader: R,
     capacity: usize,
     size: usize,
-    is_ahead: bool,
     gatherers: &mut [Gatherer<B>],
 ) -> Result<Feeder<'e, R>, AllocError>
     requires { (1 ≤ capacity) × (capacity ≤ 65536) }
@@ -65,11 +64,7 @@ fn feeder_of<'e, R: Read + Drop, B: Drop>(
 {
     let outlets = connect(alloc, capacity, size, gatherers)?;
     let feed = Feed::new(alloc, schema, reader);
-    Ok(Feeder {
-        feed,
-        outlets,
-        is_ahead,
-    })
+    Ok(Feeder { feed, outlets })
 }
 
 /// The feeders of all readers, each linked to every builder.
@@ -91,9 +86,8 @@ pub(crate) fn feeders_of<'e, R: Read + Drop, B: Drop>(
 {
     let mut feeders = Vec::with_capacity(alloc, readers.len())?;
     let size = lot_size(capacity, readers.len());
-    let is_ahead = is_read_ahead(capacity, readers.len());
     for reader in readers {
-        let feeder = feeder_of(alloc, schema, reader, capacity, size, is_ahead, gatherers)?;
+        let feeder = feeder_of(alloc, schema, reader, capacity, size, gatherers)?;
         feeders.push(feeder)?;
     }
     Ok(feeders)

@@ -1,4 +1,4 @@
-use Rattle.std.proofs.Common.{◌<◌, ◌+◌, ◌∙◌, arith, refl, rules, sym, Some, None, Ok}
+use Rattle.std.proofs.Common.{◌<◌, ◌+◌, ◌∙◌, arith, false, refl, rules, sym, Some, None, Ok}
 use Rattle.cube_core.proofs.ItemLaws.{takes-change_of}
 use Rattle.cube_core.specs.FeedRecords.{plain_of}
 use Rattle.cube_feed.specs.Feed.{after_header}
@@ -12,7 +12,6 @@ loop-before-init g c = (
   refl,
   StillComes-refl (after_header c.args.schema.now c.args.rows.now.columns c.args.number c.args.rows.now.text.left),
   λ whole. refl,
-  refl,
 )
 
 pub returns-then-not-branch-clause-gives : goal.returns-then-not-branch-clause-gives
@@ -26,7 +25,7 @@ returns-then-not-branch-clause-gives g c =
     (after_header s columns c.loop-before.before left)
     new (Ok None) c.loop-before.invariant.2
     (none-Gives s columns c.loop-before.before left c.take_record.new.text new
-    (rw c.if-not-branch.true at c.in_ok-take_record.ensures.takes)))
+    (rw c.if-not-branch.true at c.in_ok-take_record.ensures)))
 
 pub returns-then-is_read_at-clause-gives : goal.returns-then-is_read_at-clause-gives
 returns-then-is_read_at-clause-gives g c =
@@ -43,7 +42,7 @@ returns-then-is_read_at-clause-gives g c =
     (after_header s columns before left)
     (after_header s columns item.number c.take_record.new.text.left) (Ok (Some item)) c.loop-before.invariant.2
     (item-Gives s columns before left c.take_record.new.text item below
-    (rw c.if-not-branch.false at c.in_ok-take_record.ensures.takes) read
+    (rw c.if-not-branch.false at c.in_ok-take_record.ensures) read
     c.in_ok-item_of.ensures.number (rw same at c.in_ok-item_of.ensures.what)))
 
 pub returns-then-is_read_at-clause-taken : goal.returns-then-is_read_at-clause-taken
@@ -65,8 +64,7 @@ loop-before-preserved g c =
       same,
       StillComes-skip s columns before (after_header s columns c.args.number c.args.rows.now.text.left)
           c.loop-before.rows.text.left c.take_record.new.text below
-          (rw c.if-not-branch.false at c.in_ok-take_record.ensures.takes) other c.loop-before.invariant.2,
+          (rw c.if-not-branch.false at c.in_ok-take_record.ensures) other c.loop-before.invariant.2,
       λ whole. absurd (not_read-whole_feed s
           (plain_of s columns (before + 1) c.take_record.new.text.fields) whole other),
-      c.in_ok-take_record.ensures.lent ∙ c.loop-before.invariant.4,
     )

@@ -11,4 +11,3 @@ invariant-loop-before g l =
     × StillComes (after_header l.schema l.initial.rows.columns l.number l.initial.rows.text.left)
     (after_header l.schema l.initial.rows.columns l.before l.rows.text.left)
     × (l.schema.shard ≡ whole_feed → l.before ≡ l.number)
-    × (l.rows.text.lent ≡ l.initial.rows.text.lent)

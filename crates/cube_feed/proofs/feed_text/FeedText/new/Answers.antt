@@ -1,11 +1,10 @@
 use Rattle.cube_feed.proofs.TextLaws.{left_by-text_of}
 use Rattle.cube_feed.proofs.feed_text.FeedText.new.Goals as goal
 
-pub returns-clause-left : goal.returns-clause-left
-returns-clause-left g c =
+pub returns : goal.returns
+returns g c =
     rw (
-      c.new.ensures.left,
-      c.new-source.ensures,
+      c.new.ensures,
       c.new-bytes.ensures,
       c.bounds_of.ensures,
       c.end_mark.ensures,
