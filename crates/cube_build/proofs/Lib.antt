@@ -1,3 +1,6 @@
+mod FactLaws
+mod TextRowCopy
+mod CarriedLaws
 pub mod BuilderLaws
 mod FillLaws
 mod TakingLaws
