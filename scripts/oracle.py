@@ -96,12 +96,12 @@ def array(items):
 class Schema:
     """Dimensions and measures by name, aggregates as (kind, measure or None), where a kind may be `count distinct` or, with its
     level, `percentile_disc 0.5`, and the masks of the kept grouping sets; where feeds are read by the names of their columns, the
-    `Feed` of it; and by the names of measures, the decimals that they have."""
+    `Feed` of it; by the names of measures, the decimals that they have; and the names of those measures that are texts."""
 
-    def __init__(self, dimensions, measures, aggregates, grouping="cube", version=1, max_records=2**32 - 1, feed=None, decimals=()):
+    def __init__(self, dimensions, measures, aggregates, grouping="cube", version=1, max_records=2**32 - 1, feed=None, decimals=(), texts=()):
         self.dimensions, self.measures, self.aggregates = dimensions, measures, aggregates
         self.grouping, self.version, self.max_records, self.feed = grouping, version, max_records, feed
-        self.decimals = dict(decimals)
+        self.decimals, self.texts = dict(decimals), list(texts)
         count = len(dimensions)
         if grouping == "cube":
             masks = range(2**count)
@@ -126,7 +126,7 @@ class Schema:
         aggregates = list(self.aggregates)
         for made, at in self.aggregates:
             aggregates += [(it, at) for it in parts_of(made) if (it, at) not in aggregates]
-        rest = self.grouping, self.version, self.max_records, self.feed, self.decimals
+        rest = self.grouping, self.version, self.max_records, self.feed, self.decimals, self.texts
         return Schema(self.dimensions, self.measures, aggregates, *rest)
 
     def places(self, at):
@@ -162,6 +162,7 @@ class Schema:
             lines.append(f"version = {self.version}")
         if self.max_records != 2**32 - 1:
             lines.append(f"max_records = {self.max_records}")
+        lines += [f"texts = {array(map(quoted, self.texts))}"] if self.texts else []
         lines += self.feed.toml() if self.feed else []
         lines += ["[decimals]", *(f"{quoted(name)} = {places}" for name, places in self.decimals.items())] if self.decimals else []
         return ("\n".join(lines) + "\n").encode()
@@ -407,6 +408,8 @@ def keeps(schema, field):
 
 def measure_of(schema, line, name, field):
     """The units that a field says of the measure of a name, None for null, KEPT, or "wrong"."""
+    if name in schema.texts:
+        return dimension_of(schema, field, None)
     if keeps(schema, field):
         return KEPT
     if field in line.nulls:
@@ -998,15 +1001,16 @@ def schema_of(data):
         raise Failure("S2", 3) from None
     if not all(LEAST <= it <= GREATEST for it in numbers_in(table)):
         raise Failure("S2", 3)
-    if not set(table) <= {"dimensions", "measures", "aggregates", "max_records", "grouping", "version", "feed", "decimals"}:
+    if not set(table) <= {"dimensions", "measures", "aggregates", "max_records", "grouping", "version", "feed", "decimals", "texts"}:
         raise Failure("S3", 3)
     dimensions = texts_of(table, "dimensions", 8, "S4")
     measures = texts_of(table, "measures", 4, "S5", 0 if "feed" in table else 1)
     names = dimensions + measures
     if len(set(names)) < len(names) or set(names) & {"", "op", "id", "*"}:
         raise Failure("S6", 3)
+    texts = counted_texts(table, measures)
     aggregates = [aggregate_of(it, measures) for it in texts_of(table, "aggregates", 16, "S7")]
-    if None in aggregates:
+    if None in aggregates or any(at is not None and measures[at] in (texts or []) and not kind.startswith("count") for kind, at in aggregates):
         raise Failure("S7", 3)
     most = table.get("max_records", 2**32 - 1)
     if type(most) is not int or not 1 <= most < 2**32:
@@ -1023,7 +1027,18 @@ def schema_of(data):
         raise Failure("S12", 3)
     if not all(type(it) is int and 0 <= it <= 18 for it in decimals.values()):
         raise Failure("S12", 3)
-    return Schema(dimensions, measures, aggregates, grouping, version, most, feed, decimals)
+    if texts is None:
+        raise Failure("S13", 3)
+    return Schema(dimensions, measures, aggregates, grouping, version, most, feed, decimals, texts)
+
+
+def counted_texts(table, measures):
+    """The names that the key `texts` says of measures without decimals, None where it is wrong."""
+    texts, decimals = table.get("texts", []), table.get("decimals", {})
+    if not isinstance(texts, list) or not all(isinstance(it, str) for it in texts) or len(set(texts)) < len(texts):
+        return None
+    apart = set(decimals) if isinstance(decimals, dict) else set()
+    return texts if set(texts) <= set(measures) - apart else None
 
 
 def feed_of(table, dimensions, measures):
@@ -1151,7 +1166,7 @@ def condition_of(schema, word):
 
 def wanted_value(schema, name, field):
     """The text, or the units of a measure, that a field of a condition says of the name, None for null, or "wrong"."""
-    if field == NULL or name in schema.dimensions:
+    if field == NULL or name in schema.dimensions + schema.texts:
         return None if field == NULL else field
     value = number(field, schema.decimals.get(name))
     return "wrong" if value is None else value

@@ -34,7 +34,7 @@ use Rattle.cube_build.specs.CountedRun.{CountsFeeds}
 use Rattle.cube_build.specs.Counting.{AreWeighed, CountsAt, CounterStandsFrom, CounterView, IsCounted, IsCounter}
 use Rattle.cube_build.specs.CounterShares.{AreNewCounters, AreUnspent, IsCounterOf, IsGathererOf, IsJoined, IsUnder}
 use Rattle.cube_build.specs.CounterShares.{MayJoin, appended, counter_sources, ledgers_of}
-use Rattle.cube_build.proofs.BuilderLaws.{HasFacts-permutation}
+use Rattle.cube_build.proofs.FactLaws.{CountsFacts-permutation}
 use Rattle.cube_build.proofs.CountingLaws.{finest-all}
 use Rattle.cube_build.proofs.ShareLaws.{StandTogether, sources_of, stand-together}
 
@@ -76,6 +76,7 @@ counter-joined conditions refused others next ledger more weights more_weights c
             ∙ (λ i. is.noted.refusals i ++ is_more.noted.refusals i)
             ∙ sym (map-append (λ (a : AccountView). a.refusals) ledger.accounts more.accounts);
       };
+      plain = is.plain;
       schema = same.schema ∙ is.schema;
       long = omega (
         arith,
@@ -87,7 +88,7 @@ counter-joined conditions refused others next ledger more weights more_weights c
       counted = λ unspent. record {
         fit = rw facts (All-append Fits first second counted.fit
             (subst (λ (s : Layout). All (λ fact. fits s fact ≡ true) second) alike more_counted.fit));
-        has = rw facts (HasFacts-permutation (second ++ first) (first ++ second) whole
+        counts = rw facts (CountsFacts-permutation (second ++ first) (first ++ second) whole
             (IsPermutation-append_comm second first) (record { cells = all.cells; facts_are = all.facts_are }));
         sets =
             same.sets ∙ counted.sets ∙ ap (λ (s : Layout). finest_set (length s.dimensions) ∷ []) (sym same.schema);

@@ -17,7 +17,7 @@ use Rattle.std.proofs.lemmas.Map.Keys.{IsDistinct-cons}
 use Rattle.std.proofs.lemmas.Slice.Eq.{bytes_eq-Decides}
 use Rattle.cube_core.specs.Arrival.{Arrivals}
 use Rattle.cube_core.specs.Conditions.{hold, of_interest}
-use Rattle.cube_core.specs.Layout.{Layout}
+use Rattle.cube_core.specs.Layout.{Layout, number_of_dimensions}
 use Rattle.cube_core.specs.Refusals.{code_of_fault}
 use Rattle.cube_core.specs.Run.{SourceBytes, AreGood}
 use Rattle.cube_core.specs.Takes.{fits, is_id}
@@ -27,8 +27,10 @@ use Rattle.cube_core.specs.declared.change.LineFault.{LineFault}
 use Rattle.cube_core.specs.declared.change.Refusal.{Refusal}
 use Rattle.cube_core.specs.declared.condition.Condition.{Condition}
 use Rattle.cube_core.specs.declared.fact.Fact.{Fact}
+use Rattle.cube_core.proofs.CubeSchemaLaws.{cube_schema-dimensions}
 use Rattle.cube_core.proofs.ListLaws.{AllZip-length}
 use Rattle.cube_core.proofs.ReorderedLaws.{filter-IsPermutation}
+use Rattle.cube_core.proofs.TextSchemaLaws.{cube_schema-none}
 use Rattle.cube_cells.specs.Cube.{AddsFact, IsCubeOf, IsNewLattice, Lattice}
 use Rattle.cube_cells.specs.Fill.{IsCubeOfAll, finest_set}
 use Rattle.cube_ledger.specs.Book.{Entries, IsBook, fact_at, facts_of}
@@ -42,11 +44,11 @@ use Rattle.cube_rings.specs.FeedingAll.{IsNew, TakeAll, TakesFeeds}
 use Rattle.cube_rings.specs.declared.gatherer.Gatherer.{Gatherer}
 use Rattle.cube_build.specs.Builder.{BuilderView, GainsFacts}
 use Rattle.cube_build.specs.Counting.{AreCountsOf, AreRefusedOf, AreWeighed, CounterStandsFrom, CounterView}
-use Rattle.cube_build.specs.Counting.{AreCounts, CountsItem, IsCounted, IsCounter}
+use Rattle.cube_build.specs.Counting.{AreCounts, CountsItem, CountsNoText, HaveFactsOf, IsCounted, IsCounter}
 use Rattle.cube_build.specs.Counting.{IsOneCounter, IsWeighed, putting}
 use Rattle.cube_build.specs.Counting.{refusing, weight_of, with_account, with_entry}
 use Rattle.cube_build.specs.CountedRun.{CountsFeeds}
-use Rattle.cube_build.proofs.BuilderLaws.{HasFacts-add, HasFacts-permutation}
+use Rattle.cube_build.proofs.FactLaws.{CountsFacts-add, CountsFacts-permutation, HasFacts-plain}
 
 -- ---- a line fault
 
@@ -237,7 +239,7 @@ counted-refusing conditions ledger source number code weights cube first last is
     all_facts-same ledger.accounts (source - 1) account refl in
     record {
       fit = rw same is.fit;
-      has = rw same is.has;
+      counts = rw same is.counts;
       sets = is.sets;
       weighed = weighed-same weights ledger.accounts (source - 1) account (omega (arith, first, last)) refl is.weighed;
     }
@@ -317,8 +319,8 @@ counted-putting conditions ledger source id fact weights old new may fit gains i
       fit = All-permutation Fits (one ++ kept) (of_interest conditions (all_facts next.accounts)) same
           (All-append Fits one kept
           (All-filter (hold conditions) Fits (fact ∷ []) (All-cons Fits fact [] fit (All-nil Fits))) is.fit);
-      has = HasFacts-permutation (one ++ kept) (of_interest conditions (all_facts next.accounts)) new same
-          (gains.has kept is.has);
+      counts = CountsFacts-permutation (one ++ kept) (of_interest conditions (all_facts next.accounts)) new same
+          (gains.counts kept is.counts);
       sets =
           gains.same.sets ∙ is.sets
           ∙ ap (λ (s : Layout). finest_set (length s.dimensions) ∷ []) (sym gains.same.schema);
@@ -367,7 +369,7 @@ pub gains-none : (conditions : List Condition) (fact : Fact) (cube : Lattice) �
     → GainsFacts (of_interest conditions (fact ∷ [])) cube cube
 gains-none conditions fact cube other = rw other (record {
   same = record { schema = refl; sets = refl };
-  has = λ before has. has;
+  counts = λ before counts. counts;
 })
 
 pub gains-fact : (conditions : List Condition) (fact : Fact) (old new : Lattice) → hold conditions fact ≡ true
@@ -375,7 +377,7 @@ pub gains-fact : (conditions : List Condition) (fact : Fact) (old new : Lattice)
     → GainsFacts (of_interest conditions (fact ∷ [])) old new
 gains-fact conditions fact old new holds adds cells = rw holds (record {
   same = adds.same;
-  has = λ before has. HasFacts-add fact before old new adds cells has;
+  counts = λ before counts. CountsFacts-add fact before old new adds cells counts;
 })
 
 -- ---- a counter takes items
@@ -409,14 +411,17 @@ weighed-new sources weights accounts are = λ place below.
 
 pub counted-new : (conditions : List Condition) (ledger : LedgerView) (sources : ℕ) (weights : List ℕ) (cube : Lattice)
     (schema : Layout) → ledger.accounts ≡ replicate sources new_account
-    → IsNewLattice schema (finest_set (length schema.dimensions) ∷ []) cube → IsCubeOf cube []
+    → IsNewLattice schema (finest_set (number_of_dimensions schema) ∷ []) cube → IsCubeOf cube []
     → IsCounted conditions ledger weights cube
 counted-new conditions ledger sources weights cube schema are new cells =
     let none : all_facts ledger.accounts ≡ [] = ap all_facts are ∙ all_facts-new sources in
     record {
       fit = rw none (All-nil (λ fact. fits ledger.schema fact ≡ true));
-      has = rw none (record { cells = cells; facts_are = new.no_facts });
-      sets = new.sets_are ∙ ap (λ (s : Layout). finest_set (length s.dimensions) ∷ []) (sym new.schema_is);
+      counts = rw none (record { cells = cells; facts_are = new.no_facts });
+      sets =
+          new.sets_are
+          ∙ ap (λ (n : ℕ). finest_set n ∷ [])
+          (sym (ap (λ (s : Layout). length s.dimensions) new.schema_is ∙ cube_schema-dimensions schema));
       weighed = weighed-new sources weights ledger.accounts are;
     }
 
@@ -454,6 +459,7 @@ pub counter-spent : (b : Bool) (conditions : List Condition) (refused ledger : L
     → IsCounter true conditions refused ledger weights next
 counter-spent b conditions refused ledger weights cube next same is = record {
   noted = is.noted;
+  plain = is.plain;
   schema = same ∙ is.schema;
   long = is.long;
   counted = λ never. cc never;
@@ -467,6 +473,7 @@ pub counter-refusing : (conditions : List Condition) (refused next ledger : Ledg
     → IsCounter false conditions next (refusing ledger source number code) weights cube
 counter-refusing conditions refused next ledger source number code weights cube first last at is = record {
   noted = refused-more refused next ledger source number code at is.noted;
+  plain = is.plain;
   schema = is.schema;
   long = is.long ∙ sym (long-account ledger source (with_refusal (account_of ledger source) number code));
   counted = λ unspent.
@@ -482,6 +489,7 @@ pub counter-putting : (conditions : List Condition) (refused ledger : LedgerView
     (slice_set weights (source - 1) (weight_of id)) new
 counter-putting conditions refused ledger source id fact weights old new may fit gains is = record {
   noted = refused-putting refused ledger source id fact is.noted;
+  plain = is.plain;
   schema = gains.same.schema ∙ is.schema;
   long =
       length-set weights (source - 1) (weight_of id) ∙ is.long
@@ -493,12 +501,13 @@ counter-putting conditions refused ledger source id fact weights old new may fit
 -- a new one
 pub counter-new : (conditions : List Condition) (refused ledger : LedgerView) (sources : ℕ) (weights : List ℕ)
     (s : Layout) (cube : Lattice) → ledger ≡ refused → refused.accounts ≡ replicate sources new_account
-    → length weights ≡ sources → s ≡ refused.schema
-    → IsNewLattice s (finest_set (length s.dimensions) ∷ []) cube → IsCubeOf cube []
+    → length weights ≡ sources → s ≡ refused.schema → CountsNoText s
+    → IsNewLattice s (finest_set (number_of_dimensions s) ∷ []) cube → IsCubeOf cube []
     → IsCounter false conditions refused ledger weights cube
-counter-new conditions refused ledger sources weights s cube same are long schema new cells = rw same (record {
+counter-new conditions refused ledger sources weights s cube same are long schema plain new cells = rw same (record {
   noted = record { schema = refl; refusals = refl };
-  schema = new.schema_is ∙ schema;
+  plain = subst CountsNoText schema plain;
+  schema = new.schema_is ∙ cube_schema-none s plain.none ∙ schema;
   long = long ∙ sym (ap length are ∙ length-replicate sources new_account);
   counted = λ unspent. counted-new conditions refused sources weights cube s are new cells;
 })
@@ -512,48 +521,47 @@ finest-all conditions refused ledger weights cube is =
     record {
       fit = subst (λ (s : Layout). AllFit s (of_interest conditions (all_facts ledger.accounts))) (sym is.schema)
           counted.fit;
-      cells = counted.has.cells;
-      facts_are = counted.has.facts_are;
+      cells = counted.counts.cells;
+      facts_are = counted.counts.facts_are;
+    }
+
+-- which are those of the ledger that is kept
+counter-has : (conditions : List Condition) (refused ledger : LedgerView) (weights : List ℕ) (cube : Lattice)
+    → IsCounter false conditions refused ledger weights cube → HaveFactsOf (ledger_of_interest conditions ledger) cube
+counter-has conditions refused ledger weights cube is =
+    let counted = is.counted refl in
+    let kept = of_interest conditions (all_facts ledger.accounts) in
+    record {
+      schema = is.schema ∙ sym (cube_schema-none ledger.schema is.plain.none);
+      has = rw (all_facts-of_interest conditions ledger.accounts)
+          (HasFacts-plain ledger.schema kept cube is.plain.schema is.plain.none counted.fit counted.counts);
     }
 
 -- what is kept of its ledger is counted in its cube
 pub kept-counts : (conditions : List Condition) (refused ledger kept : LedgerView) (weights : List ℕ) (cube : Lattice)
     → kept ≡ ledger_of_interest conditions ledger
     → IsCounter false conditions refused ledger weights cube → AreCounts refused kept cube
-kept-counts conditions refused ledger kept weights cube same is =
-    let counted = is.counted refl in
-    let facts : all_facts (ledger_of_interest conditions ledger).accounts
-    ≡ of_interest conditions (all_facts ledger.accounts) = all_facts-of_interest conditions ledger.accounts in
-    rw same (record {
-      noted = record {
-        schema = is.noted.schema;
-        refusals = is.noted.refusals ∙ sym (refusals-of_interest conditions ledger.accounts);
-      };
-      schema = is.schema;
-      fit = rw facts counted.fit;
-      has = rw facts counted.has;
-    })
+kept-counts conditions refused ledger kept weights cube same is = rw same (record {
+  noted = record {
+    schema = is.noted.schema;
+    refusals = is.noted.refusals ∙ sym (refusals-of_interest conditions ledger.accounts);
+  };
+  cells = counter-has conditions refused ledger weights cube is;
+})
 
 -- and these are its counts
 pub counts-of : (counter : CounterView) (refused : LedgerView) (weights : List ℕ) (cube : Lattice)
     (counts : BuilderView) → counter.is_spent ≡ false
     → counts.ledger ≡ ledger_of_interest counter.conditions counter.ledger → counts.cube ≡ cube
     → IsCounter false counter.conditions refused counter.ledger weights cube → AreCountsOf counter counts
-counts-of counter refused weights cube counts unspent kept there is =
-    let facts : all_facts (ledger_of_interest counter.conditions counter.ledger).accounts
-    ≡ of_interest counter.conditions (all_facts counter.ledger.accounts) =
-    all_facts-of_interest counter.conditions counter.ledger.accounts in
-    record {
-      unspent = unspent;
-      are = record {
-        ledger_is = kept;
-        finest = rw there (is.counted refl).sets;
-        has = rw there (record {
-          schema = is.schema;
-          facts = rw facts (finest-all counter.conditions refused counter.ledger weights cube is);
-        });
-      };
-    }
+counts-of counter refused weights cube counts unspent kept there is = record {
+  unspent = unspent;
+  are = record {
+    ledger_is = kept;
+    finest = rw there (is.counted refl).sets;
+    has = rw there (counter-has counter.conditions refused counter.ledger weights cube is);
+  };
+}
 
 -- ---- what a run has counted
 

@@ -26,7 +26,7 @@ use Rattle.cube_build.specs.Interest.{BuildsWhere, PartStandsWhere, draft_of_int
 use Rattle.cube_build.specs.Parted.{IsPartOver, IsPartWith}
 use Rattle.cube_build.specs.Parts.{AreAllMade, AreParts, BuildsParts, BuiltView, PartStandsAt}
 use Rattle.cube_build.specs.Parts.{schema_of_run}
-use Rattle.cube_build.proofs.BuilderLaws.{HasFacts-permutation}
+use Rattle.cube_build.proofs.FactLaws.{HasFacts-permutation}
 use Rattle.cube_build.proofs.DraftLaws.{AreOf}
 use Rattle.cube_build.proofs.PartLaws.{first-is, ledgers-alike}
 
@@ -56,7 +56,8 @@ keeps-part s conditions sources parts part arrivals feeds draft gatherer builder
         schema = is_made.same.schema ∙ ap (λ cube. cube.schema) from.cube ∙ new.over.schema;
         sets = is_made.same.sets ∙ ap (λ cube. cube.sets) from.cube ∙ new.over.sets;
       };
-      has = subst (λ (l : LedgerView). HasFacts (all_facts l.accounts) builder.cube) (sym ledger) is_made.has;
+      has = subst (λ (l : LedgerView). HasFacts l.schema (all_facts l.accounts) builder.cube) (sym ledger)
+          is_made.has;
       received = rw of.long at takes.received ∙ ap (map parcels_of) same;
     }
 
@@ -172,9 +173,13 @@ kept-are-parts s conditions sources parts built some builds =
           )
           (record {
             over = own.over;
-            has = HasFacts-permutation _ _ (get_or built.builders part d).cube
+            has = HasFacts-permutation s _ _ (get_or built.builders part d).cube
                 (facts-alike s conditions (length sources) parts part 0 builds.arrivals (get_or built.builders part d)
-                (get_or built.builders 0 d) (get_or built.inlets part []) (get_or built.inlets 0 []) own first) own.has;
+                (get_or built.builders 0 d) (get_or built.inlets part []) (get_or built.inlets 0 []) own first)
+                (subst (λ (l : Layout). HasFacts l (all_facts (get_or built.builders part d).ledger.accounts)
+                (get_or built.builders part d).cube)
+                (schema-kept s conditions (length sources) parts part builds.arrivals (get_or built.builders part d)
+                (get_or built.inlets part []) own) own.has);
           });
     }
 
@@ -227,7 +232,7 @@ builds-without s sources parts built builds = record {
 
 -- a builder over all grouping sets is the one part of its cube
 pub lone-are-parts : (builder : BuilderView) → IsPartOver builder.ledger.schema 1 0 builder.cube
-    → HasFacts (all_facts builder.ledger.accounts) builder.cube → AreParts (builder ∷ [])
+    → HasFacts builder.ledger.schema (all_facts builder.ledger.accounts) builder.cube → AreParts (builder ∷ [])
 lone-are-parts builder over has = record { some = omega arith; each = each } where
   each : (part : ℕ) (d : BuilderView) → part < 1
       → IsPartWith builder.ledger.schema (all_facts builder.ledger.accounts) 1 part
@@ -243,4 +248,4 @@ made-alone ledger draft builder is over made =
     lone-are-parts builder
     (subst (λ (l : LedgerView). IsPartOver l.schema 1 0 builder.cube) same
     (record { schema = made.same.schema ∙ over.schema; sets = made.same.sets ∙ over.sets }))
-    (subst (λ (l : LedgerView). HasFacts (all_facts l.accounts) builder.cube) (sym made.ledger) made.has)
+    (subst (λ (l : LedgerView). HasFacts l.schema (all_facts l.accounts) builder.cube) (sym made.ledger) made.has)

@@ -1,3 +1,5 @@
+mod FactLaws
+mod CarriedLaws
 pub mod BuilderLaws
 mod FillLaws
 mod TakingLaws

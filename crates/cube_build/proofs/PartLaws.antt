@@ -15,7 +15,7 @@ use Rattle.std.proofs.lemmas.Slice.Eq.{bytes_eq-Decides}
 use Rattle.cube_core.proofs.ListLaws.{AllByRecursion-Contains, Contains-cases, Contains-head, Contains-nil}
 use Rattle.cube_core.proofs.ListLaws.{Contains-tail, map-Contains}
 use Rattle.cube_core.specs.Arrival.{Arrivals, of_sources}
-use Rattle.cube_core.specs.Layout.{Layout}
+use Rattle.cube_core.specs.Layout.{Layout, cube_schema}
 use Rattle.cube_core.specs.declared.fact.Fact.{Fact}
 use Rattle.cube_core.specs.declared.change.Item.{Item}
 use Rattle.cube_ledger.specs.Book.{Entries, IsBook, fact_at, facts_of}
@@ -112,7 +112,7 @@ of-one {builders} parts = record {
   are = parts;
 }
 
--- what is true of the run's schema is true of that of each builder's cube
+-- what is true of the schema of a run's cube is true of that of each builder's cube
 pub each-schema : {builders : List BuilderView} (Is : Layout → Type 0) → AreParts builders
-    → Is (first_ledger builders).schema → EachSchema (λ builder. builder.cube) Is builders
+    → Is (cube_schema (first_ledger builders).schema) → EachSchema (λ builder. builder.cube) Is builders
 each-schema Is parts is = λ part d below. subst Is (sym (parts.each part d below).over.schema) is

@@ -18,15 +18,15 @@ use Rattle.cube_core.specs.Layout.{Layout}
 use Rattle.cube_core.specs.declared.change.Item.{Item}
 use Rattle.cube_core.specs.declared.fact.Fact.{Fact}
 use Rattle.cube_cells.specs.Cube.{Lattice, SameCells, SameSets}
-use Rattle.cube_build.specs.Builder.{BuilderView, HasFacts, StandsAt}
+use Rattle.cube_build.specs.Builder.{BuilderView, CountsFacts, StandsAt}
 use Rattle.cube_ledger.specs.Book.{Entries, IsBook, fact_at, facts_of}
 use Rattle.cube_ledger.specs.Ledger.{AccountView, AccountStandsAt, all_facts}
-use Rattle.cube_build.proofs.BuilderLaws.{HasFacts-permutation, SameCells-HasFacts}
+use Rattle.cube_build.proofs.FactLaws.{CountsFacts-permutation, CountsFacts-plain, SameCells-CountsFacts}
 
 pub SameCells-permutation : (facts others : List Fact) (a b : Lattice) → IsPermutation facts others → SameSets a b
-    → HasFacts facts a → HasFacts others b → SameCells a b
+    → CountsFacts facts a → CountsFacts others b → SameCells a b
 SameCells-permutation facts others a b moved same of_a of_b =
-    SameCells-HasFacts others a b same (HasFacts-permutation facts others a moved of_a) of_b
+    SameCells-CountsFacts others a b same (CountsFacts-permutation facts others a moved of_a) of_b
 
 -- ---- books that agree at each id
 
@@ -109,10 +109,10 @@ all_facts-alike s (items ∷ feeds) (a ∷ accounts) (b ∷ others) of_a of_b =
     (all_facts-alike s feeds accounts others of_a.1 of_b.1)
 
 pub SameCells-stand : (a b : BuilderView) (arrivals others : Arrivals) → SameSets a.cube b.cube
-    → b.ledger.schema ≡ a.ledger.schema
+    → a.ledger.schema.text_places ≡ [] → b.ledger.schema ≡ a.ledger.schema
     → of_sources (length a.ledger.accounts) arrivals ≡ of_sources (length b.ledger.accounts) others
     → StandsAt a arrivals → StandsAt b others → SameCells a.cube b.cube
-SameCells-stand a b arrivals others same schema agree of_a of_b =
+SameCells-stand a b arrivals others same none schema agree of_a of_b =
     let stand : AllZip (AccountStandsAt a.ledger.schema) (of_sources (length a.ledger.accounts) arrivals)
     b.ledger.accounts =
     subst (λ (feeds : List (List Item)). AllZip (AccountStandsAt a.ledger.schema) feeds b.ledger.accounts) (sym agree)
@@ -120,4 +120,7 @@ SameCells-stand a b arrivals others same schema agree of_a of_b =
     b.ledger.accounts) schema of_b.ledger) in
     SameCells-permutation (all_facts a.ledger.accounts) (all_facts b.ledger.accounts) a.cube b.cube
     (all_facts-alike a.ledger.schema (of_sources (length a.ledger.accounts) arrivals) a.ledger.accounts
-    b.ledger.accounts of_a.ledger stand) same of_a.cube of_b.cube
+    b.ledger.accounts of_a.ledger stand) same
+    (CountsFacts-plain a.ledger.schema (all_facts a.ledger.accounts) a.cube none of_a.cube)
+    (CountsFacts-plain b.ledger.schema (all_facts b.ledger.accounts) b.cube
+    (ap (λ (s : Layout). s.text_places) schema ∙ none) of_b.cube)

@@ -1,11 +1,12 @@
 -- What one builder took, over the finest grouping set alone.
-use Rattle.std.proofs.Common.{◌≡◌, ◌<◌, ℕ, List, [], ◌∷◌, length, get_or, refl, sym, ap, subst, ◌∙◌}
+use Rattle.std.proofs.Common.{◌≡◌, ◌<◌, ℕ, List, [], ◌∷◌, length, get_or, map, refl, sym, ap, subst, ◌∙◌}
 use Rattle.std.proofs.Common.{arith}
 use Rattle.std.specs.List.{AllZip}
 use Rattle.cube_core.specs.Arrival.{Arrivals, of_sources}
 use Rattle.cube_core.specs.GroupingSet.{sets_of_part}
-use Rattle.cube_core.specs.Layout.{Layout}
+use Rattle.cube_core.specs.Layout.{Layout, cube_schema}
 use Rattle.cube_core.specs.Run.{SourceBytes, AreGood, AreItemsOf}
+use Rattle.cube_core.specs.TextPlaces.{counted_by}
 use Rattle.cube_core.specs.declared.change.Item.{Item}
 use Rattle.cube_core.specs.declared.condition.Condition.{Condition}
 use Rattle.cube_core.specs.declared.fact.Fact.{Fact}
@@ -14,7 +15,7 @@ use Rattle.cube_cells.specs.Cube.{IsNewLattice, Lattice, SameSets}
 use Rattle.cube_cells.specs.Fill.{IsCubeOfAll}
 use Rattle.std.proofs.lemmas.List.{length-replicate}
 use Rattle.cube_ledger.specs.Interest.{ledger_of_interest}
-use Rattle.cube_ledger.specs.Ledger.{AllFit, LedgerStandsAt, LedgerView, all_facts, ledger_without_facts, new_account}
+use Rattle.cube_ledger.specs.Ledger.{LedgerStandsAt, LedgerView, all_facts, ledger_without_facts, new_account}
 use Rattle.cube_ledger.proofs.LedgerLaws.{refusals-without_facts}
 use Rattle.cube_rings.specs.FeedingAll.{TakesFeeds}
 use Rattle.cube_rings.specs.declared.gatherer.Gatherer.{Gatherer}
@@ -31,28 +32,22 @@ use Rattle.cube_build.specs.Parts.{AreParts, BuiltView}
 use Rattle.cube_build.specs.Shares.{TakenInParts}
 use Rattle.cube_build.specs.Taken.{IsFilledFrom, IsTaken, IsTakenPart, TakenView, TakesWhere}
 use Rattle.cube_build.specs.declared.making.MadePart.{MadePart}
+use Rattle.cube_build.proofs.FactLaws.{HasFacts-IsCubeOfAll, HasFacts-facts, IsCubeOfAll-HasFacts}
 use Rattle.cube_build.proofs.InterestLaws.{lone-are-parts}
 
 -- ---- counts
 
--- the cube of counts has all their facts
-pub counts-all : (refused ledger : LedgerView) (cube : Lattice) → AreCounts refused ledger cube
-    → IsCubeOfAll (all_facts ledger.accounts) cube
-counts-all refused ledger cube are = record {
-  fit = subst (λ (s : Layout). AllFit s (all_facts ledger.accounts)) (sym are.schema) are.fit;
-  cells = are.has.cells;
-  facts_are = are.has.facts_are;
-}
+-- the cube of counts is that of all their facts, as they are counted
+pub counts-all : (refused ledger : LedgerView) (cube : Lattice) → (are : AreCounts refused ledger cube)
+    → IsCubeOfAll (map (counted_by are.cells.has.number (length ledger.schema.text_places)) (all_facts ledger.accounts))
+    cube
+counts-all refused ledger cube are =
+    IsCubeOfAll-HasFacts ledger.schema (all_facts ledger.accounts) cube are.cells.schema are.cells.has
 
 -- cells with the same facts count them too
 pub counts-cells : (refused ledger : LedgerView) (cube cells : Lattice) → AreCounts refused ledger cube
-    → cells.schema ≡ ledger.schema → IsCubeOfAll (all_facts ledger.accounts) cells → AreCounts refused ledger cells
-counts-cells refused ledger cube cells are schema all = record {
-  noted = are.noted;
-  schema = schema;
-  fit = are.fit;
-  has = record { cells = all.cells; facts_are = all.facts_are };
-}
+    → HaveFactsOf ledger cells → AreCounts refused ledger cells
+counts-cells refused ledger cube cells are has = record { noted = are.noted; cells = has }
 
 -- a ledger has its own refusals without its facts
 pub refused_without : (now ledger : LedgerView) → now ≡ ledger_without_facts ledger → AreRefusedOf now ledger
@@ -62,20 +57,16 @@ refused_without now ledger forgotten =
 -- what has the refusals of a ledger has the counts of its facts
 pub counts-new : (refused ledger seen : LedgerView) (cube : Lattice) → AreRefusedOf refused ledger
     → seen ≡ ledger → HaveFactsOf ledger cube → AreCounts refused seen cube
-counts-new refused ledger seen cube refusals same has = rw same (record {
-  noted = refusals;
-  schema = has.schema;
-  fit = subst (λ (s : Layout). AllFit s (all_facts ledger.accounts)) has.schema has.facts.fit;
-  has = record { cells = has.facts.cells; facts_are = has.facts.facts_are };
-})
+counts-new refused ledger seen cube refusals same has = rw same (record { noted = refusals; cells = has })
 
 -- finest cells with the facts of counts have those of their ledger
 pub finest-has : (refused ledger : LedgerView) (cube cells : Lattice) → AreCounts refused ledger cube
     → cells.schema ≡ cube.schema → ((facts : List Fact) → IsCubeOfAll facts cube → IsCubeOfAll facts cells)
     → HaveFactsOf ledger cells
 finest-has refused ledger cube cells are schema facts = record {
-  schema = schema ∙ are.schema;
-  facts = facts (all_facts ledger.accounts) (counts-all refused ledger cube are);
+  schema = schema ∙ are.cells.schema;
+  has = HasFacts-IsCubeOfAll ledger.schema (all_facts ledger.accounts) cube cells are.cells.has
+      (facts _ (counts-all refused ledger cube are));
 }
 
 -- so they are what was taken
@@ -83,8 +74,10 @@ pub finest-taken : (refused ledger counted : LedgerView) (cube cells : Lattice) 
     → AreCounts refused ledger cube → HaveFactsOf ledger cells → ledger ≡ counted
     → number ≡ length (all_facts counted.accounts) → IsTaken refused ledger cells number
 finest-taken refused ledger counted cube cells number are has same number_is = record {
-  are = counts-cells refused ledger cube cells are has.schema has.facts;
-  number = number_is ∙ ap (λ (l : LedgerView). length (all_facts l.accounts)) (sym same) ∙ sym has.facts.facts_are;
+  are = counts-cells refused ledger cube cells are has;
+  number =
+      number_is ∙ ap (λ (l : LedgerView). length (all_facts l.accounts)) (sym same)
+      ∙ sym (HasFacts-facts ledger.schema (all_facts ledger.accounts) cells has.has);
 }
 
 -- ---- a part that was taken
@@ -200,16 +193,16 @@ gathered-one s sources gatherers parts =
 pub filled-from : (finest counts : BuilderView) (s : Layout) (fresh filled : Lattice)
     → counts.ledger ≡ finest.ledger → counts.cube ≡ filled → s ≡ finest.ledger.schema
     → IsNewLattice s (sets_of_part 0 1 s.grouping_sets) fresh → SameSets fresh filled
-    → IsCubeOfAll (all_facts finest.ledger.accounts) filled → AreFilledFrom finest counts
-filled-from finest counts s fresh filled kept there schema new same all = record {
+    → HasFacts finest.ledger.schema (all_facts finest.ledger.accounts) filled → AreFilledFrom finest counts
+filled-from finest counts s fresh filled kept there schema new same has = record {
   ledger = kept;
   over = record {
-    schema = ap (λ (l : Lattice). l.schema) there ∙ same.schema ∙ new.schema_is ∙ schema;
+    schema = ap (λ (l : Lattice). l.schema) there ∙ same.schema ∙ new.schema_is ∙ ap cube_schema schema;
     sets =
         ap (λ (l : Lattice). l.sets) there ∙ same.sets ∙ new.sets_are
         ∙ ap (λ (l : Layout). sets_of_part 0 1 l.grouping_sets) schema;
   };
-  has = rw there (record { cells = all.cells; facts_are = all.facts_are });
+  has = rw there has;
 }
 
 -- it is the one part of its cube
@@ -217,7 +210,7 @@ pub filled-alone : (finest counts : BuilderView) → AreFilledFrom finest counts
 filled-alone finest counts filled =
     lone-are-parts counts
     (subst (λ (l : LedgerView). IsPartOver l.schema 1 0 counts.cube) (sym filled.ledger) filled.over)
-    (subst (λ (l : LedgerView). HasFacts (all_facts l.accounts) counts.cube) (sym filled.ledger) filled.has)
+    (subst (λ (l : LedgerView). HasFacts l.schema (all_facts l.accounts) counts.cube) (sym filled.ledger) filled.has)
 
 -- and has taken the feeds
 pub builds-filled : {N : Type 0} (s : Layout) (conditions : List Condition) (sources : SourceBytes) (part : MadePart N)
@@ -236,8 +229,8 @@ builds-filled s conditions sources part built is from =
       stands = stands.stands;
       kept = filled.ledger ∙ stands.kept;
       over = subst (λ (l : Layout). IsPartOver l 1 0 from.counts.cube) schema filled.over;
-      has = subst (λ (l : LedgerView). HasFacts (all_facts l.accounts) from.counts.cube) (sym filled.ledger)
-          filled.has;
+      has = subst (λ (l : LedgerView). HasFacts l.schema (all_facts l.accounts) from.counts.cube)
+          (sym filled.ledger) filled.has;
       received = stands.received;
     } in
     record {

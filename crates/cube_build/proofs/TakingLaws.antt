@@ -1,6 +1,8 @@
 -- Builders stand further on after an item, and where they stood after none.
-use Rattle.std.proofs.Common.{◌≡◌, ℕ, List, [], ◌∷◌, ◌++◌, length, sym, ap, subst, ◌∙◌}
+use Rattle.std.proofs.Common.{◌≡◌, ℕ, List, [], ◌∷◌, ◌++◌, length, map, sym, ap, subst, ◌∙◌}
 use Rattle.cube_core.specs.Arrival.{Arrivals}
+use Rattle.cube_core.specs.Layout.{Layout}
+use Rattle.cube_core.specs.TextPlaces.{counted_by}
 use Rattle.cube_core.specs.declared.change.Item.{Item}
 use Rattle.cube_core.specs.declared.fact.Fact.{Fact}
 use Rattle.cube_cells.specs.Cube.{Lattice, SameCells, SameSets}
@@ -11,11 +13,17 @@ use Rattle.cube_build.specs.Taking.{BuilderStandsFrom}
 use Rattle.cube_build.proofs.BuilderLaws.{SameSets-trans}
 
 -- a cube whose cells count the same has the same facts
-HasFacts-SameCells : (facts : List Fact) (old new : Lattice) → SameCells old new → HasFacts facts old
-    → HasFacts facts new
-HasFacts-SameCells facts old new same has = record {
-  cells = IsCubeOf-SameCells old new facts same has.cells;
-  facts_are = same.facts ∙ has.facts_are;
+HasFacts-SameCells : (s : Layout) (facts : List Fact) (old new : Lattice) → SameCells old new → HasFacts s facts old
+    → HasFacts s facts new
+HasFacts-SameCells s facts old new same has = record {
+  schema = has.schema;
+  fit = has.fit;
+  number = has.number;
+  tells_apart = has.tells_apart;
+  counts = record {
+    cells = IsCubeOf-SameCells old new (map (counted_by has.number (length s.text_places)) facts) same has.counts.cells;
+    facts_are = same.facts ∙ has.counts.facts_are;
+  };
 }
 
 -- a builder with as many accounts as before, over the same sets
@@ -45,7 +53,7 @@ builder-same old new is first arrivals from =
       all = ap (λ (l : LedgerView). length l.accounts) ledger ∙ from.all;
       stands_at = record {
         ledger = subst (λ (l : LedgerView). LedgerStandsAt l arrivals) (sym ledger) stands.ledger;
-        cube = subst (λ (l : LedgerView). HasFacts (all_facts l.accounts) new.cube) (sym ledger)
-            (HasFacts-SameCells (all_facts old.ledger.accounts) old.cube new.cube is.cells stands.cube);
+        cube = subst (λ (l : LedgerView). HasFacts l.schema (all_facts l.accounts) new.cube) (sym ledger)
+            (HasFacts-SameCells old.ledger.schema (all_facts old.ledger.accounts) old.cube new.cube is.cells stands.cube);
       };
     }

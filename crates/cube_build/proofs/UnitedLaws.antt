@@ -7,18 +7,17 @@ use Rattle.std.proofs.lemmas.List.Elements.{All-head, All-tail, filter-append}
 use Rattle.std.proofs.lemmas.List.Sorted.{Contains-permutation, IsPermutation-sym}
 use Rattle.cube_core.specs.Arrival.{Arrivals, of_source}
 use Rattle.cube_core.specs.Conditions.{hold}
-use Rattle.cube_core.specs.Layout.{Layout}
+use Rattle.cube_core.specs.Layout.{Layout, cube_schema}
 use Rattle.cube_core.specs.declared.change.Item.{Item}
 use Rattle.cube_core.specs.declared.change.Refusal.{Refusal}
 use Rattle.cube_core.specs.declared.condition.Condition.{Condition}
 use Rattle.cube_core.specs.declared.fact.Fact.{Fact}
 use Rattle.cube_cells.specs.Cube.{Lattice}
-use Rattle.cube_cells.specs.Fill.{IsCubeOfAll}
 use Rattle.cube_ledger.specs.Book.{facts_of}
 use Rattle.cube_ledger.specs.Interest.{account_of_interest, entries_of_interest, ledger_of_interest}
 use Rattle.cube_ledger.specs.Ledger.{AccountStandsAt, AccountView, LedgerView, account_of, all_facts}
 use Rattle.cube_ledger.specs.Ledger.{AtSource, new_account, with_refusal}
-use Rattle.cube_build.specs.Builder.{BuilderView}
+use Rattle.cube_build.specs.Builder.{BuilderView, HasFacts}
 use Rattle.cube_build.specs.Counting.{AreCounts, AreRefusedOf, HaveFactsOf, IsOverFinest}
 use Rattle.cube_build.specs.Sharded.{AreCountsAt, AreMerged, AreUnitedCounts, HasRefusals, IsSharded, NoneWaits, Rise}
 use Rattle.cube_build.specs.Sharded.{ShardView, ShardedView, ShardsCameTo, books_of}
@@ -83,18 +82,18 @@ module _ (conditions : List Condition) (apart refused : LedgerView) (refusals : 
       append-nil (facts_of (books_of (ledger_of_interest conditions apart).accounts))
       ∙ facts-of-books (ledger_of_interest conditions apart).accounts
 
-  has-whole : (cube : Lattice) → HasRefusals apart.schema refusals refused → cube.schema ≡ apart.schema
-      → IsCubeOfAll (all_facts (ledger_of_interest conditions apart).accounts) cube
+  has-whole : (cube : Lattice) → HasRefusals apart.schema refusals refused → cube.schema ≡ cube_schema apart.schema
+      → HasFacts apart.schema (all_facts (ledger_of_interest conditions apart).accounts) cube
       → HaveFactsOf (united (ledger_of_interest conditions apart) refused) cube
   has-whole cube has schema facts = record {
     schema = schema;
-    facts = subst (λ (fs : List Fact). IsCubeOfAll fs cube) (sym (facts-whole has)) facts;
+    has = subst (λ (fs : List Fact). HasFacts apart.schema fs cube) (sym (facts-whole has)) facts;
   }
 
   -- the cube of the facts of interest, with the refusals
   pub united-counts : (seen : LedgerView) (cube : Lattice) → HasRefusals apart.schema refusals refused
-      → seen ≡ united (ledger_of_interest conditions apart) refused → cube.schema ≡ apart.schema
-      → IsCubeOfAll (all_facts (ledger_of_interest conditions apart).accounts) cube → AreCounts refused seen cube
+      → seen ≡ united (ledger_of_interest conditions apart) refused → cube.schema ≡ cube_schema apart.schema
+      → HasFacts apart.schema (all_facts (ledger_of_interest conditions apart).accounts) cube → AreCounts refused seen cube
   united-counts seen cube has is schema facts =
       let all = united (ledger_of_interest conditions apart) refused in
       let own : AreRefusedOf refused all = record {
@@ -107,8 +106,8 @@ module _ (conditions : List Condition) (apart refused : LedgerView) (refusals : 
 
   pub united-are : (seen : LedgerView) (cube : Lattice) (counts : BuilderView) → AreMerged apart.accounts refusals
       → HasRefusals apart.schema refusals refused → seen ≡ united (ledger_of_interest conditions apart) refused
-      → counts.ledger ≡ seen → counts.cube ≡ cube → IsOverFinest cube → cube.schema ≡ apart.schema
-      → IsCubeOfAll (all_facts (ledger_of_interest conditions apart).accounts) cube
+      → counts.ledger ≡ seen → counts.cube ≡ cube → IsOverFinest cube → cube.schema ≡ cube_schema apart.schema
+      → HasFacts apart.schema (all_facts (ledger_of_interest conditions apart).accounts) cube
       → AreUnitedCounts conditions apart counts
   united-are seen cube counts merged has is ledger same finest schema facts = record {
     refusals = refusals;

@@ -1,24 +1,28 @@
 -- The answers of the parts of a cube, part by part, and of all as the whole cube's.
-use Rattle.std.proofs.Common.{◌≡◌, ◌<◌, ◌+◌, ℕ, Bool, true, List, length, get_or, ◌++◌, arith, IsPermutation, ap, sym}
+use Rattle.std.proofs.Common.{◌≡◌, ◌<◌, ◌+◌, ℕ, Bool, true, List, length, map, get_or, ◌++◌, arith, IsPermutation, ap, sym}
 use Rattle.std.proofs.Common.{subst, ◌∙◌}
 use Rattle.std.specs.Prelude.{Option, Some, None, Result, Ok, Err, IfOk}
 use Rattle.std.specs.List.{AllZip}
 use Rattle.std.specs.List.Sorted.{IsSortedBy}
 use Rattle.std.specs.Ordering.{is_lt}
 use Rattle.cube_core.specs.GroupingSet.{sets_of_part}
-use Rattle.cube_core.specs.Layout.{Layout}
+use Rattle.cube_core.specs.Layout.{Layout, cube_schema, number_of_dimensions}
 use Rattle.cube_core.specs.Order.{key_cmp}
 use Rattle.cube_core.specs.Query.{AreRowsWhere}
+use Rattle.cube_core.specs.TextPlaces.{counted}
 use Rattle.cube_core.specs.declared.aggregate.Agg.{Agg}
 use Rattle.cube_core.specs.declared.fact.Fact.{Fact}
 use Rattle.cube_core.specs.declared.key.Key.{Key}
 use Rattle.cube_core.specs.declared.key.Row.{Row}
+use Rattle.cube_core.proofs.CubeSchemaLaws.{cube_schema-aggregates, cube_schema-dimensions, cube_schema-grouping_sets}
 use Rattle.cube_cells.specs.Count.{HasCellsOver}
 use Rattle.cube_cells.specs.Cube.{Cells, Lattice, IsCubeOf}
 use Rattle.cube_cells.specs.Rows.{AreRowsInOrder, CellsInOrder, IsRowOf, IsRowOver}
 use Rattle.cube_build.specs.Joined.{AnswersIn, AnswersInWhole, AreRowsOfWhole, HasCellsOfWhole, IsRowOfWhole}
 use Rattle.cube_build.specs.Joined.{OrdersCells}
 use Rattle.cube_build.specs.Parted.{ArePartsOf, IsPartWith}
+use Rattle.cube_build.proofs.CarriedLaws.{AreRowsWhere-carried, HasCellsOver-carried, IsRowOver-carried}
+use Rattle.cube_build.proofs.CarriedLaws.{numbered_facts}
 use Rattle.cube_build.proofs.JoinLaws.{AreRowsBelow, IsNotBelow, rows-first, rows-more, rows-all, rows-one, rows-over}
 use Rattle.cube_build.proofs.JoinLaws.{HaveCellsBelow, cells-added, cells-all-below}
 use Rattle.cube_build.proofs.JoinLaws.{over-rows, row-of-part, not-below-more, not-below-all}
@@ -34,27 +38,37 @@ part-at cube_of s facts parts part d cube are below is =
 -- its schema
 pub schema-at : {T : Type 0} (cube_of : T → Lattice) (s : Layout) (facts : List Fact) (parts : List T) (part : ℕ)
     (d : T) (cube : Lattice) → ArePartsOf cube_of s facts parts → part < length parts
-    → cube ≡ cube_of (get_or parts part d) → cube.schema ≡ s
+    → cube ≡ cube_of (get_or parts part d) → cube.schema ≡ cube_schema s
 schema-at cube_of s facts parts part d cube are below is =
     (part-at cube_of s facts parts part d cube are below is).over.schema
+
+-- what holds of its sets and its schema's dimensions and aggregates holds of those of the part
+at-schema : (s : Layout) (cube : Lattice) (sets : List ℕ) (P : List ℕ → ℕ → List Agg → Type 0)
+    → cube.schema ≡ cube_schema s → cube.sets ≡ sets
+    → P cube.sets (length cube.schema.dimensions) cube.schema.aggregates
+    → P sets (number_of_dimensions s) s.aggregates
+at-schema s cube sets P same are holds =
+    rw (are, same, cube_schema-dimensions s, cube_schema-aggregates s) at holds
 
 -- its answer
 of-part : {T : Type 0} (cube_of : T → Lattice) (test : Key → Bool) (s : Layout) (facts : List Fact) (parts : List T)
     (part : ℕ) (d : T) (cube : Lattice) (rows : List Row) → ArePartsOf cube_of s facts parts → part < length parts
     → cube ≡ cube_of (get_or parts part d) → AnswersIn test cube rows
-    → AreRowsWhere test (sets_of_part part (length parts) s.grouping_sets) (length s.dimensions) s.aggregates facts rows
+    → AreRowsWhere test (sets_of_part part (length parts) s.grouping_sets) (number_of_dimensions s) s.aggregates
+    (map (counted s) facts) rows
 of-part cube_of test s facts parts part d cube rows are below is answers =
     let at = part-at cube_of s facts parts part d cube are below is in
-    subst (λ (l : Layout). AreRowsWhere test (sets_of_part part (length parts) s.grouping_sets) (length l.dimensions)
-    l.aggregates facts rows) at.over.schema
-    (subst (λ (sets : List ℕ). AreRowsWhere test sets (length cube.schema.dimensions) cube.schema.aggregates facts rows)
-    at.over.sets (answers facts at.has.cells))
+    let numbered = numbered_facts s facts cube at.has in
+    AreRowsWhere-carried s facts cube at.has test _ _ rows
+    (at-schema s cube _ (λ sets dimensions aggregates. AreRowsWhere test sets dimensions aggregates numbered rows)
+    at.over.schema at.over.sets (answers numbered at.has.counts.cells))
 
 -- ---- the rows of all parts
 -- these are the rows of the first so many parts, in any order, whose keys pass a test
 abbrev pub AreRowsOfFirst : {T : Type 0} → (T → Lattice) → (Key → Bool) → ℕ → List T → List Row → Type 0
 AreRowsOfFirst cube_of test count parts rows = (s : Layout) (facts : List Fact) → ArePartsOf cube_of s facts parts
-    → AreRowsBelow count (length parts) test s.grouping_sets (length s.dimensions) s.aggregates facts rows
+    → AreRowsBelow count (length parts) test s.grouping_sets (number_of_dimensions s) s.aggregates
+    (map (counted s) facts) rows
 
 -- of part 0
 pub parts-first : {T : Type 0} (cube_of : T → Lattice) (test : Key → Bool) (parts : List T) (d : T) (cube : Lattice)
@@ -79,9 +93,10 @@ whole : {T : Type 0} (cube_of : T → Lattice) (test : Key → Bool) (parts : Li
     → count ≡ length parts → IsPermutation rows sorted → IsSortedBy (λ a b. is_lt (key_cmp a.key b.key)) sorted
     → AreRowsOfFirst cube_of test count parts rows → AnswersInWhole cube_of test parts sorted
 whole cube_of test parts count rows sorted all same order first = λ s facts are.
-    rows-all (length parts) test s.grouping_sets (length s.dimensions) s.aggregates facts rows sorted are.some
-    (subst (λ (n : ℕ). AreRowsBelow n (length parts) test s.grouping_sets (length s.dimensions) s.aggregates facts rows)
-    all (first s facts are)) same order
+    rows-all (length parts) test s.grouping_sets (number_of_dimensions s) s.aggregates (map (counted s) facts) rows
+    sorted are.some
+    (subst (λ (n : ℕ). AreRowsBelow n (length parts) test s.grouping_sets (number_of_dimensions s) s.aggregates
+    (map (counted s) facts) rows) all (first s facts are)) same order
 
 pub parts-all : {T V E : Type 0} (cube_of : T → Lattice) (items : V → List Row) (r : Result V E) (test : Key → Bool)
     (parts : List T) (count : ℕ) (rows : List Row) → count ≡ length parts
@@ -99,8 +114,8 @@ pub parts-alone : {T : Type 0} (cube_of : T → Lattice) (test : Key → Bool) (
     → AnswersInWhole cube_of test parts rows
 parts-alone cube_of test parts d cube rows one is answers = λ s facts are.
     rows-one test _ _ _ _ rows
-    (subst (λ (n : ℕ). AreRowsWhere test (sets_of_part 0 n s.grouping_sets) (length s.dimensions) s.aggregates facts
-    rows) one (of-part cube_of test s facts parts 0 d cube rows are (omega (arith, one)) is answers))
+    (subst (λ (n : ℕ). AreRowsWhere test (sets_of_part 0 n s.grouping_sets) (number_of_dimensions s) s.aggregates
+    (map (counted s) facts) rows) one (of-part cube_of test s facts parts 0 d cube rows are (omega (arith, one)) is answers))
 
 -- ---- the cells of all parts
 -- the rows of a cube are those of all its keys
@@ -123,6 +138,7 @@ pub aggregates-at : {T : Type 0} (cube_of : T → Lattice) (s : Layout) (facts :
     → o.aggregates ≡ s.aggregates
 aggregates-at cube_of s facts parts part d cube o same are below is =
     same ∙ ap (λ (l : Layout). l.aggregates) (schema-at cube_of s facts parts part d cube are below is)
+    ∙ cube_schema-aggregates s
 
 -- the cells of part 0
 pub cells-first : {T : Type 0} (cube_of : T → Lattice) (parts : List T) (d : T) (cube : Lattice) (o : CellsInOrder)
@@ -183,7 +199,7 @@ cells-alone cube_of parts d cube o one is orders rows in_order = over-whole cube
 -- the first so many parts have so many cells
 abbrev pub HaveCellsOfFirst : {T : Type 0} → (T → Lattice) → ℕ → List T → ℕ → Type 0
 HaveCellsOfFirst cube_of count parts number = (s : Layout) (facts : List Fact) → ArePartsOf cube_of s facts parts
-    → HaveCellsBelow count (length parts) s.grouping_sets (length s.dimensions) facts number
+    → HaveCellsBelow count (length parts) s.grouping_sets (number_of_dimensions s) (map (counted s) facts) number
 
 -- what counting the cells of a cube promises
 abbrev pub CountsCells : Lattice → ℕ → Type 0
@@ -196,19 +212,21 @@ pub number-more : {T : Type 0} (cube_of : T → Lattice) (parts : List T) (part 
     → HaveCellsOfFirst cube_of part parts number → HaveCellsOfFirst cube_of (part + 1) parts (number + more)
 number-more cube_of parts part d cube number more below is counts so_far = λ s facts are.
     let at = part-at cube_of s facts parts part d cube are below is in
-    cells-added part (length parts) s.grouping_sets (length s.dimensions) facts number more (so_far s facts are)
-    (subst (λ (l : Layout). HasCellsOver (sets_of_part part (length parts) s.grouping_sets) (length l.dimensions) facts
-    more) at.over.schema
-    (subst (λ (sets : List ℕ). HasCellsOver sets (length cube.schema.dimensions) facts more) at.over.sets
-    (counts facts at.has.cells)))
+    let numbered = numbered_facts s facts cube at.has in
+    cells-added part (length parts) s.grouping_sets (number_of_dimensions s) (map (counted s) facts) number more
+    (so_far s facts are)
+    (HasCellsOver-carried s facts cube at.has _ _ more
+    (at-schema s cube _ (λ sets dimensions aggregates. HasCellsOver sets dimensions numbered more)
+    at.over.schema at.over.sets (counts numbered at.has.counts.cells)))
 
 -- all of them are the whole cube's
 pub number-all : {T : Type 0} (cube_of : T → Lattice) (parts : List T) (count number : ℕ) → count ≡ length parts
     → HaveCellsOfFirst cube_of count parts number → HasCellsOfWhole cube_of parts number
 number-all cube_of parts count number all first = λ s facts are.
-    cells-all-below (length parts) s.grouping_sets (length s.dimensions) facts number are.some
-    (subst (λ (n : ℕ). HaveCellsBelow n (length parts) s.grouping_sets (length s.dimensions) facts number) all
-    (first s facts are))
+    rw (cube_schema-grouping_sets s, cube_schema-dimensions s)
+    (cells-all-below (length parts) s.grouping_sets (number_of_dimensions s) (map (counted s) facts) number are.some
+    (subst (λ (n : ℕ). HaveCellsBelow n (length parts) s.grouping_sets (number_of_dimensions s)
+    (map (counted s) facts) number) all (first s facts are)))
 
 -- ---- the row of a key
 -- what a look-up of a key in a cube promises
@@ -219,19 +237,20 @@ FindsRow cube key row = (facts : List Fact) → IsCubeOf cube facts
 -- a key has no row in any of the first so many parts
 abbrev pub HasNoRowBelow : {T : Type 0} → (T → Lattice) → ℕ → Key → List T → Type 0
 HasNoRowBelow cube_of count key parts = (s : Layout) (facts : List Fact) → ArePartsOf cube_of s facts parts
-    → IsNotBelow count (length parts) s.grouping_sets (length s.dimensions) facts key
+    → IsNotBelow count (length parts) s.grouping_sets (number_of_dimensions s) (map (counted s) facts) key
 
 -- what a look-up in a part finds
 finds-part : {T : Type 0} (cube_of : T → Lattice) (s : Layout) (facts : List Fact) (parts : List T) (part : ℕ) (d : T)
     (cube : Lattice) (key : Key) (row : Option Row) → ArePartsOf cube_of s facts parts → part < length parts
     → cube ≡ cube_of (get_or parts part d) → FindsRow cube key row
-    → IsRowOver (sets_of_part part (length parts) s.grouping_sets) (length s.dimensions) s.aggregates facts key row
+    → IsRowOver (sets_of_part part (length parts) s.grouping_sets) (number_of_dimensions s) s.aggregates
+    (map (counted s) facts) key row
 finds-part cube_of s facts parts part d cube key row are below is finds =
     let at = part-at cube_of s facts parts part d cube are below is in
-    subst (λ (l : Layout). IsRowOver (sets_of_part part (length parts) s.grouping_sets) (length l.dimensions)
-    l.aggregates facts key row) at.over.schema
-    (subst (λ (sets : List ℕ). IsRowOver sets (length cube.schema.dimensions) cube.schema.aggregates facts key row)
-    at.over.sets (finds facts at.has.cells))
+    let numbered = numbered_facts s facts cube at.has in
+    IsRowOver-carried s facts cube at.has _ _ key row
+    (at-schema s cube _ (λ sets dimensions aggregates. IsRowOver sets dimensions aggregates numbered key row)
+    at.over.schema at.over.sets (finds numbered at.has.counts.cells))
 
 -- a row that is found in a part
 pub row-found : {T : Type 0} (cube_of : T → Lattice) (parts : List T) (part : ℕ) (d : T) (cube : Lattice) (key : Key)
@@ -254,5 +273,5 @@ pub no-row : {T : Type 0} (cube_of : T → Lattice) (parts : List T) (count : �
     → HasNoRowBelow cube_of count key parts → IsRowOfWhole cube_of key parts None
 no-row cube_of parts count key all none = λ s facts are.
     not-below-all (length parts) _ _ _ key are.some
-    (subst (λ (n : ℕ). IsNotBelow n (length parts) s.grouping_sets (length s.dimensions) facts key) all
-    (none s facts are))
+    (subst (λ (n : ℕ). IsNotBelow n (length parts) s.grouping_sets (number_of_dimensions s) (map (counted s) facts) key)
+    all (none s facts are))

@@ -11,4 +11,4 @@ use Rattle.cube_ledger.specs.Ledger.{all_facts}
 pub record BuildsWhole (s : Layout) (sources : SourceBytes) (builder : BuilderView) : Type 0 where
   pub ledger : Builds s sources builder.ledger
   pub sets : builder.cube.sets ≡ s.grouping_sets
-  pub cube : HasFacts (all_facts builder.ledger.accounts) builder.cube
+  pub cube : HasFacts builder.ledger.schema (all_facts builder.ledger.accounts) builder.cube

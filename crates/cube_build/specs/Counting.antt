@@ -4,7 +4,7 @@ use Rattle.std.specs.Prelude.{get_or, replicate, slice_set, All}
 use Rattle.std.specs.List.{fold}
 use Rattle.cube_core.specs.Arrival.{Arrivals}
 use Rattle.cube_core.specs.Conditions.{of_interest}
-use Rattle.cube_core.specs.Layout.{Layout}
+use Rattle.cube_core.specs.Layout.{IsSchema, Layout, cube_schema}
 use Rattle.cube_core.specs.Refusals.{code_of_fault}
 use Rattle.cube_core.specs.Takes.{fits}
 use Rattle.cube_core.specs.declared.change.Item.{Item}
@@ -13,12 +13,12 @@ use Rattle.cube_core.specs.declared.change.Refusal.{Refusal}
 use Rattle.cube_core.specs.declared.condition.Condition.{Condition}
 use Rattle.cube_core.specs.declared.fact.Fact.{Fact}
 use Rattle.cube_cells.specs.Cube.{Lattice}
-use Rattle.cube_cells.specs.Fill.{IsCubeOfAll, finest_set}
+use Rattle.cube_cells.specs.Fill.{finest_set}
 use Rattle.cube_ledger.specs.Book.{IsBook}
 use Rattle.cube_ledger.specs.Interest.{ledger_of_interest}
 use Rattle.cube_ledger.specs.Ledger.{AccountView, AllFit, AtSource, Enters, LedgerStandsAt, LedgerView, account_of}
 use Rattle.cube_ledger.specs.Ledger.{all_facts, new_account, with_refusal}
-use Rattle.cube_build.specs.Builder.{BuilderView, GainsFacts, HasFacts}
+use Rattle.cube_build.specs.Builder.{BuilderView, CountsFacts, GainsFacts, HasFacts}
 use Rattle.cube_build.specs.Parted.{IsPartOver}
 
 -- how much an id weighs: numbers in decimal weigh the more the greater they are
@@ -71,11 +71,11 @@ AreWeighed weights accounts = (place : ℕ) → place < length accounts
 abbrev pub IsOverFinest : Lattice → Type 0
 IsOverFinest cube = cube.sets ≡ finest_set (length cube.schema.dimensions) ∷ []
 
--- a cube over the finest set has the facts of interest of a ledger, which fit, and no id weighs too much
+-- a cube over the finest set counts the facts of interest of a ledger, which fit, and no id weighs too much
 pub record IsCounted (conditions : List Condition) (ledger : LedgerView) (weights : List ℕ) (cube : Lattice)
     : Type 0 where
   pub fit : AllFit ledger.schema (of_interest conditions (all_facts ledger.accounts))
-  pub has : HasFacts (of_interest conditions (all_facts ledger.accounts)) cube
+  pub counts : CountsFacts (of_interest conditions (all_facts ledger.accounts)) cube
   pub sets : IsOverFinest cube
   pub weighed : AreWeighed weights ledger.accounts
 
@@ -84,11 +84,17 @@ pub record AreRefusedOf (refused ledger : LedgerView) : Type 0 where
   pub schema : refused.schema ≡ ledger.schema
   pub refusals : refusals_in refused ≡ refusals_in ledger
 
--- what is true of every counter: its refusals are those of its ledger, and so are its facts of interest, unless memory ran
--- out
+-- a schema counts no text
+pub record CountsNoText (s : Layout) : Type 0 where
+  pub schema : IsSchema s
+  pub none : s.text_places ≡ []
+
+-- what is true of every counter: its schema counts no text, its refusals are those of its ledger, and so are its facts of
+-- interest, unless memory ran out
 pub record IsCounter (is_spent : Bool) (conditions : List Condition) (refused ledger : LedgerView) (weights : List ℕ)
     (cube : Lattice) : Type 0 where
   pub noted : AreRefusedOf refused ledger
+  pub plain : CountsNoText ledger.schema
   pub schema : cube.schema ≡ ledger.schema
   pub long : length weights ≡ length ledger.accounts
   pub counted : is_spent ≡ false → IsCounted conditions ledger weights cube
@@ -117,17 +123,15 @@ pub record IsNewCounter (s : Layout) (sources : ℕ) (conditions : List Conditio
   pub schema : counter.ledger.schema ≡ s
   pub accounts : counter.ledger.accounts ≡ replicate sources new_account
 
--- what is true of all that a run counted: the cube has the facts of the ledger, which fit, and the refusals are its own
+-- cells have the facts of a ledger, under the schema of its cube
+pub record HaveFactsOf (ledger : LedgerView) (cells : Lattice) : Type 0 where
+  pub schema : cells.schema ≡ cube_schema ledger.schema
+  pub has : HasFacts ledger.schema (all_facts ledger.accounts) cells
+
+-- what is true of all that a run counted: the cube has the facts of the ledger, and the refusals are its own
 pub record AreCounts (refused ledger : LedgerView) (cube : Lattice) : Type 0 where
   pub noted : AreRefusedOf refused ledger
-  pub schema : cube.schema ≡ ledger.schema
-  pub fit : AllFit ledger.schema (all_facts ledger.accounts)
-  pub has : HasFacts (all_facts ledger.accounts) cube
-
--- cells have the facts of a ledger, which fit, under its schema
-pub record HaveFactsOf (ledger : LedgerView) (cells : Lattice) : Type 0 where
-  pub schema : cells.schema ≡ ledger.schema
-  pub facts : IsCubeOfAll (all_facts ledger.accounts) cells
+  pub cells : HaveFactsOf ledger cube
 
 -- these are the counts of a ledger over the finest grouping set alone
 pub record AreFinestCounts (ledger : LedgerView) (counts : BuilderView) : Type 0 where
@@ -144,7 +148,7 @@ pub record AreCountsOf (counter : CounterView) (counts : BuilderView) : Type 0 w
 pub record AreFilledFrom (finest counts : BuilderView) : Type 0 where
   pub ledger : counts.ledger ≡ finest.ledger
   pub over : IsPartOver finest.ledger.schema 1 0 counts.cube
-  pub has : HasFacts (all_facts finest.ledger.accounts) counts.cube
+  pub has : HasFacts finest.ledger.schema (all_facts finest.ledger.accounts) counts.cube
 
 -- one counter of so many sources that has taken nothing
 pub record IsOneCounter (s : Layout) (sources : ℕ) (conditions : List Condition) (counters : List CounterView)

@@ -2,9 +2,9 @@
 use Rattle.std.specs.Prelude.{◌≡◌, ◌<◌, ◌∷◌, ℕ, List, [], flat_map, length, slice_index_or}
 use Rattle.std.specs.Global.{Vec}
 use Rattle.cube_core.specs.Arrival.{Arrivals}
-use Rattle.cube_core.specs.Layout.{Layout}
+use Rattle.cube_core.specs.Layout.{Layout, cube_schema}
 use Rattle.cube_cells.specs.Cube.{Lattice, SameSets}
-use Rattle.cube_build.specs.Builder.{BuilderView, HasFacts}
+use Rattle.cube_build.specs.Builder.{BuilderView, CountsFacts, HasFacts}
 use Rattle.cube_ledger.specs.Ledger.{LedgerView, LedgerStandsAt, all_facts}
 use Rattle.cube_build.specs.Parted.{IsPartOver}
 use Rattle.cube_rings.specs.declared.gatherer.Gatherer.{Gatherer}
@@ -15,10 +15,10 @@ pub record DraftView : Type 0 where
   pub ledger : LedgerView
   pub cube : Lattice
 
--- what is true of every draft: its cube is of the ledger's schema, and has no fact
+-- what is true of every draft: its cube is under the schema of the ledger's cube, and has no fact
 pub record IsDraft (ledger : LedgerView) (cube : Lattice) : Type 0 where
-  pub schema : cube.schema ≡ ledger.schema
-  pub empty : HasFacts [] cube
+  pub schema : cube.schema ≡ cube_schema ledger.schema
+  pub empty : CountsFacts [] cube
 
 -- the ledger of a draft stands at an arrival list,
 -- with the schema and as many accounts as at first, and the cube is as it was
@@ -58,7 +58,7 @@ pub record IsDrafted (s : Layout) (whole : Gatherer (Vec LedgerView)) (gatherers
 pub record IsMadeOf (draft : DraftView) (builder : BuilderView) : Type 0 where
   pub ledger : builder.ledger ≡ draft.ledger
   pub same : SameSets draft.cube builder.cube
-  pub has : HasFacts (all_facts draft.ledger.accounts) builder.cube
+  pub has : HasFacts draft.ledger.schema (all_facts draft.ledger.accounts) builder.cube
 
 -- a part was made of what was fed to its draft:
 -- its builder is made of the draft, and has the links by which the feeds came

@@ -37,7 +37,7 @@ pub record PartStandsWhere (s : Layout) (conditions : List Condition) (sources p
   pub stands : LedgerStandsAt whole arrivals
   pub kept : builder.ledger ≡ ledger_of_interest conditions whole
   pub over : IsPartOver s parts part builder.cube
-  pub has : HasFacts (all_facts builder.ledger.accounts) builder.cube
+  pub has : HasFacts builder.ledger.schema (all_facts builder.ledger.accounts) builder.cube
   pub received : HasReceived sources arrivals inlets
 
 -- so many builders have the facts of interest of ledgers that stand at one arrival list of so many sources, each over

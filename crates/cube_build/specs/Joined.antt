@@ -1,8 +1,9 @@
 -- What is asked of the cubes of all parts, and answered as the whole cube would answer it (this project's choice).
-use Rattle.std.specs.Prelude.{◌≡◌, ◌<◌, ℕ, Bool, List, length, get_or, Option}
+use Rattle.std.specs.Prelude.{◌≡◌, ◌<◌, ℕ, Bool, List, length, get_or, map, Option}
 use Rattle.cube_core.specs.Cube.{AreRows, AreRowsOver}
-use Rattle.cube_core.specs.Layout.{Layout}
+use Rattle.cube_core.specs.Layout.{Layout, cube_schema, number_of_dimensions}
 use Rattle.cube_core.specs.Query.{AreRowsWhere}
+use Rattle.cube_core.specs.TextPlaces.{counted}
 use Rattle.cube_core.specs.declared.fact.Fact.{Fact}
 use Rattle.cube_core.specs.declared.key.Key.{Key}
 use Rattle.cube_core.specs.declared.key.Row.{Row}
@@ -48,14 +49,14 @@ AreRowsOfWhole cube_of parts rows =
 -- these are those of them whose keys pass a test
 abbrev pub AnswersInWhole : {Holder : Type 0} → (Holder → Lattice) → (Key → Bool) → List Holder → List Row → Type 0
 AnswersInWhole cube_of test parts rows = (s : Layout) (facts : List Fact) → ArePartsOf cube_of s facts parts
-    → AreRowsWhere test s.grouping_sets (length s.dimensions) s.aggregates facts rows
+    → AreRowsWhere test s.grouping_sets (number_of_dimensions s) s.aggregates (map (counted s) facts) rows
 
 -- this is the row of a key of the whole cube that these are the parts of, or none where the key is no cell
 abbrev pub IsRowOfWhole : {Holder : Type 0} → (Holder → Lattice) → Key → List Holder → Option Row → Type 0
 IsRowOfWhole cube_of key parts row = (s : Layout) (facts : List Fact) → ArePartsOf cube_of s facts parts
-    → IsRowOver s.grouping_sets (length s.dimensions) s.aggregates facts key row
+    → IsRowOver s.grouping_sets (number_of_dimensions s) s.aggregates (map (counted s) facts) key row
 
 -- the whole cube that these are the parts of has so many cells
 abbrev pub HasCellsOfWhole : {Holder : Type 0} → (Holder → Lattice) → List Holder → ℕ → Type 0
-HasCellsOfWhole cube_of parts number =
-    (s : Layout) (facts : List Fact) → ArePartsOf cube_of s facts parts → HasCells s facts number
+HasCellsOfWhole cube_of parts number = (s : Layout) (facts : List Fact) → ArePartsOf cube_of s facts parts
+    → HasCells (cube_schema s) (map (counted s) facts) number

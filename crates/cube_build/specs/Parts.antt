@@ -1,10 +1,11 @@
 -- The builders of a run, each over its part of the schema's grouping sets (this project's choice).
-use Rattle.std.specs.Prelude.{◌≡◌, ◌<◌, ℕ, Bool, List, [], ◌∷◌, length, slice_index_or, Option, None}
+use Rattle.std.specs.Prelude.{◌≡◌, ◌<◌, ℕ, Bool, List, [], ◌∷◌, length, map, slice_index_or, Option, None}
 use Rattle.cube_core.specs.Arrival.{Arrivals}
-use Rattle.cube_core.specs.Layout.{Layout}
+use Rattle.cube_core.specs.Layout.{Layout, number_of_dimensions}
 use Rattle.cube_core.specs.Query.{AreRowsWhere}
 use Rattle.cube_core.specs.Run.{SourceBytes, AreGood, AreTaken}
 use Rattle.cube_core.specs.Shard.{whole_feed}
+use Rattle.cube_core.specs.TextPlaces.{counted}
 use Rattle.cube_core.specs.declared.fact.Fact.{Fact}
 use Rattle.cube_core.specs.declared.key.Key.{Key}
 use Rattle.cube_core.specs.declared.key.Row.{Row}
@@ -38,6 +39,7 @@ no_ledger = record {
     max_record_bytes = None;
     columns = None;
     decimals = [];
+    text_places = [];
   };
   accounts = [];
 }
@@ -55,6 +57,10 @@ schema_of_run built = (first_ledger built.builders).schema
 abbrev pub facts_of_run : BuiltView → List Fact
 facts_of_run built = all_facts (first_ledger built.builders).accounts
 
+-- the same as the cube of the schema counts them
+abbrev pub counted_of_run : BuiltView → List Fact
+counted_of_run built = map (counted (schema_of_run built)) (facts_of_run built)
+
 -- what is true of the builders of a run:
 -- there is one, and the cube of each is the part of its place of the cube of the facts in builder 0's books
 abbrev pub AreParts : List BuilderView → Type 0
@@ -64,14 +70,14 @@ AreParts builders = ArePartsOf (λ builder. builder.cube) (first_ledger builders
 -- these are the rows of the cube of a run's facts, over all grouping sets of its schema, whose keys pass a test
 abbrev pub AreRowsOfRun : (Key → Bool) → BuiltView → List Row → Type 0
 AreRowsOfRun test built rows =
-    AreRowsWhere test (schema_of_run built).grouping_sets (length (schema_of_run built).dimensions)
-    (schema_of_run built).aggregates (facts_of_run built) rows
+    AreRowsWhere test (schema_of_run built).grouping_sets (number_of_dimensions (schema_of_run built))
+    (schema_of_run built).aggregates (counted_of_run built) rows
 
 -- the row of a key of the cube of a run's facts, over all grouping sets of its schema, or none where the key is no cell
 abbrev pub IsRowOfRun : Key → BuiltView → Option Row → Type 0
 IsRowOfRun key built row =
-    IsRowOver (schema_of_run built).grouping_sets (length (schema_of_run built).dimensions)
-    (schema_of_run built).aggregates (facts_of_run built) key row
+    IsRowOver (schema_of_run built).grouping_sets (number_of_dimensions (schema_of_run built))
+    (schema_of_run built).aggregates (counted_of_run built) key row
 
 -- the builder of a part stands at an arrival list of so many sources, over the part's grouping sets, and from each link
 -- were received a line for each item of its source, and then the end. Where a builder stands is told by what the list

@@ -23,8 +23,8 @@ pub record TakenView : Type 0 where
   pub cells : Lattice
   pub inlets : List (Receiving Parcel)
 
--- what is true of all that one builder took: the cells have the facts of the ledger, which fit, and so many, and the
--- refusals are its own
+-- what is true of all that one builder took: the cells have the facts of the ledger, and so many, and the refusals are its
+-- own
 pub record IsTaken (refused ledger : LedgerView) (cells : Lattice) (facts : ℕ) : Type 0 where
   pub are : AreCounts refused ledger cells
   pub number : facts ≡ cells.facts

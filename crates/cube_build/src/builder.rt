@@ -2,15 +2,16 @@
 ghost use Rattle.std.specs.Prelude.{ℕ, ◌≡◌, ◌≤◌, ◌<◌, ◌+◌, ◌^◌, ◌++◌, ◌∷◌, [], None, Option, Some, false, true, length, IfOk, OnOk, OnErr};
 ghost use Rattle.cube_core.specs.Arrival.{Arrivals};
 ghost use Rattle.cube_core.specs.GroupingSet.{sets_of_part};
+ghost use Rattle.cube_core.specs.Layout.{cube_schema};
 ghost use Rattle.cube_core.specs.Takes.{fits};
 ghost use Rattle.cube_core.specs.declared.fact.Fact.{Fact as TheFact};
 ghost use Rattle.cube_cells.specs.Cube.{SameSets};
-ghost use Rattle.cube_build.specs.Builder.{HasFacts, IsBuilder, SameBuilder, StandsAt};
+ghost use Rattle.cube_build.specs.Builder.{CountsFacts, HasFacts, IsBuilder, SameBuilder, StandsAt};
 ghost use Rattle.cube_ledger.specs.Ledger.{AllFit, AtSource, Enters, Exchanges, IsRemoval, account_of, all_facts, code_in};
 
-use crate::fill::{fill_cube, fill_cube_with};
+use crate::fill::counted_for;
 use crate::joined::HoldsCube;
-use cube_cells::Cube;
+use cube_cells::{CountedCube, Cube};
 use cube_core::{Fact, Item, Refusal, Schema, Text};
 use cube_ledger::{Ledger, Ruling};
 use std::alloc::{AllocError, Global};
@@ -24,7 +25,7 @@ use std::thread::Threads;
 #[derive(Drop)]
 pub struct Builder {
     ledger: Ledger,
-    cube: Cube,
+    cube: CountedCube,
 }
 
 impl Model for Builder {
@@ -32,7 +33,7 @@ impl Model for Builder {
 
     ghost Value = { BuilderView };
 
-    ghost view = { λ b. record { ledger = b.ledger; cube = b.cube } };
+    ghost view = { λ b. record { ledger = b.ledger; cube = b.cube.cube } };
 
     ghost invariant = { λ b. IsBuilder b.ledger b.cube };
 }
@@ -41,7 +42,7 @@ impl HoldsCube for Builder {
     ghost lattice = { λ b. b.cube };
 
     fn held(&self) -> &Cube {
-        &self.cube
+        self.cube.cube()
     }
 }
 
@@ -77,20 +78,24 @@ impl Builder {
     {
         let ledger = Ledger::new(alloc, schema, sources)?;
         let cube = Cube::new_part(alloc, schema, part, of)?;
+        let cube = counted_for(alloc, schema, cube);
         Ok(Builder { ledger, cube })
     }
 
     /// The builder of a ledger, whose cube is filled with the facts of all its books; `cube` has no fact yet. The
     /// only error is that memory ran out, or of numbers to count the facts with.
-    pub fn of(ledger: Ledger, cube: Cube) -> Result<Builder, AllocError>
-        requires schema { cube.schema ≡ ledger.schema }
-        requires empty { HasFacts [] cube }
+    pub fn of(alloc: Global, ledger: Ledger, cube: Cube) -> Result<Builder, AllocError>
+        requires schema { cube.schema ≡ cube_schema ledger.schema }
+        requires empty { CountsFacts [] cube }
         ensures ledger { IfOk result (λ builder. builder.ledger ≡ ledger) }
         ensures same { IfOk result (λ builder. SameSets cube builder.cube) }
-        ensures has { IfOk result (λ builder. HasFacts (all_facts ledger.accounts) builder.cube) }
+        ensures has { IfOk result (λ builder.
+            HasFacts ledger.schema (all_facts ledger.accounts) builder.cube) }
     {
-        let mut cube = cube;
-        fill_cube(&mut cube, &ledger)?;
+        let mut cube = counted_for(alloc, ledger.schema(), cube);
+        let facts = ledger.facts()?;
+        cube.fill(&facts)?;
+        drop(facts);
         Ok(Builder { ledger, cube })
     }
 
@@ -136,7 +141,8 @@ impl Builder {
         ensures put { OnOk result ((gone : Option TheFact) ×
             AtSource (Exchanges id gone (Some fact)) source self.old.ledger self.new.ledger) }
         ensures same { OnOk result (SameSets self.old.cube self.new.cube) }
-        ensures has { OnOk result (HasFacts (all_facts self.new.ledger.accounts) self.new.cube) }
+        ensures has { OnOk result
+            (HasFacts self.new.ledger.schema (all_facts self.new.ledger.accounts) self.new.cube) }
         ensures err { OnErr result (SameBuilder self.old self.new) }
     {
         self.cube.add(&fact)?;
@@ -162,7 +168,7 @@ impl Builder {
         ensures take { (gone : Option TheFact) ×
             AtSource (Exchanges id.now gone None) source self.old.ledger self.new.ledger }
         ensures same { SameSets self.old.cube self.new.cube }
-        ensures has { HasFacts (all_facts self.new.ledger.accounts) self.new.cube }
+        ensures has { HasFacts self.new.ledger.schema (all_facts self.new.ledger.accounts) self.new.cube }
     {
         match self.ledger.take(source, id) {
             Some(taken) => {
@@ -179,18 +185,22 @@ impl Builder {
     /// threads as this says. With one thread, or none, no thread is started.
     pub fn of_with<T: Threads + Sync>(
         rt: &T,
+        alloc: Global,
         threads: usize,
         ledger: Ledger,
         cube: Cube,
     ) -> Result<Builder, AllocError>
-        requires schema { cube.schema ≡ ledger.schema }
-        requires empty { HasFacts [] cube }
+        requires schema { cube.schema ≡ cube_schema ledger.schema }
+        requires empty { CountsFacts [] cube }
         ensures ledger { IfOk result (λ builder. builder.ledger ≡ ledger) }
         ensures same { IfOk result (λ builder. SameSets cube builder.cube) }
-        ensures has { IfOk result (λ builder. HasFacts (all_facts ledger.accounts) builder.cube) }
+        ensures has { IfOk result (λ builder.
+            HasFacts ledger.schema (all_facts ledger.accounts) builder.cube) }
     {
-        let mut cube = cube;
-        fill_cube_with(rt, threads, &mut cube, &ledger)?;
+        let mut cube = counted_for(alloc, ledger.schema(), cube);
+        let facts = ledger.facts()?;
+        cube.fill_with(rt, threads, &facts)?;
+        drop(facts);
         Ok(Builder { ledger, cube })
     }
 
@@ -198,9 +208,11 @@ impl Builder {
     pub(crate) fn into_parts(self) -> (Ledger, Cube)
         ensures ledger { result.0 ≡ self.ledger }
         ensures cube { result.1 ≡ self.cube }
-        ensures is { IsBuilder self.ledger self.cube }
+        ensures schema { self.cube.schema ≡ cube_schema self.ledger.schema }
+        ensures has { HasFacts self.ledger.schema (all_facts self.ledger.accounts) self.cube }
     {
-        (self.ledger, self.cube)
+        let (_, cube) = self.cube.into_parts();
+        (self.ledger, cube)
     }
 }
 
@@ -217,24 +229,24 @@ impl Builder {
         ensures books { result ≡ length (all_facts self.now.ledger.accounts) }
         ensures cube { result ≡ self.now.cube.facts }
     {
-        self.cube.facts()
+        self.cube.cube().facts()
     }
 
     /// Whether a refused growth has spoilt the builder: never.
     pub fn is_spent(&self) -> bool
         ensures { result ≡ false }
     {
-        self.cube.is_spent()
+        self.cube.cube().is_spent()
     }
 
     /// The cube of the facts that are present in the books of all sources.
     pub fn cube(&self) -> &Cube
         ensures cube { result.now ≡ self.now.cube }
-        ensures has { HasFacts (all_facts self.now.ledger.accounts) result.now }
+        ensures has { HasFacts self.now.ledger.schema (all_facts self.now.ledger.accounts) result.now }
         ensures fit { AllFit self.now.ledger.schema (all_facts self.now.ledger.accounts) }
-        ensures schema { result.now.schema ≡ self.now.ledger.schema }
+        ensures schema { result.now.schema ≡ cube_schema self.now.ledger.schema }
     {
-        &self.cube
+        self.cube.cube()
     }
 
     /// The books and the refusals of all sources.

@@ -1,11 +1,12 @@
 //! The builders of a run, with the links by which the feeds came, and queries of all their cubes.
 ghost use Rattle.std.specs.Prelude.{◌≡◌, ◌<◌, [], List, length, map, slice_index_or, IfOk};
 ghost use Rattle.cube_core.specs.Cube.{AreRows};
+ghost use Rattle.cube_core.specs.Layout.{cube_schema, number_of_dimensions};
 ghost use Rattle.cube_core.specs.Query.{matches, drills_down, drill_fault, rolled_up};
 ghost use Rattle.cube_core.specs.declared.key.Row.{Row};
 ghost use Rattle.cube_cells.specs.Count.{HasCells};
 ghost use Rattle.cube_cells.specs.Rows.{AreRowsInOrder, GivesUnless};
-ghost use Rattle.cube_build.specs.Parts.{AreParts, AreRowsOfRun, IsRowOfRun, schema_of_run, facts_of_run};
+ghost use Rattle.cube_build.specs.Parts.{AreParts, AreRowsOfRun, IsRowOfRun, counted_of_run, schema_of_run, facts_of_run};
 
 use crate::counts::Counts;
 use crate::joined::{DrillDown, Slice, count_parts, ordered_parts, row_above, rows_of_parts};
@@ -86,7 +87,8 @@ impl Built {
 
     /// How many cells the cube has. The only error is that numbers to count them with ran out.
     pub fn count_cells(&self) -> Result<u64, AllocError>
-        ensures { IfOk result (HasCells (schema_of_run self.now) (facts_of_run self.now)) }
+        ensures { IfOk result
+            (HasCells (cube_schema (schema_of_run self.now)) (counted_of_run self.now)) }
     {
         count_parts(self.builders())
     }
@@ -110,8 +112,8 @@ impl Built {
     /// The row of a key with ALL in a dimension, counted from 0, by a look-up in each part; `None` exactly where that is
     /// no cell, as where its grouping set isn't one of the schema's. The only error is that memory ran out.
     pub fn roll_up(&self, key: &Key, dim: usize) -> Result<Option<Row>, AllocError>
-        requires dim { dim < length (schema_of_run self.now).dimensions }
-        requires width { length key.now.coords ≡ length (schema_of_run self.now).dimensions }
+        requires dim { dim < number_of_dimensions (schema_of_run self.now) }
+        requires width { length key.now.coords ≡ number_of_dimensions (schema_of_run self.now) }
         ensures { IfOk result (IsRowOfRun (rolled_up dim key.now) self.now) }
     {
         row_above(self.builders(), key, dim)
@@ -122,8 +124,8 @@ impl Built {
     /// The error is `NotRolled` exactly where the key isn't ALL in the dimension, else `NotGrouped` where the key's
     /// grouping set with the dimension isn't one of the schema's, both before any growth, else `Memory`.
     pub fn drill_down(&self, key: &Key, dim: usize) -> Result<Vec<Row>, QueryFault>
-        requires dim { dim < length (schema_of_run self.now).dimensions }
-        requires width { length key.now.coords ≡ length (schema_of_run self.now).dimensions }
+        requires dim { dim < number_of_dimensions (schema_of_run self.now) }
+        requires width { length key.now.coords ≡ number_of_dimensions (schema_of_run self.now) }
         ensures { GivesUnless (drill_fault (schema_of_run self.now).grouping_sets dim key.now)
             (λ rows. AreRowsOfRun (drills_down dim key.now) self.now rows.items) result }
     {

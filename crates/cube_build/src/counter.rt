@@ -6,7 +6,7 @@ ghost use Rattle.cube_core.specs.Takes.{fits};
 ghost use Rattle.cube_core.specs.declared.change.Change.TheVariants.{Insert};
 ghost use Rattle.cube_build.specs.Builder.{GainsFacts};
 ghost use Rattle.cube_build.specs.CounterShares.{IsJoined};
-ghost use Rattle.cube_build.specs.Counting.{Admits, AreCountsOf, CountsItem, NotesFault, IsNewCounter, IsOneCounter, weight_of, weight_with};
+ghost use Rattle.cube_build.specs.Counting.{Admits, AreCountsOf, CountsItem, CountsNoText, NotesFault, IsNewCounter, IsOneCounter, weight_of, weight_with};
 
 use crate::counts::Counts;
 use crate::trace::LedgerTrace;
@@ -20,7 +20,7 @@ use std::marker::Model;
 /// The refusals of feeds of which each record is an insert under its number, and the cube over the finest grouping set of
 /// the facts of interest, each of which is counted as it is taken, and let go.
 ///
-/// Contracts see the ledger of all that was taken. Of each source the weight of the last id is kept: where ids weigh the
+/// No text is counted of these feeds. Contracts see the ledger of all that was taken. Of each source the weight of the last id is kept: where ids weigh the
 /// more the later they come, none is there twice.
 #[derive(Drop)]
 pub(crate) struct Counter<'c, N: Numbers> {
@@ -79,7 +79,8 @@ impl<'c, N: Numbers> Counter<'c, N> {
         sources: u32,
         conditions: &'c [Condition],
     ) -> Result<Counter<'c, N>, AllocError>
-        requires { sources ≤ 64 }
+        requires sources { sources ≤ 64 }
+        requires plain { CountsNoText schema.now }
         ensures { IfOk result (IsNewCounter schema.now sources conditions.now) }
     {
         let refused = Ledger::new(alloc, schema, sources)?;
@@ -311,7 +312,8 @@ pub(crate) fn new_counters<'c, N: Numbers>(
     sources: u32,
     conditions: &'c [Condition],
 ) -> Result<Vec<Counter<'c, N>>, AllocError>
-    requires { sources ≤ 64 }
+    requires sources { sources ≤ 64 }
+    requires plain { CountsNoText schema.now }
     ensures { IfOk result (λ counters. IsOneCounter schema.now sources conditions.now counters.items) }
 {
     let counter = Counter::new(alloc, schema, sources, conditions)?;

@@ -4,6 +4,7 @@ ghost use Rattle.std.specs.List.{list_all};
 ghost use Rattle.cube_rings.specs.FeedingAll.{ExplainsFeeding};
 ghost use Rattle.cube_build.specs.CountedRun.{CountsFeeds};
 ghost use Rattle.cube_build.specs.CounterShares.{AreNewCounters, AreUnspent, IsCounterOf, IsGathererOf, MayJoin};
+ghost use Rattle.cube_build.specs.Counting.{CountsNoText};
 
 use crate::counter::Counter;
 use crate::shares::shares_of;
@@ -26,6 +27,7 @@ fn new_shares<'c, N: Numbers>(
 ) -> Result<Vec<Counter<'c, N>>, AllocError>
     requires sources { sources ≤ 64 }
     requires shares { 1 ≤ shares }
+    requires plain { CountsNoText schema.now }
     ensures { IfOk result (λ counters.
         AreNewCounters schema.now sources shares conditions.now counters.items) }
 {
@@ -103,6 +105,7 @@ pub(crate) fn feed_counters<
     conditions: &'c [Condition],
 ) -> Result<Gatherer<Counter<'c, N>>, FeedingFault>
     requires readers { (1 ≤ vec_len readers) × (vec_len readers ≤ 64) }
+    requires plain { CountsNoText schema.now }
     ensures counts { IfOk result
         (CountsFeeds schema.now conditions.now (map R.Read.remaining readers.items)) }
     ensures err { IfErr result (ExplainsFeeding schema.now (map R.Read.remaining readers.items)) }

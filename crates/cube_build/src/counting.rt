@@ -1,8 +1,8 @@
 //! Feeds that need no book, counted as they come.
-ghost use Rattle.std.specs.Prelude.{◌≡◌, ◌≤◌, map, vec_len, IfOk, IfErr};
+ghost use Rattle.std.specs.Prelude.{◌≡◌, ◌≤◌, true, map, vec_len, IfOk, IfErr};
 ghost use Rattle.cube_rings.specs.FeedingAll.{ExplainsFeeding};
 ghost use Rattle.cube_build.specs.CountedRun.{CountsFeeds};
-ghost use Rattle.cube_build.specs.Counting.{AreCountsOf};
+ghost use Rattle.cube_build.specs.Counting.{AreCountsOf, CountsNoText};
 ghost use Rattle.cube_build.specs.Taken.{IsTakenPart};
 
 use crate::counter::{Counter, new_counters};
@@ -16,11 +16,14 @@ use std::io::Read;
 use std::sync::Wait;
 use std::thread::Threads;
 
-/// Whether the feeds of a schema need no book: their columns are known by name, and there is none of ids or of operations,
-/// so each record is an insert under its number.
-pub(crate) fn need_no_book(schema: &Schema) -> bool {
+/// Whether the feeds of a schema need no book: no text is counted, their columns are known by name, and there is none of
+/// ids or of operations, so each record is an insert under its number.
+pub(crate) fn need_no_book(schema: &Schema) -> bool
+    ensures { result ≡ true → CountsNoText schema.now }
+{
+    let counts_text = !schema.text_places().is_empty();
     match schema.columns() {
-        Some(columns) => columns.id.is_none() && columns.op.is_none(),
+        Some(columns) => !counts_text && columns.id.is_none() && columns.op.is_none(),
         None => false,
     }
 }
@@ -42,6 +45,7 @@ fn feed_counter<
     conditions: &'c [Condition],
 ) -> Result<Gatherer<Counter<'c, N>>, FeedingFault>
     requires readers { (1 ≤ vec_len readers) × (vec_len readers ≤ 64) }
+    requires plain { CountsNoText schema.now }
     ensures counts { IfOk result
         (CountsFeeds schema.now conditions.now (map R.Read.remaining readers.items)) }
     ensures err { IfErr result (ExplainsFeeding schema.now (map R.Read.remaining readers.items)) }
@@ -89,6 +93,7 @@ pub(crate) fn count_where<
     conditions: &[Condition],
 ) -> Result<MadePart<N>, FeedingFault>
     requires readers { (1 ≤ vec_len readers) × (vec_len readers ≤ 64) }
+    requires plain { CountsNoText schema.now }
     ensures ok { IfOk result
         (IsTakenPart schema.now conditions.now (map R.Read.remaining readers.items)) }
     ensures err { IfErr result (ExplainsFeeding schema.now (map R.Read.remaining readers.items)) }

@@ -1,5 +1,6 @@
 //! What a run counted of its feeds.
 ghost use Rattle.std.specs.Prelude.{◌≡◌, length, IfOk};
+ghost use Rattle.cube_core.specs.Layout.{cube_schema};
 ghost use Rattle.cube_build.specs.Builder.{HasFacts};
 ghost use Rattle.cube_build.specs.Counting.{AreFilledFrom, IsOverFinest, refusals_in};
 ghost use Rattle.cube_ledger.specs.Ledger.{AllFit, all_facts};
@@ -95,12 +96,12 @@ impl<N: Numbers> Counts<N> {
         self.cube.facts()
     }
 
-    /// The cube of the facts that were counted.
+    /// The cube of the facts that were counted, under the schema of a cube of theirs.
     pub fn cube(&self) -> &Cube<N>
         ensures cube { result.now ≡ self.now.cube }
-        ensures has { HasFacts (all_facts self.now.ledger.accounts) result.now }
+        ensures has { HasFacts self.now.ledger.schema (all_facts self.now.ledger.accounts) result.now }
         ensures fit { AllFit self.now.ledger.schema (all_facts self.now.ledger.accounts) }
-        ensures schema { result.now.schema ≡ self.now.ledger.schema }
+        ensures schema { result.now.schema ≡ cube_schema self.now.ledger.schema }
     {
         &self.cube
     }

@@ -22,6 +22,7 @@ use std::thread::Threads;
 /// A ledger, and the cube that is filled with the facts of its books when all feeds have ended.
 #[derive(Drop)]
 pub(crate) struct Draft<N: Numbers> {
+    alloc: Global,
     ledger: Ledger,
     cube: Cube<N>,
 }
@@ -76,7 +77,11 @@ impl<N: Numbers> Draft<N> {
     {
         let ledger = Ledger::new(alloc, schema, sources)?;
         let cube = Cube::of_part(alloc, schema, part, parts)?;
-        Ok(Draft { ledger, cube })
+        Ok(Draft {
+            alloc,
+            ledger,
+            cube,
+        })
     }
 
     /// The draft over all grouping sets of the ledgers of shares, with their accounts in their order. The only error is
@@ -92,7 +97,11 @@ impl<N: Numbers> Draft<N> {
     {
         let ledger = put_together(alloc, schema, ledgers)?;
         let cube = Cube::of_part(alloc, schema, 0, 1)?;
-        Ok(Draft { ledger, cube })
+        Ok(Draft {
+            alloc,
+            ledger,
+            cube,
+        })
     }
 
     /// The draft of a ledger over all grouping sets of its schema. The only error is that memory ran out.
@@ -101,7 +110,11 @@ impl<N: Numbers> Draft<N> {
         ensures over { IfOk result (λ draft. IsPartOver ledger.schema 1 0 draft.cube) }
     {
         let cube = Cube::of_part(alloc, ledger.schema(), 0, 1)?;
-        Ok(Draft { ledger, cube })
+        Ok(Draft {
+            alloc,
+            ledger,
+            cube,
+        })
     }
 
     // Takes the next item of a source. The only error is that memory ran out.
@@ -131,7 +144,7 @@ impl Draft<Counted> {
     pub fn finish<T: Threads + Sync>(self, rt: &T, threads: usize) -> Result<Builder, AllocError>
         ensures { IfOk result (IsMadeOf self) }
     {
-        Builder::of_with(rt, threads, self.ledger, self.cube)
+        Builder::of_with(rt, self.alloc, threads, self.ledger, self.cube)
     }
 }
 
@@ -141,7 +154,7 @@ impl<N: Numbers + Send + Sync> Draft<N> {
     pub fn finest<T: Threads + Sync>(self, rt: &T, threads: usize) -> Result<Counts<N>, AllocError>
         ensures { IfOk result (AreFinestCounts self.ledger) }
     {
-        let cube = finest_with(rt, threads, &self.cube, &self.ledger)?;
+        let cube = finest_with(rt, self.alloc, threads, &self.cube, &self.ledger)?;
         let trace = LedgerTrace::of(&self.ledger);
         let refused = refusals_of(rt, self.ledger);
         Ok(Counts::new(refused, cube, trace))

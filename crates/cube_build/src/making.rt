@@ -31,9 +31,13 @@ fn make<T: Threads + Sync>(
         inlets,
         wanting: _,
     } = gatherer;
-    let builder = draft.finish(rt, threads).ok()?;
-    let builder = Counts::of(builder);
-    Some(MadePart { builder, inlets })
+    match draft.finish(rt, threads) {
+        Ok(builder) => {
+            let builder = Counts::of(builder);
+            Some(MadePart { builder, inlets })
+        }
+        Err(_) => None,
+    }
 }
 
 /// The builder of each part, where memory didn't run out for it. Each is made on a thread of its own, where one can be

@@ -1,17 +1,17 @@
 //! The books of all sources, and the cubes of the parts of the grouping sets, which follow the books when they are asked.
-ghost use Rattle.std.specs.Prelude.{◌≡◌, ◌≤◌, ◌<◌, ◌++◌, ◌∷◌, [], List, None, Option, Some, false, true, length, get_or, IfOk, IfSome, IsSome, OnOk, OnErr, ℕ};
+ghost use Rattle.std.specs.Prelude.{◌≡◌, ◌≤◌, ◌<◌, ◌++◌, ◌∷◌, [], List, None, Option, Some, false, true, length, map, get_or, IfOk, IfSome, IsSome, OnOk, OnErr, ℕ};
 ghost use Rattle.std.specs.Bool.{OnTrue};
 ghost use Rattle.cube_core.specs.Arrival.{Arrivals};
+ghost use Rattle.cube_cells.specs.CountedCube.{HasCounted, fits_counted};
 ghost use Rattle.cube_core.specs.Takes.{fits};
 ghost use Rattle.cube_core.specs.declared.fact.Fact.{Fact as TheFact};
-ghost use Rattle.cube_build.specs.Builder.{GainsFacts, HasFacts};
 ghost use Rattle.cube_ledger.specs.Ledger.{AllFit, AtSource, Enters, Exchanges, LedgerStandsAt, all_facts};
-ghost use Rattle.cube_build.specs.Parted.{AllFill, AllSettle, ArePartsOver, ArePartsWith, Fills, LosesFacts, MaySettle, Notes, Settles};
+ghost use Rattle.cube_build.specs.Parted.{AllFill, AllFitCounted, AllSettle, AreBehind, ArePartsFor, ArePartsWith, Fills, GainsCounted, LosesCounted, MaySettle, Notes, Settles};
 ghost use Rattle.cube_build.specs.declared.parted.Part.{Part as ThePart};
 
-use crate::fill::{add_counted, fill_cube};
+use crate::fill::counted_for;
 use crate::joined::HoldsCube;
-use cube_cells::Cube;
+use cube_cells::{CountedCube, Cube};
 use cube_core::{Fact, Item, Text};
 use cube_ledger::{Ledger, Ruling};
 use std::alloc::{AllocError, Global};
@@ -27,15 +27,15 @@ const MANY: usize = 10_000;
 /// The cube of a part of the grouping sets, and whether a refused growth has spoilt it.
 #[derive(Drop)]
 pub struct Part {
-    pub cube: Cube,
+    pub cube: CountedCube,
     pub is_spent: bool,
 }
 
 impl HoldsCube for Part {
-    ghost lattice = { λ part. part.cube };
+    ghost lattice = { λ part. part.cube.cube };
 
     fn held(&self) -> &Cube {
-        &self.cube
+        self.cube.cube()
     }
 }
 
@@ -168,7 +168,10 @@ impl Parted {
     fn give_up_where_many_wait(&mut self)
         ensures { self.new ≡ self.old }
     {
-        let held = self.parts.first().map_or(0, |part| part.cube.facts());
+        let held = self
+            .parts
+            .first()
+            .map_or(0, |part| part.cube.cube().facts());
         if self.waiting() < MANY || (self.waiting() as u64) < held / 8 {
             return;
         }
@@ -316,7 +319,7 @@ fn settle_part(part: &mut Part, come: &[Fact], gone: &[Fact])
 
 // Has a cube gain the facts that came and lose those that are gone. The only error is that memory ran out, or of numbers to
 // count the facts with.
-fn settle_cube(cube: &mut Cube, come: &[Fact], gone: &[Fact]) -> Result<(), AllocError>
+fn settle_cube(cube: &mut CountedCube, come: &[Fact], gone: &[Fact]) -> Result<(), AllocError>
     requires { MaySettle come.now gone.now cube.old }
     ensures { OnOk result (Settles come.now gone.now cube.old cube.new) }
 {
@@ -326,9 +329,9 @@ fn settle_cube(cube: &mut Cube, come: &[Fact], gone: &[Fact]) -> Result<(), Allo
 }
 
 // Adds facts, unless they couldn't be counted.
-fn add_all(cube: &mut Cube, facts: &[Fact]) -> Result<(), AllocError>
-    requires { AllFit cube.old.schema facts.now }
-    ensures { OnOk result (GainsFacts facts.now cube.old cube.new) }
+fn add_all(cube: &mut CountedCube, facts: &[Fact]) -> Result<(), AllocError>
+    requires { AllFitCounted cube.old facts.now }
+    ensures { OnOk result (GainsCounted facts.now cube.old cube.new) }
 {
     for fact in facts {
         add_counted(cube, fact)?;
@@ -336,11 +339,22 @@ fn add_all(cube: &mut Cube, facts: &[Fact]) -> Result<(), AllocError>
     Ok(())
 }
 
+// Adds a fact, unless it couldn't be counted.
+fn add_counted(cube: &mut CountedCube, fact: &Fact) -> Result<(), AllocError>
+    requires { fits_counted cube.old.texts cube.old.cube.schema fact.now ≡ true }
+    ensures { OnOk result (GainsCounted (fact.now ∷ []) cube.old cube.new) }
+{
+    if cube.cube().facts() == u64::MAX {
+        return Err(AllocError);
+    }
+    cube.add(fact)
+}
+
 // Takes facts away that the cube has.
-fn take_all(cube: &mut Cube, facts: &[Fact])
-    requires fit { AllFit cube.old.schema facts.now }
-    requires has { (left : List TheFact) × HasFacts (facts.now ++ left) cube.old }
-    ensures { LosesFacts facts.now cube.old cube.new }
+fn take_all(cube: &mut CountedCube, facts: &[Fact])
+    requires fit { AllFitCounted cube.old facts.now }
+    requires has { (left : List TheFact) × HasCounted (facts.now ++ left) cube.old }
+    ensures { LosesCounted facts.now cube.old cube.new }
 {
     for fact in facts {
         cube.remove(fact);
@@ -364,12 +378,11 @@ fn filled_parts<T: Threads + Sync>(
 ) -> Result<Vec<Part>, AllocError>
     requires some { 1 ≤ parts }
     requires few { parts ≤ 8 }
-    ensures parts { IfOk result (λ filled.
-        ArePartsWith ledger.now.schema (all_facts ledger.now.accounts) filled.items) }
-    ensures fit { IfOk result (λ filled. AllFit ledger.now.schema (all_facts ledger.now.accounts)) }
+    ensures { IfOk result (λ filled. AreBehind ledger.now filled.items [] []) }
 {
     let mut filled = new_parts(alloc, parts, ledger)?;
-    fill_parts(rt, parts.div_ceil(2), filled.as_mut_slice(), ledger);
+    let facts = ledger.facts()?;
+    fill_parts(rt, parts.div_ceil(2), filled.as_mut_slice(), &facts);
     if is_any_spent(&filled) {
         return Err(AllocError);
     }
@@ -381,12 +394,13 @@ fn new_parts(alloc: Global, parts: usize, ledger: &Ledger) -> Result<Vec<Part>, 
     requires few { parts ≤ 8 }
     ensures fit { AllFit ledger.now.schema (all_facts ledger.now.accounts) }
     ensures long { IfOk result (λ new. length new.items ≡ parts) }
-    ensures each { IfOk result (λ new. ArePartsOver ledger.now.schema parts new.items) }
+    ensures each { IfOk result (λ new. ArePartsFor ledger.now.schema parts new.items) }
 {
     let schema = ledger.schema();
     let mut new = Vec::with_capacity(alloc, parts)?;
     for part in 0..parts {
         let cube = Cube::new_part(alloc, schema, part as u32, parts as u32)?;
+        let cube = counted_for(alloc, schema, cube);
         new.push(Part {
             cube,
             is_spent: false,
@@ -395,30 +409,28 @@ fn new_parts(alloc: Global, parts: usize, ledger: &Ledger) -> Result<Vec<Part>, 
     Ok(new)
 }
 
-// Fills the cubes of parts with the facts of all books of a ledger, by at most so many threads.
-fn fill_parts<T: Threads + Sync>(rt: &T, threads: usize, parts: &mut [Part], ledger: &Ledger)
+// Fills the cubes of parts with facts that fit, by at most so many threads.
+fn fill_parts<T: Threads + Sync>(rt: &T, threads: usize, parts: &mut [Part], facts: &[&Fact])
     requires threads { 1 ≤ threads }
-    requires fit { AllFit ledger.now.schema (all_facts ledger.now.accounts) }
     requires each { (part : ℕ) (d : ThePart) → part < length parts.old →
-        (get_or parts.old part d).cube.schema ≡ ledger.now.schema }
+        AllFitCounted (get_or parts.old part d).cube (map (λ fact. fact.now) facts.now) }
     ensures number { length parts.new ≡ length parts.old }
-    ensures each { AllFill (all_facts ledger.now.accounts) parts.old parts.new }
+    ensures each { AllFill (map (λ fact. fact.now) facts.now) parts.old parts.new }
 {
     for_each_mut(
         rt,
         parts,
         threads,
         &|_, part| {
-            fill_part(part, ledger);
+            fill_part(part, facts);
         },
     );
 }
 
-fn fill_part(part: &mut Part, ledger: &Ledger)
-    requires fit { AllFit ledger.now.schema (all_facts ledger.now.accounts) }
-    requires schema { part.old.cube.schema ≡ ledger.now.schema }
+fn fill_part(part: &mut Part, facts: &[&Fact])
+    requires { AllFitCounted part.old.cube (map (λ fact. fact.now) facts.now) }
     ensures { part.new.is_spent ≡ false →
-        Fills (all_facts ledger.now.accounts) part.old.cube part.new.cube }
+        Fills (map (λ fact. fact.now) facts.now) part.old.cube part.new.cube }
 {
-    part.is_spent = fill_cube(&mut part.cube, ledger).is_err();
+    part.is_spent = part.cube.fill(facts).is_err();
 }

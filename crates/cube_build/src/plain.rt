@@ -28,7 +28,7 @@ pub fn build_plain<R: Read + Drop>(
         return Err(BuildFault::Memory);
     };
     let ledger = build_ledger(alloc, schema, readers)?;
-    match Builder::of(ledger, cube) {
+    match Builder::of(alloc, ledger, cube) {
         Ok(builder) => Ok(builder),
         Err(_) => Err(BuildFault::Full),
     }

@@ -1,7 +1,6 @@
 //! What one builder takes of the feeds of all sources.
 ghost use Rattle.std.specs.Prelude.{◌≡◌, ◌≤◌, [], true, false, length, map, vec_len, IfOk, IfErr};
 ghost use Rattle.cube_cells.specs.BaseCuboid.{cells_of_cuboid};
-ghost use Rattle.cube_cells.specs.Fill.{IsCubeOfAll};
 ghost use Rattle.cube_core.specs.Layout.{all_suffice};
 ghost use Rattle.cube_ledger.specs.Interest.{ledger_of_interest};
 ghost use Rattle.cube_ledger.specs.Ledger.{all_facts};
@@ -121,8 +120,7 @@ impl Taken {
     /// The cells of the facts that survive, over the finest grouping set alone.
     pub fn cells(&self) -> &BaseCuboid
         ensures cells { cells_of_cuboid result.now ≡ self.now.cells }
-        ensures schema { (cells_of_cuboid result.now).schema ≡ self.now.ledger.schema }
-        ensures facts { IsCubeOfAll (all_facts self.now.ledger.accounts) (cells_of_cuboid result.now) }
+        ensures has { HaveFactsOf self.now.ledger (cells_of_cuboid result.now) }
     {
         &self.cells
     }

@@ -32,7 +32,7 @@ pub(crate) fn unite<T: Threads + Sync, N: Numbers + Send + Sync>(
     let refused = merged_refusals(alloc, &apart, fresh)?;
     apart.keep(conditions);
     let cube = Cube::finest_over(alloc, apart.schema())?;
-    let cube = finest_with(rt, threads, &cube, &apart)?;
+    let cube = finest_with(rt, alloc, threads, &cube, &apart)?;
     let trace = LedgerTrace::uniting(&apart, &refused);
     apart.forget(rt);
     Ok(Counts::new(refused, cube, trace))

@@ -1,4 +1,5 @@
 -- Laws of the cells of a cube as they are kept, and what a step does to them.
+pub mod SchemaLaws
 pub mod CodedLaws
 pub mod WalkLaws
 pub mod NewLaws

@@ -3,3 +3,5 @@ pub mod Codes
 pub mod Cells
 mod Filling
 mod Rows
+pub mod TextNumberLaws
+pub mod CountedCubeLaws

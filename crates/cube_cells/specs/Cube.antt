@@ -10,7 +10,7 @@ use Rattle.cube_core.specs.Covers.{covers}
 use Rattle.cube_core.specs.Cube.{is_cell, is_total}
 use Rattle.cube_core.specs.Group.{group_of}
 use Rattle.cube_core.specs.GroupingSet.{mask_of, is_among}
-use Rattle.cube_core.specs.Layout.{Layout, IsSchema}
+use Rattle.cube_core.specs.Layout.{Layout, IsSchema, cube_schema}
 use Rattle.cube_core.specs.Order.{key_cmp}
 use Rattle.cube_core.specs.Takes.{fits}
 use Rattle.cube_core.specs.declared.fact.Fact.{Fact}
@@ -44,9 +44,10 @@ abbrev pub is_kept_for : List ℕ → Fact → Key → Bool
 is_kept_for sets fact key = covers key fact && is_among (mask_of key) sets
 
 -- what is true of every cube:
--- a schema's, over some of its grouping sets in ascending order, with texts for each dimension
+-- a schema's of which no text is counted, over some of its grouping sets in ascending order, with texts for each dimension
 pub record IsLattice (l : Lattice) : Type 0 where
   pub schema : IsSchema l.schema
+  pub no_texts : l.schema.text_places ≡ []
   pub sets : All (λ set. set < 2 ^ length l.schema.dimensions) l.sets
   pub ascending : IsStrictlySortedBy nat_cmp l.sets
   pub dictionaries : length l.dictionaries ≡ length l.schema.dimensions
@@ -58,9 +59,9 @@ pub record IsCubeOf (l : Lattice) (facts : List Fact) : Type 0 where
   pub tallies : (key : Key) → IfSome (cell_at l.cells key) (IsTallyOf (group_of key facts))
   pub widths : (key : Key) → IfSome (cell_at l.cells key) (λ t. length t.bags ≡ length l.schema.measures)
 
--- a cube of this schema over these sets, to which no fact was added
+-- a cube of the feeds of this schema over these sets, to which no fact was added
 pub record IsNewLattice (schema : Layout) (sets : List ℕ) (l : Lattice) : Type 0 where
-  pub schema_is : l.schema ≡ schema
+  pub schema_is : l.schema ≡ cube_schema schema
   pub sets_are : l.sets ≡ sets
   pub no_facts : l.facts ≡ 0
   pub no_texts : (d : ℕ) → get_or l.dictionaries d [] ≡ []

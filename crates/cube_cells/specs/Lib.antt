@@ -20,3 +20,5 @@ pub mod Ranking
 pub mod WalkParts
 pub mod FinestRows
 pub mod BaseCuboid
+pub mod TextNumbers
+pub mod CountedCube

@@ -1,15 +1,17 @@
 //! A data cube: the cells of the kept grouping sets, kept right under adds and removes.
-ghost use Rattle.std.specs.Prelude.{◌≡◌, ◌+◌, ◌<◌, ◌≤◌, ◌^◌, ◌↔◌, [], ◌∷◌, ◌++◌, replicate, if◌then◌else◌, ℕ, List, IsTrue, IfOk, IfSome, OnOk, OnErr, true, false, length, map, get_or, position, All};
+ghost use Rattle.std.specs.Prelude.{◌≡◌, ◌+◌, ◌<◌, ◌≤◌, ◌^◌, ◌↔◌, [], ◌∷◌, ◌++◌, replicate, if◌then◌else◌, ℕ, List, IsTrue, IfOk, IfSome, OnOk, OnErr, true, false, length, map, get_or, position, take, All};
 ghost use Rattle.std.specs.List.Sorted.{IsStrictlySortedBy};
 ghost use Rattle.std.specs.Option.{option_map};
 ghost use Rattle.std.specs.Ordering.{nat_cmp};
 ghost use Rattle.std.specs.Str.{bytes_eq};
 ghost use Rattle.cube_core.specs.GroupingSet.{sets_of_part, part_of, is_among};
+ghost use Rattle.cube_core.specs.Layout.{number_of_dimensions};
 ghost use Rattle.cube_core.specs.Takes.{fits};
 ghost use Rattle.cube_core.specs.declared.fact.Fact.{Fact};
 ghost use Rattle.cube_core.specs.declared.key.Key.{Key};
 ghost use Rattle.cube_cells.specs.Codes.{IsDictionary, AreCodesOf, are_codes, coord_of_value};
 ghost use Rattle.cube_cells.specs.Count.{HasCellsOver};
+ghost use Rattle.cube_cells.specs.CountedCube.{first_fact};
 ghost use Rattle.cube_cells.specs.Cube.{Lattice, IsLattice, IsCubeOf, HoldsFact, AddsFact, TakesFact, AddsTexts, MayAddTexts, SameCells, cell_at, count_in, IsNewLattice};
 ghost use Rattle.cube_cells.specs.Gathered.{AreCodesOfFact, OnlyAddsTexts};
 
@@ -18,7 +20,8 @@ mod bottom_up;
 mod cell_count;
 mod cell_key;
 mod codes;
-mod dictionary;
+mod counted_cube;
+pub(crate) mod dictionary;
 mod fill;
 mod finest_cells;
 mod finest_rows;
@@ -42,6 +45,7 @@ pub use bottom_up::TakesCells;
 use cell_key::CellKey;
 use codes::ALL;
 pub use codes::Codes;
+pub use counted_cube::CountedCube;
 use cube_core::{Coord, DimensionValues, Fact, HashKey, Key, Schema};
 use cube_values::{Counted, Numbers};
 use dictionary::Dictionary;
@@ -86,7 +90,9 @@ impl<N: Numbers> Model for Cube<N> {
 
 impl Cube {
     /// The cube of no fact over all grouping sets of the schema: the grand total alone, where its set is kept, and else
-    /// no cell. The only error is that memory ran out.
+    /// no cell. Its own schema is the one that [`Schema::cube_schema`] makes of this.
+    ///
+    /// The only error is that memory ran out.
     pub fn new(alloc: Global, schema: &Schema) -> Result<Cube, AllocError>
         ensures new { IfOk result (IsNewLattice schema.now schema.now.grouping_sets) }
         ensures cube { IfOk result (λ cube. IsCubeOf cube []) }
@@ -96,6 +102,7 @@ impl Cube {
 
     /// The cube of no fact over the grouping sets of a part of the schema's: those of which the mask and its whole
     /// quotient by `of`, added, are `part` modulo `of` (this project's choice). The grand total is in part 0.
+    /// Its own schema is the one that [`Schema::cube_schema`] makes of this. The only error is that memory ran out.
     pub fn new_part(alloc: Global, schema: &Schema, part: u32, of: u32) -> Result<Cube, AllocError>
         requires parts { of ≤ 8 }
         requires part { part < of }
@@ -123,9 +130,29 @@ impl Cube {
         ensures err_cube { OnErr result
             ((facts : List Fact) → IsCubeOf self.old facts → IsCubeOf self.new facts) }
     {
-        let codes = add_codes(self.alloc, &mut self.dictionaries, fact)?;
-        let values = fact.measures.as_slice();
-        add_to_sets(self.alloc, &mut self.levels, &codes, values)?;
+        self.add_values(&fact.dims, fact.measures.as_slice())
+    }
+
+    // Adds the fact of these measures and of as many of these values, the first ones, as there are dimensions, as `add`
+    // does.
+    fn add_values(
+        &mut self,
+        values: &DimensionValues,
+        measures: &[Option<i64>],
+    ) -> Result<(), AllocError>
+        requires fits { fits self.old.schema
+            (first_fact (length self.old.schema.dimensions) values.now measures.now) ≡ true }
+        requires room { self.old.facts + 1 < 2 ^ 64 }
+        ensures added { OnOk result (AddsFact
+            (first_fact (length self.old.schema.dimensions) values.now measures.now) self.old self.new) }
+        ensures texts { OnOk result (AddsTexts
+            (take (length self.old.schema.dimensions) values.now) self.old.dictionaries self.new.dictionaries) }
+        ensures err { OnErr result (SameCells self.old self.new) }
+        ensures err_texts { OnErr result (MayAddTexts
+            (take (length self.old.schema.dimensions) values.now) self.old.dictionaries self.new.dictionaries) }
+    {
+        let codes = add_codes(self.alloc, &mut self.dictionaries, values)?;
+        add_to_sets(self.alloc, &mut self.levels, &codes, measures)?;
         self.facts += 1;
         Ok(())
     }
@@ -151,9 +178,20 @@ impl Cube {
         ensures taken { TakesFact fact.now self.old self.new }
         ensures cube { (facts : List Fact) → IsCubeOf self.old (fact.now ∷ facts) → IsCubeOf self.new facts }
     {
-        let codes = codes_of_values(&self.dictionaries, &fact.dims);
+        self.take_values(&fact.dims, fact.measures.as_slice());
+    }
+
+    // Takes the fact of these measures and of as many of these values, the first ones, as there are dimensions away, as
+    // `remove` does.
+    fn take_values(&mut self, values: &DimensionValues, measures: &[Option<i64>])
+        requires { HoldsFact self.old
+            (first_fact (length self.old.schema.dimensions) values.now measures.now) }
+        ensures { TakesFact
+            (first_fact (length self.old.schema.dimensions) values.now measures.now) self.old self.new }
+    {
+        let codes = codes_of_values(&self.dictionaries, values);
         let number = self.levels.len();
-        take_from_sets(&mut self.levels, number, &codes, fact.measures.as_slice());
+        take_from_sets(&mut self.levels, number, &codes, measures);
         self.facts -= 1;
     }
 }
@@ -161,6 +199,7 @@ impl Cube {
 impl<N: Numbers> Cube<N> {
     /// The cube of no fact over the grouping sets of a part of the schema's: those of which the mask and its whole
     /// quotient by `of`, added, are `part` modulo `of` (this project's choice). The grand total is in part 0.
+    /// Its own schema is the one that [`Schema::cube_schema`] makes of this. The only error is that memory ran out.
     pub fn of_part(
         alloc: Global,
         schema: &Schema,
@@ -173,18 +212,18 @@ impl<N: Numbers> Cube<N> {
             (IsNewLattice schema.now (sets_of_part part of schema.now.grouping_sets)) }
         ensures cube { IfOk result (λ cube. IsCubeOf cube []) }
     {
-        let schema = schema.copy(alloc)?;
-        let sets = kept_sets(alloc, &schema, part, of)?;
+        let sets = kept_sets(alloc, schema.grouping_sets(), part, of)?;
         Cube::over(alloc, schema, sets)
     }
 
-    // The cube of no fact over these grouping sets.
-    fn over(alloc: Global, schema: Schema, sets: Vec<u8>) -> Result<Cube<N>, AllocError>
-        requires within { All (λ set. set < 2 ^ length schema.dimensions) sets.items }
+    // The cube of no fact over these grouping sets, under the schema of the cube of this schema's feeds.
+    fn over(alloc: Global, schema: &Schema, sets: Vec<u8>) -> Result<Cube<N>, AllocError>
+        requires within { All (λ set. set < 2 ^ number_of_dimensions schema.now) sets.items }
         requires ascending { IsStrictlySortedBy nat_cmp sets.items }
-        ensures new { IfOk result (IsNewLattice schema sets.items) }
+        ensures new { IfOk result (IsNewLattice schema.now sets.items) }
         ensures cube { IfOk result (λ cube. IsCubeOf cube []) }
     {
+        let schema = schema.cube_schema(alloc)?;
         let dictionaries = new_dictionaries(alloc, schema.hash_key(), schema.dimensions().len())?;
         let key = CellKey::under(schema.hash_key());
         let levels = new_levels(alloc, key, schema.measures().len(), &sets)?;
@@ -218,7 +257,7 @@ impl<N: Numbers> Cube<N> {
         ensures same { OnlyAddsTexts self.old self.new }
         ensures codes { IfOk result (AreCodesOfFact self.new.dictionaries fact.now) }
     {
-        add_codes(self.alloc, &mut self.dictionaries, fact)
+        add_codes(self.alloc, &mut self.dictionaries, &fact.dims)
     }
 
     // Adds a fact by the codes of its values, as `gather` does.
@@ -289,12 +328,11 @@ impl<N: Numbers> Cube<N> {
     }
 }
 
-// The grouping sets of a part of a schema's, in their order.
-fn kept_sets(alloc: Global, schema: &Schema, part: u32, of: u32) -> Result<Vec<u8>, AllocError>
+// Those of some grouping sets that are in a part, in their order.
+fn kept_sets(alloc: Global, chosen: &[u8], part: u32, of: u32) -> Result<Vec<u8>, AllocError>
     requires { part < of }
-    ensures { IfOk result (λ sets. sets.items ≡ sets_of_part part of schema.now.grouping_sets) }
+    ensures { IfOk result (λ sets. sets.items ≡ sets_of_part part of chosen.now) }
 {
-    let chosen = schema.grouping_sets();
     let mut sets = Vec::with_capacity(alloc, chosen.len())?;
     for set in chosen {
         push_kept(&mut sets, *set, part_of(*set, of) == part)?;
@@ -335,39 +373,42 @@ fn new_dictionaries(
     Ok(dictionaries)
 }
 
-// The codes of the values of a fact, each new text with a code of its own.
+// The codes of the first values, one in each dimension, each new text with a code of its own.
 fn add_codes(
     alloc: Global,
     dictionaries: &mut [Dictionary],
-    fact: &Fact,
+    values: &DimensionValues,
 ) -> Result<Codes, AllocError>
     requires places { length dictionaries.old ≤ 8 }
-    requires width { length fact.now.dims ≡ length dictionaries.old }
-    ensures codes { IfOk result (λ codes.
-        AreCodesOf dictionaries.new (map coord_of_value fact.now.dims) codes.codes) }
+    requires width { length dictionaries.old ≤ length values.now }
+    ensures codes { IfOk result (λ codes. AreCodesOf dictionaries.new
+        (map coord_of_value (take (length dictionaries.old) values.now)) codes.codes) }
     ensures valid { IfOk result (λ codes. are_codes dictionaries.new codes.codes ≡ true) }
     ensures eight { IfOk result (λ codes. length codes.codes ≡ 8) }
-    ensures texts { OnOk result (AddsTexts fact.now.dims dictionaries.old dictionaries.new) }
-    ensures err { OnErr result (MayAddTexts fact.now.dims dictionaries.old dictionaries.new) }
+    ensures texts { OnOk result
+        (AddsTexts (take (length dictionaries.old) values.now) dictionaries.old dictionaries.new) }
+    ensures err { OnErr result
+        (MayAddTexts (take (length dictionaries.old) values.now) dictionaries.old dictionaries.new) }
     ensures dictionaries { All IsDictionary dictionaries.old → All IsDictionary dictionaries.new }
 {
     let mut codes = [ALL; 8];
-    for place in 0..fact.dims.len() {
+    for place in 0..dictionaries.len() {
         let dictionary = &mut dictionaries[place];
-        codes[place] = dictionary.code_with(alloc, fact.dims.get(place))?;
+        codes[place] = dictionary.code_with(alloc, values.get(place))?;
     }
     Ok(Codes { codes })
 }
 
-// The codes of values.
+// The codes of the first values, one in each dimension.
 fn codes_of_values(dictionaries: &[Dictionary], values: &DimensionValues) -> Codes
     requires places { length dictionaries.now ≤ 8 }
-    requires width { length values.now ≡ length dictionaries.now }
-    ensures codes { AreCodesOf dictionaries.now (map coord_of_value values.now) result.codes }
+    requires width { length dictionaries.now ≤ length values.now }
+    ensures codes { AreCodesOf dictionaries.now
+        (map coord_of_value (take (length dictionaries.now) values.now)) result.codes }
     ensures eight { length result.codes ≡ 8 }
 {
     let mut codes = [ALL; 8];
-    for place in 0..values.len() {
+    for place in 0..dictionaries.len() {
         codes[place] = dictionaries[place].code_of_value(values.get(place));
     }
     Codes { codes }

@@ -9,17 +9,21 @@
 //! keys that it stands under, to what [`TakesCells`], and a question to them walks to the grouping sets alone that can answer
 //! it. [`RaisedCells`] cut such a walk into [`WalkPart`]s, which several threads may take. A [`BaseCuboid`] is finest cells
 //! with as much of their values as the aggregates of the schema need.
+//! [`TextNumbers`] are numbers that stand for texts that are counted, and a [`CountedCube`] is the cube of the facts that have
+//! them, kept right under adds and removes.
 #![tactic(auto)]
 
 mod cell;
 mod cube;
 pub mod laws;
 mod measure;
+mod text_numbers;
 
 pub use cell::Cell;
 pub use cube::{
-    BaseCuboid, Codes as KeyCodes, Cube, FinestCells, KeyedCell, OrderedCells, RaisedCells,
-    SortedTexts, TakesCells, WalkPart, row_of,
+    BaseCuboid, Codes as KeyCodes, CountedCube, Cube, FinestCells, KeyedCell, OrderedCells,
+    RaisedCells, SortedTexts, TakesCells, WalkPart, row_of,
 };
 pub use cube_core::{CoordRef, reduced};
 pub use cube_values::{Counted, Numbers, Summary};
+pub use text_numbers::TextNumbers;

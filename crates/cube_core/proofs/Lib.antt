@@ -20,6 +20,9 @@ pub mod ItemLaws
 pub mod LevelLaws
 pub mod PercentileSpellingLaws
 pub mod LifeLaws
+pub mod TextNumberLaws
+pub mod TextRowLaws
+pub mod CubeSchemaLaws
 pub mod RefusalLaws
 pub mod KeyOrderLaws
 pub mod AncestorLaws
@@ -30,3 +33,6 @@ mod PartialFormLaws
 pub mod SufficesLaws
 pub mod PlainLaws
 pub mod ReorderedLaws
+pub mod TextPlaceLaws
+pub mod TextSchemaLaws
+pub mod TextsDocumentLaws

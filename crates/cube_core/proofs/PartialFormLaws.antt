@@ -1,11 +1,12 @@
 -- The partial form of a schema is a schema.
 use Rattle.std.proofs.Common.{◌≡◌, ◌≤◌, ◌∷◌, [], ℕ, Bool, true, nat_lt, List, length, map, fold, refl, inl, inr, arith}
-use Rattle.std.proofs.Common.{Option}
+use Rattle.std.proofs.Common.{Option, ap, ◌∙◌, subst, sym}
 use Rattle.std.proofs.Common.{length-append}
 use Rattle.std.specs.List.{list_all}
 use Rattle.std.proofs.lemmas.Bool.{cases_Bool, and_parts}
 use Rattle.std.proofs.lemmas.List.Folds.{list_all-append}
-use Rattle.cube_core.specs.Layout.{Layout, IsSchema, is_aggregate_of, is_level, spelling_of}
+use Rattle.cube_core.specs.Layout.{Layout, IsSchema, counted_names, is_aggregate_of, is_level, spelling_of, suits}
+use Rattle.cube_core.proofs.TextSchemaLaws.{are_aggregates_of-suit, counted_names-none}
 use Rattle.cube_core.specs.PartialForm.{has_aggregate, with_aggregate, with_mean_parts, with_variance_parts, with_parts, partial_aggregates, partial_form}
 use Rattle.cube_core.specs.declared.aggregate.Agg.{Agg}
 use Rattle.cube_core.specs.declared.feed_columns.FeedColumns.{FeedColumns}
@@ -98,53 +99,69 @@ fold-length : (all means : List Agg) → length all ≤ length (fold with_parts 
 fold-length all [] = omega arith
 fold-length all (agg ∷ means) = omega (arith, with_parts-length all agg, fold-length (with_parts all agg) means)
 
--- the partial form of a schema is one, where it hasn't too many aggregates
-pub partial_form-IsSchema : (s : Layout) → IsSchema s → length (partial_aggregates s.aggregates) ≤ 32
-    → IsSchema (partial_form s)
-partial_form-IsSchema s is few = record {
-  some_dimension = is.some_dimension;
-  dimensions_at_most = is.dimensions_at_most;
-  some_measure = is.some_measure;
-  measures_at_most = is.measures_at_most;
-  some_aggregate = omega (arith, is.some_aggregate, fold-length s.aggregates s.aggregates);
-  aggregates_at_most = few;
-  names_are_lawful = is.names_are_lawful;
-  names_are_distinct = is.names_are_distinct;
-  aggregates_are_of_measures = fold-list_all (length s.measures)
-      s.aggregates s.aggregates is.aggregates_are_of_measures is.aggregates_are_of_measures;
-  aggregates_are_spelled = refl;
-  some_record = is.some_record;
-  records_at_most = is.records_at_most;
-  some_set = is.some_set;
-  sets_are_ascending = is.sets_are_ascending;
-  sets_are_of_dimensions = is.sets_are_of_dimensions;
-  version_at_least = is.version_at_least;
-  version_at_most = is.version_at_most;
-  lawful_shard = is.lawful_shard;
-  lawful_record_bytes = is.lawful_record_bytes;
-  lawful_columns = is.lawful_columns;
-  few_digits = is.few_digits;
-}
+-- the partial form of a schema of numbers alone is one, where it hasn't too many aggregates
+pub partial_form-IsSchema : (s : Layout) → IsSchema s → s.text_places ≡ []
+    → length (partial_aggregates s.aggregates) ≤ 32 → IsSchema (partial_form s)
+partial_form-IsSchema s is none few =
+    let numbers : list_all (is_aggregate_of (length (counted_names s))) (partial_aggregates s.aggregates) ≡ true =
+    fold-list_all (length (counted_names s)) s.aggregates s.aggregates is.aggregates_are_of_measures
+    is.aggregates_are_of_measures in
+    record {
+      some_dimension = is.some_dimension;
+      dimensions_at_most = is.dimensions_at_most;
+      some_measure = is.some_measure;
+      measures_at_most = is.measures_at_most;
+      some_aggregate = omega (arith, is.some_aggregate, fold-length s.aggregates s.aggregates);
+      aggregates_at_most = few;
+      names_are_lawful = is.names_are_lawful;
+      names_are_distinct = is.names_are_distinct;
+      aggregates_are_of_measures = numbers;
+      aggregates_suit = subst (λ names. list_all (suits (length names)) (partial_aggregates s.aggregates) ≡ true)
+          (counted_names-none s none)
+          (are_aggregates_of-suit (length (counted_names s)) (partial_aggregates s.aggregates) numbers);
+      aggregates_are_spelled = refl;
+      some_record = is.some_record;
+      records_at_most = is.records_at_most;
+      some_set = is.some_set;
+      sets_are_ascending = is.sets_are_ascending;
+      sets_are_of_dimensions = is.sets_are_of_dimensions;
+      version_at_least = is.version_at_least;
+      version_at_most = is.version_at_most;
+      lawful_shard = is.lawful_shard;
+      lawful_record_bytes = is.lawful_record_bytes;
+      lawful_columns = is.lawful_columns;
+      few_digits = is.few_digits;
+      text_places_are_ascending = is.text_places_are_ascending;
+      text_places_are_of_measures = is.text_places_are_of_measures;
+    }
 
--- the same, of parts that were copied or made
-pub copied-IsSchema : (s : Layout) (dimensions measures texts : List (List ℕ)) (aggregates : List Agg) (sets : List ℕ)
-    (columns : Option FeedColumns) (decimals : List (Option ℕ)) → IsSchema s
+-- the partial form, of parts that were copied or made
+pub copied-partial_form : (s : Layout) (dimensions measures texts : List (List ℕ)) (aggregates : List Agg)
+    (sets : List ℕ) (columns : Option FeedColumns) (decimals : List (Option ℕ)) (places : List ℕ) → s.text_places ≡ []
     → dimensions ≡ s.dimensions → measures ≡ s.measures → aggregates ≡ partial_aggregates s.aggregates
     → texts ≡ map (spelling_of measures) aggregates → sets ≡ s.grouping_sets → columns ≡ s.columns
-    → decimals ≡ s.decimals
-    → length aggregates ≤ 32
-    → IsSchema (record {
+    → decimals ≡ s.decimals → places ≡ []
+    → partial_form s ≡ record s {
       dimensions = dimensions;
       measures = measures;
       aggregates = aggregates;
       aggregate_texts = texts;
-      max_records = s.max_records;
       grouping_sets = sets;
-      version = s.version;
-      shard = s.shard;
-      max_record_bytes = s.max_record_bytes;
       columns = columns;
       decimals = decimals;
+      text_places = places;
+    }
+copied-partial_form s dimensions measures texts aggregates sets columns decimals places none d m a t g c e p =
+    let spelled : map (spelling_of (counted_names s)) (partial_aggregates s.aggregates) ≡ texts =
+    ap (λ names. map (spelling_of names) (partial_aggregates s.aggregates)) (counted_names-none s none)
+    ∙ sym (t ∙ (λ i. map (spelling_of (m i)) (a i))) in
+    (λ i. record s {
+      dimensions = sym d i;
+      measures = sym m i;
+      aggregates = sym a i;
+      aggregate_texts = spelled i;
+      grouping_sets = sym g i;
+      columns = sym c i;
+      decimals = sym e i;
+      text_places = (none ∙ sym p) i;
     })
-copied-IsSchema s dimensions measures texts aggregates sets columns decimals is d m a t g c e few =
-    rw (d, t, a, m, g, c, e) (partial_form-IsSchema s is (rw a at few))

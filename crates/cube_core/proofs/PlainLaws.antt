@@ -6,9 +6,12 @@ use Rattle.std.specs.Str.{bytes_eq}
 use Rattle.std.proofs.lemmas.Bool.{cases_Bool}
 use Rattle.std.proofs.lemmas.List.{drop-drop, take-append-drop}
 use Rattle.std.proofs.lemmas.Slice.Eq.{bytes_eq-Decides}
-use Rattle.cube_core.specs.Items.{is_keep, dimension_fields, measure_fields}
-use Rattle.cube_core.specs.Layout.{Layout, decimals_of}
+use Rattle.cube_core.specs.Items.{arranged, is_keep, dimension_fields, measure_fields}
+use Rattle.cube_core.specs.Layout.{Layout, decimals_of, number_of_dimensions}
 use Rattle.cube_core.specs.Plain.{nulls_of, plain_dimension, plain_measure, plain_measures, plain_in_order}
+use Rattle.cube_core.specs.Plain.{plain_of_arranged}
+use Rattle.cube_core.specs.TextPlaces.{with_places_first}
+use Rattle.cube_core.proofs.TextPlaceLaws.{at_places-none, beside_places-none}
 use Rattle.cube_core.specs.Takes.{null_text}
 
 -- fields of which each stays are the same
@@ -55,10 +58,10 @@ parts-same n fields =
     ∙ ap (λ rest. take 2 fields ++ rest) (take-append-drop n (drop 2 fields))
     ∙ take-append-drop 2 fields
 
--- a record in the order of the schema is plain, where feeds have no columns by name and no measure takes a point
-pub plain_in_order-same : (s : Layout) (fields : List (List ℕ)) → s.columns ≡ None → s.decimals ≡ []
-    → plain_in_order s fields ≡ fields
-plain_in_order-same s fields none whole =
+-- a record in the order of a plain one is plain, where feeds have no columns by name and no measure takes a point
+plain_of_arranged-same : (s : Layout) (fields : List (List ℕ)) → s.columns ≡ None → s.decimals ≡ []
+    → plain_of_arranged s fields ≡ fields
+plain_of_arranged-same s fields none whole =
     let nulls : nulls_of s ≡ null_text ∷ [] = rw none refl in
     rw (
       nulls,
@@ -66,3 +69,17 @@ plain_in_order-same s fields none whole =
           (dimension_fields s fields),
       plain_measures-same s 46 0 (measure_fields s fields) whole,
     ) (parts-same (length s.dimensions) fields)
+
+-- so is then one in the order of the schema, once its fields are arranged
+pub plain_in_order-same : (s : Layout) (fields : List (List ℕ)) → s.columns ≡ None → s.decimals ≡ []
+    → plain_in_order s fields ≡ arranged s fields
+plain_in_order-same s fields none whole = plain_of_arranged-same s (arranged s fields) none whole
+
+-- and its fields are, where no text is counted
+pub arranged-none : (s : Layout) (fields : List (List ℕ)) → s.text_places ≡ [] → arranged s fields ≡ fields
+arranged-none s fields none =
+    let front = 2 + number_of_dimensions s in
+    let others = drop front fields in
+    ap (λ places. take front fields ++ with_places_first places others) none
+    ∙ (λ i. take front fields ++ (at_places-none 0 others i ++ beside_places-none 0 others i))
+    ∙ take-append-drop front fields

@@ -1,5 +1,6 @@
 -- A document that has no fault writes a schema.
 use Rattle.std.proofs.Common.{◌≡◌, ℕ, ◌+◌, ◌<◌, ◌≤◌, ◌^◌, pos, zero, suc, Bool, true, false, ◌&&◌, is_some, nat_le}
+use Rattle.std.proofs.Common.{◌-◌, drop, length-append, option_map}
 use Rattle.std.proofs.Common.{nat_lt, codes, List, [], ◌∷◌, ◌++◌, length, map, find, Option, Some, None, Result, Ok}
 use Rattle.std.proofs.Common.{Err, IfOk, IfSome, IfNone, IsUtf8, refl, ap, ◌∙◌, sym, subst, inl, inr, arith}
 use Rattle.std.specs.Str.{bytes_eq}
@@ -9,6 +10,7 @@ use Rattle.std.proofs.lemmas.Slice.Eq.{bytes_eq-Decides}
 use Rattle.std.proofs.lemmas.Bool.{and_parts, cases_Bool, false≢true}
 use Rattle.std.proofs.lemmas.Bool.Decides.{nat_tests}
 use Rattle.std.proofs.Math.Bool.{and-true}
+use Rattle.std.proofs.Math.Seq.{drop-append_seam}
 use Rattle.std.proofs.lemmas.List.Concat.{flat_map-cons}
 use Rattle.std.proofs.lemmas.List.Folds.{list_all-append, list_all-map}
 use Rattle.std.proofs.lemmas.Option.{same_Some, cond_some}
@@ -19,7 +21,7 @@ use Rattle.toml.specs.Parse.{parse_document}
 use Rattle.cube_core.specs.declared.schema_fault.SchemaFault.{SchemaFault}
 use Rattle.cube_core.specs.declared.schema_fault.SchemaFault.TheVariants.{Memory, Toml, UnknownKey, Dimensions}
 use Rattle.cube_core.specs.declared.schema_fault.SchemaFault.TheVariants.{Measures, Name, Aggregates, MaxRecords}
-use Rattle.cube_core.specs.declared.schema_fault.SchemaFault.TheVariants.{Grouping, Version, Columns, Decimals}
+use Rattle.cube_core.specs.declared.schema_fault.SchemaFault.TheVariants.{Grouping, Version, Columns, Decimals, Texts}
 use Rattle.cube_core.specs.Shard.{IsShard}
 use Rattle.cube_core.specs.DecimalsDocument.{decimals_of_value}
 use Rattle.cube_core.specs.FeedDocument.{columns_of_value}
@@ -27,12 +29,18 @@ use Rattle.cube_core.specs.declared.feed_columns.FeedColumns.{FeedColumns}
 use Rattle.cube_core.proofs.DecimalsDocumentLaws.{decimals_of_value-few}
 use Rattle.cube_core.proofs.FeedDocumentLaws.{columns_of_value-some_measure, columns_of_value-lawful}
 use Rattle.cube_core.specs.declared.shard.Shard.{Shard}
-use Rattle.cube_core.specs.Layout.{Layout, IsSchema, spelling_of, is_aggregate_of, is_lawful_name, are_distinct}
+use Rattle.cube_core.specs.Layout.{Layout, IsSchema, spelling_of, is_aggregate_of, is_lawful_name, are_distinct, suits}
+use Rattle.cube_core.specs.TextPlaces.{AreTextPlaces, at_places, beside_places}
+use Rattle.cube_core.specs.TextsDocument.{columns_with_texts, counted_of_measures, text_places_of_value}
+use Rattle.cube_core.proofs.TextPlaceLaws.{All-beside_places, at_places-length, parted-length}
+use Rattle.cube_core.proofs.TextSchemaLaws.{are_distinct-IsPermutation, columns_with_texts-lawful}
+use Rattle.cube_core.proofs.TextSchemaLaws.{list_all-IsPermutation, names-IsPermutation}
 use Rattle.cube_core.proofs.LevelLaws.{is_level-within}
 use Rattle.cube_core.specs.SchemaDocument.{is_some_up_to, are_lawful_names, aggregates_over, aggregate_spelled}
 use Rattle.cube_core.specs.SchemaDocument.{percentiles_at, percentiles_over, statistics_over}
 use Rattle.cube_core.specs.SchemaDocument.{are_spellings, record_limit, max_records_in, default_max_records}
 use Rattle.cube_core.specs.SchemaDocument.{sets_of_grouping, feed_version, version_in, dimensions_in, measures_in}
+use Rattle.cube_core.specs.SchemaDocument.{text_places_in}
 use Rattle.cube_core.specs.SchemaDocument.{is_number_of_measures, least_measures_in}
 use Rattle.cube_core.specs.SchemaDocument.{spellings_in, has_known_keys, SchemaParts, parts_in, named_parts}
 use Rattle.cube_core.specs.SchemaDocument.{parts_faults, is_fault_of_parts, layout_of_parts, document_faults, has_fault}
@@ -232,19 +240,35 @@ pub least_measures_in-bound : (document : Members) (least : ℕ) (feed : Option 
 least_measures_in-bound document least None is none = rw (is, ← none) (omega arith)
 least_measures_in-bound document least (Some feed) is none = tt
 
--- parts that have none of the faults make a schema
+-- what becomes of something is something
+option_map-None : {A B : Type 0} (f : A → B) (found : Option A) → option_map f found ≡ None → found ≡ None
+option_map-None f None none = refl
+option_map-None f (Some x) none = cc
+
+-- parts that have none of the faults
+pub record AreLawful (dimensions measures texts : List (List ℕ)) (aggregates : List Agg) (least : ℕ) (places : List ℕ)
+    : Type 0 where
+  pub dimensions_few : is_some_up_to 8 dimensions ≡ true
+  pub measures_few : is_number_of_measures least measures ≡ true
+  pub names : are_lawful_names (dimensions ++ measures) ≡ true
+  pub aggregates_few : is_some_up_to 16 texts ≡ true
+  pub aggregates_are : aggregates ≡ filter_map (aggregate_spelled (counted_of_measures places measures)) texts
+  pub spelled : are_spellings (counted_of_measures places measures) texts ≡ true
+  pub suit : list_all (suits (length (beside_places places 0 measures)))
+      (filter_map (aggregate_spelled (counted_of_measures places measures)) texts) ≡ true
+  pub places_are : AreTextPlaces (length measures) places
+
+-- such parts make a schema
 pub layout_of_parts-IsSchema : (dimensions measures texts : List (List ℕ)) (aggregates : List Agg) (least limit : ℕ)
     (grouping : Option Data) (sets : List ℕ) (version : ℕ) (shard : Shard) (feed : Option Data)
-    (columns : Option FeedColumns) (said : Option Data) (decimals : List (Option ℕ))
-    → IsShard shard → is_some_up_to 8 dimensions ≡ true → is_number_of_measures least measures ≡ true
-    → are_lawful_names (dimensions ++ measures) ≡ true → is_some_up_to 16 texts ≡ true
-    → (aggregates ≡ filter_map (aggregate_spelled measures) texts) × (are_spellings measures texts ≡ true)
+    (columns : Option FeedColumns) (said : Option Data) (decimals : List (Option ℕ)) (places : List ℕ)
+    → IsShard shard → AreLawful dimensions measures texts aggregates least places
     → (1 ≤ limit) × (limit < 2 ^ 32) → Some sets ≡ sets_of_grouping dimensions grouping → (1 ≤ version) × (version ≤ 2)
     → IfNone feed (1 ≤ least) → Some columns ≡ columns_of_value dimensions measures feed
     → Some decimals ≡ decimals_of_value measures said
     → IsSchema (record {
-      dimensions = dimensions;
-      measures = measures;
+      dimensions = dimensions ++ at_places places 0 measures;
+      measures = beside_places places 0 measures;
       aggregates = aggregates;
       aggregate_texts = texts;
       max_records = limit;
@@ -252,41 +276,66 @@ pub layout_of_parts-IsSchema : (dimensions measures texts : List (List ℕ)) (ag
       version = version;
       shard = shard;
       max_record_bytes = None;
-      columns = columns;
-      decimals = decimals;
+      columns = option_map (columns_with_texts places) columns;
+      decimals = beside_places places 0 decimals;
+      text_places = places;
     })
 layout_of_parts-IsSchema dimensions measures texts aggregates least limit grouping sets version shard feed columns said
-    decimals lawful_shard d m names t spellings range sets_are versions some columns_are decimals_are =
-    let ds = is_some_up_to-length 8 dimensions d in
-    let ms = is_number_of_measures-length least measures m in
-    let ts = is_some_up_to-length 16 texts t in
+    decimals places lawful_shard are range sets_are versions some columns_are decimals_are =
+    let at = at_places places 0 measures in
+    let beside = beside_places places 0 measures in
+    let ds = is_some_up_to-length 8 dimensions are.dimensions_few in
+    let ms = is_number_of_measures-length least measures are.measures_few in
+    let ts = is_some_up_to-length 16 texts are.aggregates_few in
     let kept = grouping-AreKept dimensions grouping sets (sym sets_are) in
     let (lawful, distinct) =
-    and_parts (list_all is_lawful_name (dimensions ++ measures)) (are_distinct (dimensions ++ measures)) names in
-    let all = AreSpelled-filter_map measures texts spellings.1 in
-    rw spellings.0 (record {
-      some_dimension = ds.0;
-      dimensions_at_most = ds.1;
-      some_measure = columns_of_value-some_measure dimensions measures least feed columns some ms.0 columns_are;
-      measures_at_most = ms.1;
+    and_parts (list_all is_lawful_name (dimensions ++ measures)) (are_distinct (dimensions ++ measures)) are.names in
+    let reordered = names-IsPermutation dimensions measures places in
+    let all = subst (AreSpelled (beside ++ at) texts) (sym are.aggregates_are)
+    (AreSpelled-filter_map (beside ++ at) texts are.spelled) in
+    let as_many : length at ≡ length places = at_places-length places measures are.places_are in
+    let both : length beside + length at ≡ length measures = parted-length places 0 measures in
+    let behind : length (dimensions ++ at) ≡ length dimensions + length places =
+    length-append dimensions at ∙ ap (λ n. length dimensions + n) as_many in
+    let number : length (dimensions ++ at) - length places ≡ length dimensions = omega (arith, behind) in
+    let counted : beside ++ drop (length (dimensions ++ at) - length places) (dimensions ++ at) ≡ beside ++ at =
+    ap (λ n. beside ++ drop n (dimensions ++ at)) number ∙ ap (λ xs. beside ++ xs) (drop-append_seam dimensions at) in
+    let all_places : length beside + length places ≡ length measures = omega (arith, both, as_many) in
+    let numbers : length beside ≡ length measures - length places = omega (arith, both, as_many) in
+    record {
+      some_dimension = omega (arith, behind, ds.0);
+      dimensions_at_most = omega (arith, behind, ds.1);
+      some_measure = λ none. omega (
+        arith,
+        both,
+        as_many,
+        columns_of_value-some_measure dimensions measures least feed columns some ms.0 columns_are
+            (option_map-None (columns_with_texts places) columns none),
+      );
+      measures_at_most = omega (arith, both, as_many, ms.1);
       some_aggregate = rw all.as_many ts.0;
       aggregates_at_most = omega (arith, all.as_many, ts.1);
-      names_are_lawful = lawful;
-      names_are_distinct = distinct;
-      aggregates_are_of_measures = all.of_measures;
-      aggregates_are_spelled = all.spelled;
+      names_are_lawful = list_all-IsPermutation is_lawful_name (dimensions ++ measures) _ reordered lawful;
+      names_are_distinct = are_distinct-IsPermutation (dimensions ++ measures) _ reordered distinct;
+      aggregates_are_of_measures = rw counted all.of_measures;
+      aggregates_suit = rw are.aggregates_are are.suit;
+      aggregates_are_spelled = rw counted all.spelled;
       some_record = range.0;
       records_at_most = range.1;
       some_set = kept.some_set;
       sets_are_ascending = kept.ascending;
-      sets_are_of_dimensions = kept.of_dimensions;
+      sets_are_of_dimensions = rw number kept.of_dimensions;
       version_at_least = versions.0;
       version_at_most = versions.1;
       lawful_shard = lawful_shard;
       lawful_record_bytes = tt;
-      lawful_columns = columns_of_value-lawful dimensions measures feed columns columns_are;
-      few_digits = decimals_of_value-few measures said decimals decimals_are;
-    })
+      lawful_columns = rw (behind, numbers) (columns_with_texts-lawful (length dimensions) (length measures) places
+          columns are.places_are (columns_of_value-lawful dimensions measures feed columns columns_are));
+      few_digits = All-beside_places (λ digits. IfSome digits (λ k. k ≤ 18)) places 0 decimals
+          (decimals_of_value-few measures said decimals decimals_are);
+      text_places_are_ascending = are.places_are.ascending;
+      text_places_are_of_measures = rw all_places are.places_are.of_measures;
+    }
 
 -- what is answered to the parts of a document with known keys alone is answered to the document
 document-answered : (document : Members) (answer : Result Layout SchemaFault) → has_known_keys document ≡ true
@@ -304,16 +353,18 @@ document-answered document (Err Grouping) known answers = rw known answers
 document-answered document (Err Version) known answers = rw known answers
 document-answered document (Err Columns) known answers = rw known answers
 document-answered document (Err Decimals) known answers = rw known answers
+document-answered document (Err Texts) known answers = rw known answers
 
 -- the same, of parts that were read one by one
 pub document-answered_by : (document : Members) (dimensions measures spellings : List (List ℕ)) (least : ℕ)
-    (limit : Option ℕ) (grouping : Option Data) (version : Option ℕ) (feed decimals : Option Data)
-    (answer : Result Layout SchemaFault)
+    (limit : Option ℕ) (grouping : Option Data) (version : Option ℕ) (feed decimals texts : Option Data)
+    (places : Option (List ℕ)) (answer : Result Layout SchemaFault)
     → has_known_keys document ≡ true → dimensions ≡ dimensions_in document → measures ≡ measures_in document
     → least ≡ least_measures_in document → spellings ≡ spellings_in document
     → limit ≡ max_records_in document → grouping ≡ get_member (codes "grouping") document
     → version ≡ version_in document → feed ≡ get_member (codes "feed") document
-    → decimals ≡ get_member (codes "decimals") document
+    → decimals ≡ get_member (codes "decimals") document → texts ≡ get_member (codes "texts") document
+    → places ≡ text_places_of_value measures decimals texts
     → AnswersParts (record {
       dimensions = dimensions;
       measures = measures;
@@ -324,10 +375,13 @@ pub document-answered_by : (document : Members) (dimensions measures spellings :
       version = version;
       columns = columns_of_value dimensions measures feed;
       decimals = decimals_of_value measures decimals;
+      text_places = places;
     }) answer
     → AnswersDocument document answer
-document-answered_by document dimensions measures spellings least limit grouping version feed decimals answer known d m
-    n t l g v f e answers =
+document-answered_by document dimensions measures spellings least limit grouping version feed decimals texts places
+    answer known d m n t l g v f e x p answers =
+    let text_places_is : places ≡ text_places_in document =
+    p ∙ (λ i. text_places_of_value (m i) (e i) (x i)) in
     document-answered document answer known (subst (λ (parts : SchemaParts). AnswersParts parts answer)
     (λ i. record {
       dimensions = d i;
@@ -339,11 +393,12 @@ document-answered_by document dimensions measures spellings least limit grouping
       version = v i;
       columns = columns_of_value (d i) (m i) (f i);
       decimals = decimals_of_value (m i) (e i);
+      text_places = text_places_is i;
     }) answers)
 
 -- what is answered to names, where nothing else is said, is answered to their parts
-pub named_parts-answered : (dimensions measures spellings ds ms ts : List (List ℕ)) (answer : Result Layout SchemaFault)
-    → ds ≡ dimensions → ms ≡ measures → ts ≡ spellings
+pub named_parts-answered : (dimensions measures spellings ds ms ts : List (List ℕ)) (places : List ℕ)
+    (answer : Result Layout SchemaFault) → ds ≡ dimensions → ms ≡ measures → ts ≡ spellings → places ≡ []
     → AnswersParts (record {
       dimensions = ds;
       measures = ms;
@@ -354,9 +409,10 @@ pub named_parts-answered : (dimensions measures spellings ds ms ts : List (List 
       version = Some 1;
       columns = Some None;
       decimals = Some [];
+      text_places = Some places;
     }) answer
     → AnswersParts (named_parts dimensions measures spellings) answer
-named_parts-answered dimensions measures spellings ds ms ts answer d m t answers =
+named_parts-answered dimensions measures spellings ds ms ts places answer d m t p answers =
     let sets : sets_of_grouping ds None ≡ Some (all_sets (length dimensions)) =
     ap (λ names. sets_of_grouping names None) d ∙ ap Some (kept_sets-all_sets (length dimensions)) in
     subst (λ (parts : SchemaParts). AnswersParts parts answer)
@@ -370,6 +426,7 @@ named_parts-answered dimensions measures spellings ds ms ts answer d m t answers
       version = Some 1;
       columns = Some None;
       decimals = Some [];
+      text_places = Some (p i);
     }) answers
 
 -- a schema that is answered to parts is theirs
@@ -384,8 +441,8 @@ AnswersParts-Ok parts (Ok layout) answers =
     option_map_or-Ok (find (is_fault_of_parts parts) parts_faults) (layout_of_parts parts) layout answers
 AnswersParts-Ok parts (Err fault) answers = tt
 
-pub named_parts-layout : (dimensions measures spellings ds ms ts : List (List ℕ)) (answer : Result Layout SchemaFault)
-    → ds ≡ dimensions → ms ≡ measures → ts ≡ spellings
+pub named_parts-layout : (dimensions measures spellings ds ms ts : List (List ℕ)) (places : List ℕ)
+    (answer : Result Layout SchemaFault) → ds ≡ dimensions → ms ≡ measures → ts ≡ spellings → places ≡ []
     → AnswersParts (record {
       dimensions = ds;
       measures = ms;
@@ -396,11 +453,12 @@ pub named_parts-layout : (dimensions measures spellings ds ms ts : List (List �
       version = Some 1;
       columns = Some None;
       decimals = Some [];
+      text_places = Some places;
     }) answer
     → IfOk answer (λ layout. layout ≡ layout_of_parts (named_parts dimensions measures spellings))
-named_parts-layout dimensions measures spellings ds ms ts answer d m t answers =
+named_parts-layout dimensions measures spellings ds ms ts places answer d m t p answers =
     AnswersParts-Ok (named_parts dimensions measures spellings) answer
-    (named_parts-answered dimensions measures spellings ds ms ts answer d m t answers)
+    (named_parts-answered dimensions measures spellings ds ms ts places answer d m t p answers)
 
 -- no document is answered that it is none
 first_fault-Toml : (document : Members) (found : Option SchemaFault) → first_fault document ≡ found
@@ -427,3 +485,4 @@ bytes-answered bytes document (Err Grouping) utf8 parsed answers = (utf8, docume
 bytes-answered bytes document (Err Version) utf8 parsed answers = (utf8, document, parsed, answers)
 bytes-answered bytes document (Err Columns) utf8 parsed answers = (utf8, document, parsed, answers)
 bytes-answered bytes document (Err Decimals) utf8 parsed answers = (utf8, document, parsed, answers)
+bytes-answered bytes document (Err Texts) utf8 parsed answers = (utf8, document, parsed, answers)

@@ -10,7 +10,7 @@ use Rattle.std.proofs.Math.Nat.{mod-lt}
 use Rattle.cube_core.specs.GroupingSet.{all_sets, part_of}
 
 -- numbers one after another rise
-range_with_len-IsStrictlyIncreasing : (a n : ℕ) → IsStrictlyIncreasing (range_with_len a n)
+pub range_with_len-IsStrictlyIncreasing : (a n : ℕ) → IsStrictlyIncreasing (range_with_len a n)
 range_with_len-IsStrictlyIncreasing a n k inside =
     let within : k + 1 < n = rw (sym (length-range_with_len a n)) inside in
     rw (get_or-range_with_len a n k 0 (omega arith), get_or-range_with_len a n (k + 1) 0 within) (omega arith)
@@ -19,14 +19,18 @@ range_with_len-IsStrictlyIncreasing a n k inside =
 pub all_sets-IsStrictlyIncreasing : (dimensions : ℕ) → IsStrictlyIncreasing (all_sets dimensions)
 all_sets-IsStrictlyIncreasing dimensions = range_with_len-IsStrictlyIncreasing 0 (2 ^ dimensions)
 
+-- each of so many numbers from 0 on is below their number
+pub range_with_len-All : (n : ℕ) → All (λ number. number < n) (range_with_len 0 n)
+range_with_len-All n = All-from_get_or (λ number. number < n) (range_with_len 0 n) 0 below
+  where
+    below : (i : ℕ) → i < length (range_with_len 0 n) → get_or (range_with_len 0 n) i 0 < n
+    below i inside =
+        let within : i < n = rw (sym (length-range_with_len 0 n)) inside in
+        rw (get_or-range_with_len 0 n i 0 within) (omega arith)
+
 -- each of all sets is a set of the dimensions
 pub all_sets-All : (dimensions : ℕ) → All (λ set. set < 2 ^ dimensions) (all_sets dimensions)
-all_sets-All dimensions = All-from_get_or (λ set. set < 2 ^ dimensions) (all_sets dimensions) 0 below
-  where
-    below : (i : ℕ) → i < length (all_sets dimensions) → get_or (all_sets dimensions) i 0 < 2 ^ dimensions
-    below i inside =
-        let within : i < 2 ^ dimensions = rw (sym (length-range_with_len 0 (2 ^ dimensions))) inside in
-        rw (get_or-range_with_len 0 (2 ^ dimensions) i 0 within) (omega arith)
+all_sets-All dimensions = range_with_len-All (2 ^ dimensions)
 
 -- the list of them after one more
 pub range_with_len-more : (a n : ℕ) → range_with_len a (n + 1) ≡ range_with_len a n ++ (a + n) ∷ []

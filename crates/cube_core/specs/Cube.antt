@@ -3,7 +3,8 @@
 use Rattle.std.specs.Prelude.{◌==◌, ◌&&◌, ◌||◌, ◌↔◌, ℕ, Bool, IsTrue, List, length, map, Contains}
 use Rattle.std.specs.List.{AllByRecursion, list_any, list_all}
 use Rattle.std.specs.List.Sorted.{IsStrictlySortedBy}
-use Rattle.cube_core.specs.Layout.{Layout}
+use Rattle.cube_core.specs.Layout.{Layout, number_of_dimensions}
+use Rattle.cube_core.specs.TextPlaces.{counted}
 use Rattle.cube_core.specs.Covers.{covers}
 use Rattle.cube_core.specs.Group.{group_of}
 use Rattle.cube_core.specs.Answer.{AreAnswers}
@@ -39,6 +40,7 @@ pub record AreRowsOver (sets : List ℕ) (dimensions : ℕ) (aggregates : List A
   pub ordered : IsStrictlySortedBy key_cmp (map key_of rows)
   pub answers : AllByRecursion (HasAnswers aggregates facts) rows
 
--- these are the rows of the cube over a schema's grouping sets
+-- these are the rows of the cube over a schema's grouping sets; a text that is counted counts as a number of its own
 abbrev pub AreRows : Layout → List Fact → List Row → Type 0
-AreRows s facts rows = AreRowsOver s.grouping_sets (length s.dimensions) s.aggregates facts rows
+AreRows s facts rows =
+    AreRowsOver s.grouping_sets (number_of_dimensions s) s.aggregates (map (counted s) facts) rows

@@ -5,7 +5,8 @@ use Rattle.std.specs.Prelude.{option_map, Result, Ok, Err, if◌then◌else◌}
 use Rattle.std.specs.Str.{bytes_eq, is_utf8, all_ascii_digits}
 use Rattle.std.specs.Str.Parse.{without_leading_sign, signed_digits_value}
 use Rattle.std.specs.List.{list_all, list_any, filter_map}
-use Rattle.cube_core.specs.Layout.{Layout}
+use Rattle.cube_core.specs.Layout.{Layout, number_of_dimensions}
+use Rattle.cube_core.specs.TextPlaces.{with_places_first}
 use Rattle.cube_core.specs.Takes.{null_text, may_amend, may_upsert}
 use Rattle.cube_core.specs.declared.fact.Fact.{Fact}
 use Rattle.cube_core.specs.declared.change.Change.{Change}
@@ -35,15 +36,26 @@ same_fields (a ∷ as') (b ∷ bs) = bytes_eq a b && same_fields as' bs
 abbrev pub byte_order_mark : List ℕ
 byte_order_mark = 0xEF ∷ 0xBB ∷ 0xBF ∷ []
 
--- the names of a feed's columns after the first, in the order of the schema
+-- the names of a feed's columns after the first, in the order of a plain record
 abbrev pub column_names : Layout → List (List ℕ)
 column_names s = codes "id" ∷ s.dimensions ++ s.measures
 
--- whether a record is the header: `op`, which one byte order mark may precede, and then the names of the other columns
-abbrev pub is_header : Layout → List (List ℕ) → Bool
-is_header s fields =
+-- the fields of a record in the order of the schema, in that of a plain record: the texts that are counted stand before the
+-- measures
+abbrev pub arranged : Layout → List (List ℕ) → List (List ℕ)
+arranged s fields = take (2 + number_of_dimensions s) fields
+    ++ with_places_first s.text_places (drop (2 + number_of_dimensions s) fields)
+
+-- whether these fields are the names of the columns, in the order of a plain record: `op`, which one byte order mark may
+-- precede, and then the names of the others
+abbrev pub are_names : Layout → List (List ℕ) → Bool
+are_names s fields =
     same_fields fields (codes "op" ∷ column_names s)
     || same_fields fields ((byte_order_mark ++ codes "op") ∷ column_names s)
+
+-- whether a record is the header
+abbrev pub is_header : Layout → List (List ℕ) → Bool
+is_header s fields = are_names s (arranged s fields)
 
 -- whether a whole number fits 64 bits with its sign
 abbrev pub fits_i64 : ℤ → Bool

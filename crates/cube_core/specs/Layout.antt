@@ -1,7 +1,7 @@
 -- The schema of a cube: what its feeds hold and which aggregates it shows (this project's choice).
-use Rattle.std.specs.Prelude.{◌≡◌, ◌<◌, ◌≤◌, ◌+◌, ◌/◌, ◌%◌, ◌&&◌, ◌||◌, ◌==◌, nat_lt, nat_le, ℕ, zero, suc}
+use Rattle.std.specs.Prelude.{◌≡◌, ◌<◌, ◌≤◌, ◌+◌, ◌-◌, ◌/◌, ◌%◌, ◌&&◌, ◌||◌, ◌==◌, nat_lt, nat_le, ℕ, zero, suc}
 use Rattle.std.specs.Prelude.{Bool, true, false, not, List, [], ◌∷◌, ◌++◌, ◌^◌}
-use Rattle.std.specs.Prelude.{length, map, codes, get_or, All, Option, None, IfSome, is_some}
+use Rattle.std.specs.Prelude.{length, map, take, drop, codes, get_or, All, Option, None, IfSome, is_some}
 use Rattle.std.specs.Str.{bytes_eq}
 use Rattle.std.specs.List.{list_any, list_all}
 use Rattle.std.specs.List.Sorted.{IsStrictlyIncreasing}
@@ -14,11 +14,13 @@ use Rattle.cube_core.specs.declared.aggregate.Agg.{Agg}
 use Rattle.cube_core.specs.declared.aggregate.Agg.TheVariants.{CountAll, Count, Sum, Min, Max, Avg}
 use Rattle.cube_core.specs.declared.aggregate.Agg.TheVariants.{CountDistinct, PercentileDisc, SumOfSquares, VarPop, VarSamp, Values}
 
--- a schema: the names of the dimensions and of the measures, the aggregates, each with its spelling,
+-- a schema: the names of the dimensions, behind which those of the texts stand that are counted, and of the measures, the
+-- aggregates, each with its spelling,
 -- how many data records a feed may have, the masks of the grouping sets that are kept, the version of its feeds,
 -- the shard of them that is read, how many bytes a record of them may have, where there is a bound, their columns, where
--- they are known by name, and how many digits each measure may have behind a point; one that doesn't stand in that list,
--- or without a number, takes no point
+-- they are known by name, how many digits each measure may have behind a point (one that doesn't stand in that list,
+-- or without a number, takes no point), and the places of the texts that are counted among the columns behind the
+-- dimensions
 pub record Layout : Type 0 where
   pub dimensions : List (List ℕ)
   pub measures : List (List ℕ)
@@ -31,6 +33,23 @@ pub record Layout : Type 0 where
   pub max_record_bytes : Option ℕ
   pub columns : Option FeedColumns
   pub decimals : List (Option ℕ)
+  pub text_places : List ℕ
+
+-- how many dimensions the cube has: the texts that are counted are none
+abbrev pub number_of_dimensions : Layout → ℕ
+number_of_dimensions s = length s.dimensions - length s.text_places
+
+-- the dimensions of the cube
+abbrev pub cube_dimensions : Layout → List (List ℕ)
+cube_dimensions s = take (number_of_dimensions s) s.dimensions
+
+-- the texts that are counted
+abbrev pub counted_texts : Layout → List (List ℕ)
+counted_texts s = drop (number_of_dimensions s) s.dimensions
+
+-- what aggregates are of: the measures, and then the texts that are counted
+abbrev pub counted_names : Layout → List (List ℕ)
+counted_names s = s.measures ++ counted_texts s
 
 -- how many digits a measure may have behind a point; none where it takes no point
 abbrev pub decimals_of : Layout → ℕ → Option ℕ
@@ -75,6 +94,22 @@ is_aggregate_of measures (SumOfSquares m) = nat_lt m measures
 is_aggregate_of measures (VarPop m) = nat_lt m measures
 is_aggregate_of measures (VarSamp m) = nat_lt m measures
 is_aggregate_of measures (Values m) = nat_lt m measures
+
+-- whether an aggregate may be of what it is of, where numbers stand in so many places and texts behind them: a count and a
+-- distinct count are of either, the others of numbers
+abbrev pub suits : ℕ → Agg → Bool
+suits numbers CountAll = true
+suits numbers (Count m) = true
+suits numbers (CountDistinct m) = true
+suits numbers (Sum m) = nat_lt m numbers
+suits numbers (Min m) = nat_lt m numbers
+suits numbers (Max m) = nat_lt m numbers
+suits numbers (Avg m) = nat_lt m numbers
+suits numbers (PercentileDisc m units places) = nat_lt m numbers
+suits numbers (SumOfSquares m) = nat_lt m numbers
+suits numbers (VarPop m) = nat_lt m numbers
+suits numbers (VarSamp m) = nat_lt m numbers
+suits numbers (Values m) = nat_lt m numbers
 
 -- an aggregate of a measure, as a schema spells it
 abbrev pub spelled_with : List ℕ → List (List ℕ) → ℕ → List ℕ
@@ -128,31 +163,48 @@ pub record IsRecordBound (most : ℕ) : Type 0 where
   pub some : 1 ≤ most
   pub at_most : most ≤ 2 ^ 40
 
--- what is true of every schema: the numbers of its parts, lawful names that differ, aggregates of its measures
+-- what is true of every schema: the numbers of its parts, lawful names that differ, aggregates of its measures and texts
 -- in their spelling, and grouping sets of its dimensions, in ascending order, a lawful shard, a lawful bound on records,
--- lawful columns, and at most 18 digits behind a point
+-- lawful columns, at most 18 digits behind a point, and the places of texts in ascending order
 pub record IsSchema (s : Layout) : Type 0 where
-  pub some_dimension : 1 ≤ length s.dimensions
-  pub dimensions_at_most : length s.dimensions ≤ 8
-  pub some_measure : s.columns ≡ None → 1 ≤ length s.measures
-  pub measures_at_most : length s.measures ≤ 4
+  pub some_dimension : length s.text_places < length s.dimensions
+  pub dimensions_at_most : length s.dimensions ≤ 8 + length s.text_places
+  pub some_measure : s.columns ≡ None → 1 ≤ length s.measures + length s.text_places
+  pub measures_at_most : length s.measures + length s.text_places ≤ 4
   pub some_aggregate : 1 ≤ length s.aggregates
   pub aggregates_at_most : length s.aggregates ≤ 32
   pub names_are_lawful : list_all is_lawful_name (names_of s) ≡ true
   pub names_are_distinct : are_distinct (names_of s) ≡ true
-  pub aggregates_are_of_measures : list_all (is_aggregate_of (length s.measures)) s.aggregates ≡ true
-  pub aggregates_are_spelled : s.aggregate_texts ≡ map (spelling_of s.measures) s.aggregates
+  pub aggregates_are_of_measures : list_all (is_aggregate_of (length (counted_names s))) s.aggregates ≡ true
+  pub aggregates_suit : list_all (suits (length s.measures)) s.aggregates ≡ true
+  pub aggregates_are_spelled : s.aggregate_texts ≡ map (spelling_of (counted_names s)) s.aggregates
   pub some_record : 1 ≤ s.max_records
   pub records_at_most : s.max_records < 2 ^ 32
   pub some_set : 1 ≤ length s.grouping_sets
   pub sets_are_ascending : IsStrictlyIncreasing s.grouping_sets
-  pub sets_are_of_dimensions : All (λ set. set < 2 ^ length s.dimensions) s.grouping_sets
+  pub sets_are_of_dimensions : All (λ set. set < 2 ^ number_of_dimensions s) s.grouping_sets
   pub version_at_least : 1 ≤ s.version
   pub version_at_most : s.version ≤ 2
   pub lawful_shard : IsShard s.shard
   pub lawful_record_bytes : IfSome s.max_record_bytes IsRecordBound
   pub lawful_columns : IfSome s.columns (AreColumnsOf (length s.dimensions) (length s.measures))
   pub few_digits : All (λ digits. IfSome digits (λ k. k ≤ 18)) s.decimals
+  pub text_places_are_ascending : IsStrictlyIncreasing s.text_places
+  pub text_places_are_of_measures : All (λ place. place < length s.measures + length s.text_places) s.text_places
+
+-- the schema of a cube whose feeds have texts at these places that are counted: they are measures of it
+abbrev pub cube_schema_with : List ℕ → Layout → Layout
+cube_schema_with [] s = s
+cube_schema_with (_ ∷ _) s = record s {
+  dimensions = cube_dimensions s;
+  measures = counted_names s;
+  columns = None;
+  text_places = [];
+}
+
+-- the schema of the cube of a schema's feeds
+abbrev pub cube_schema : Layout → Layout
+cube_schema s = cube_schema_with s.text_places s
 
 -- whether a schema keeps the grouping set of a key
 abbrev pub keeps : Layout → Key → Bool
@@ -196,4 +248,5 @@ sample_layout = record {
   max_record_bytes = None;
   columns = None;
   decimals = [];
+  text_places = [];
 }

@@ -27,6 +27,8 @@ pub mod Referred
 pub mod GroupingSet
 pub mod Cube
 pub mod DecimalsDocument
+pub mod TextPlaces
+pub mod TextsDocument
 pub mod Merged
 pub mod Query
 pub mod Conditions

@@ -1,15 +1,15 @@
 -- The partial form of a schema: it also has what each mean, each variance, each distinct count and each percentile is made
 -- of, so that cubes under it can be merged (Gray et al. 1997: means and variances are algebraic, made of SUM, COUNT and the
 -- sum of the squares; the others are holistic, made of all values).
-use Rattle.std.specs.Prelude.{◌≡◌, ◌==◌, ◌&&◌, ◌<◌, ⊤, ℕ, Bool, true, false, List, [], ◌∷◌, ◌++◌, length, map, if◌then◌else◌}
+use Rattle.std.specs.Prelude.{◌≡◌, ◌==◌, ◌&&◌, ◌<◌, ◌≤◌, ⊤, ℕ, Bool, true, false, List, [], ◌∷◌, ◌++◌, length, map, if◌then◌else◌}
 use Rattle.std.specs.Prelude.{Result, Ok, Err}
 use Rattle.std.specs.List.{list_any, fold}
-use Rattle.cube_core.specs.Layout.{Layout, spelling_of}
+use Rattle.cube_core.specs.Layout.{Layout, counted_names, spelling_of}
 use Rattle.cube_core.specs.declared.aggregate.Agg.{Agg}
 use Rattle.cube_core.specs.declared.aggregate.Agg.TheVariants.{CountAll, Count, Sum, Min, Max, Avg}
 use Rattle.cube_core.specs.declared.aggregate.Agg.TheVariants.{CountDistinct, PercentileDisc, SumOfSquares, VarPop, VarSamp, Values}
 use Rattle.cube_core.specs.declared.schema_fault.SchemaFault.{SchemaFault}
-use Rattle.cube_core.specs.declared.schema_fault.SchemaFault.TheVariants.{Memory}
+use Rattle.cube_core.specs.declared.schema_fault.SchemaFault.TheVariants.{Memory, Texts}
 
 -- whether two aggregates are the same
 abbrev pub is_aggregate : Agg → Agg → Bool
@@ -61,16 +61,17 @@ partial_aggregates aggregates = fold with_parts aggregates aggregates
 abbrev pub partial_form : Layout → Layout
 partial_form s = record s {
   aggregates = partial_aggregates s.aggregates;
-  aggregate_texts = map (spelling_of s.measures) (partial_aggregates s.aggregates);
+  aggregate_texts = map (spelling_of (counted_names s)) (partial_aggregates s.aggregates);
 }
 
 -- the most aggregates of a schema: 16 of its document, and 4 for each measure
 abbrev pub most_aggregates : ℕ
 most_aggregates = 32
 
--- what may be answered to a wish for the partial form:
--- the form, that it has too many aggregates, or that memory ran out
+-- what may be answered to a wish for the partial form: the form, where no text is counted, that some are, that it has too
+-- many aggregates, or that memory ran out
 abbrev pub AnswersPartial : Layout → Result Layout SchemaFault → Type 0
-AnswersPartial s (Ok form) = form ≡ partial_form s
+AnswersPartial s (Ok form) = (s.text_places ≡ []) × (form ≡ partial_form s)
 AnswersPartial s (Err Memory) = ⊤
+AnswersPartial s (Err Texts) = 1 ≤ length s.text_places
 AnswersPartial s (Err _) = most_aggregates < length (partial_aggregates s.aggregates)

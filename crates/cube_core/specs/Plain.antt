@@ -8,7 +8,7 @@ use Rattle.std.specs.Str.{bytes_eq, is_utf8, all_ascii_digits}
 use Rattle.std.specs.Str.Parse.{without_leading_sign}
 use Rattle.std.specs.Fmt.{take_chars}
 use Rattle.std.specs.Option.{option_map_or}
-use Rattle.cube_core.specs.Items.{field_at, dimension_fields, measure_fields, is_keep}
+use Rattle.cube_core.specs.Items.{field_at, dimension_fields, measure_fields, is_keep, arranged}
 use Rattle.cube_core.specs.Layout.{Layout, decimals_of, is_listed}
 use Rattle.cube_core.specs.Takes.{null_text}
 use Rattle.cube_core.specs.declared.feed_columns.FeedColumns.{FeedColumns}
@@ -86,13 +86,17 @@ plain_measures s nulls point m [] = []
 plain_measures s nulls point m (field ∷ fields) =
     plain_measure s nulls point m field ∷ plain_measures s nulls point (m + 1) fields
 
--- the plain record of one whose fields stand in the order of the schema: `\N` is null in it, whatever else is, and
+-- the plain record of one whose fields stand in the order of a plain record: `\N` is null in it, whatever else is, and
 -- decimals stand behind a point
-abbrev pub plain_in_order : Layout → List (List ℕ) → List (List ℕ)
-plain_in_order s fields = let nulls = null_text ∷ nulls_of s in
+abbrev pub plain_of_arranged : Layout → List (List ℕ) → List (List ℕ)
+plain_of_arranged s fields = let nulls = null_text ∷ nulls_of s in
     take 2 fields
     ++ map (plain_dimension s nulls None) (dimension_fields s fields)
     ++ plain_measures s nulls 46 0 (measure_fields s fields)
+
+-- the plain record of one whose fields stand in the order of the schema
+abbrev pub plain_in_order : Layout → List (List ℕ) → List (List ℕ)
+plain_in_order s fields = plain_of_arranged s (arranged s fields)
 
 -- the plain field of a dimension that stands at a place
 abbrev pub plain_at : Layout → List (List ℕ) → DimensionPlace → List ℕ

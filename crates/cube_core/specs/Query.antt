@@ -9,7 +9,7 @@ use Rattle.std.specs.List.{AllByRecursion, list_all, filter_map}
 use Rattle.std.specs.List.Sorted.{IsStrictlySortedBy}
 use Rattle.std.specs.Ordering.{eq_by_cmp}
 use Rattle.cube_core.specs.Cube.{is_cell, key_of, HasAnswers}
-use Rattle.cube_core.specs.Layout.{Layout}
+use Rattle.cube_core.specs.Layout.{Layout, cube_dimensions, number_of_dimensions}
 use Rattle.cube_core.specs.Records.{records_of}
 use Rattle.cube_core.specs.Takes.{null_text}
 use Rattle.cube_core.specs.Order.{coord_cmp, key_cmp}
@@ -31,7 +31,7 @@ Says said answer = answer ≡ said
 
 -- the place of the dimension that has this name
 abbrev pub place_of : Layout → List ℕ → Result ℕ QueryFault
-place_of s name = ok_or (position (λ dimension. bytes_eq dimension name) s.dimensions) UnknownDimension
+place_of s name = ok_or (position (λ dimension. bytes_eq dimension name) (cube_dimensions s)) UnknownDimension
 
 -- a pattern: for each dimension the coordinate that is wanted, or none where any will do
 abbrev pub Wanted : Type 0
@@ -65,7 +65,7 @@ spelled_by fields =
 
 -- the pattern that a record spells under a schema: it has a field for each dimension
 abbrev pub spelled_under : Layout → List (List ℕ) → Result Wanted QueryFault
-spelled_under s fields = if length fields == length s.dimensions then spelled_by fields else Err Fields
+spelled_under s fields = if length fields == number_of_dimensions s then spelled_by fields else Err Fields
 
 -- the one element of a list, where there is exactly one
 abbrev pub only_one : {X : Type 0} → List X → Option X

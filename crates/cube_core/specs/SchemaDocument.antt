@@ -10,7 +10,9 @@ use Rattle.toml.specs.Data.{Data, string, integer, array, as_array, Items, no_it
 use Rattle.toml.specs.Data.{get_member}
 use Rattle.toml.specs.Parse.{parse_document}
 use Rattle.cube_core.specs.Shard.{whole_feed}
-use Rattle.cube_core.specs.Layout.{Layout, is_listed, are_distinct, is_lawful_name, spelling_of}
+use Rattle.cube_core.specs.Layout.{Layout, is_listed, are_distinct, is_lawful_name, spelling_of, suits}
+use Rattle.cube_core.specs.TextPlaces.{at_places, beside_places}
+use Rattle.cube_core.specs.TextsDocument.{columns_with_texts, counted_of_measures, text_places_of_value}
 use Rattle.cube_core.specs.DecimalsDocument.{decimals_of_value}
 use Rattle.cube_core.specs.FeedDocument.{texts_of, has_only, columns_of_value}
 use Rattle.cube_core.specs.GroupingSet.{all_sets, is_among}
@@ -21,12 +23,12 @@ use Rattle.cube_core.specs.declared.feed_columns.FeedColumns.{FeedColumns}
 use Rattle.cube_core.specs.declared.schema_fault.SchemaFault.{SchemaFault}
 use Rattle.cube_core.specs.declared.schema_fault.SchemaFault.TheVariants.{Memory, Toml, UnknownKey, Dimensions}
 use Rattle.cube_core.specs.declared.schema_fault.SchemaFault.TheVariants.{Measures, Name, Aggregates, MaxRecords}
-use Rattle.cube_core.specs.declared.schema_fault.SchemaFault.TheVariants.{Grouping, Version, Columns, Decimals}
+use Rattle.cube_core.specs.declared.schema_fault.SchemaFault.TheVariants.{Grouping, Version, Columns, Decimals, Texts}
 
 -- the keys that a document may have
 abbrev pub known_keys : List (List ℕ)
 known_keys = codes "dimensions" ∷ codes "measures" ∷ codes "aggregates" ∷ codes "max_records" ∷ codes "grouping"
-    ∷ codes "version" ∷ codes "feed" ∷ codes "decimals" ∷ []
+    ∷ codes "version" ∷ codes "feed" ∷ codes "decimals" ∷ codes "texts" ∷ []
 
 -- whether a document has no other key
 abbrev pub has_known_keys : Members → Bool
@@ -203,6 +205,11 @@ columns_in document =
 abbrev pub decimals_in : Members → Option (List (Option ℕ))
 decimals_in document = decimals_of_value (measures_in document) (get_member (codes "decimals") document)
 
+-- the places of the measures that are texts, where what the document says of them is right
+abbrev pub text_places_in : Members → Option (List ℕ)
+text_places_in document = text_places_of_value (measures_in document) (get_member (codes "decimals") document)
+    (get_member (codes "texts") document)
+
 -- the least number of measures: none under columns by name, where the document has an array of texts for them
 abbrev pub least_measures_in : Members → ℕ
 least_measures_in document =
@@ -210,8 +217,8 @@ least_measures_in document =
 
 -- what a schema is made of, as a document or a caller gives it: the names, the least number of measures,
 -- the spellings of the aggregates, and how many data records a feed may have, the grouping sets that are kept,
--- the version of the feeds, their columns by name, and the digits of measures behind a point, each of the last five
--- where what is said of it is right
+-- the version of the feeds, their columns by name, the digits of measures behind a point, and the places of those measures
+-- that are texts, each of the last six where what is said of it is right
 pub record SchemaParts : Type 0 where
   pub dimensions : List (List ℕ)
   pub measures : List (List ℕ)
@@ -222,6 +229,7 @@ pub record SchemaParts : Type 0 where
   pub version : Option ℕ
   pub columns : Option (Option FeedColumns)
   pub decimals : Option (List (Option ℕ))
+  pub text_places : Option (List ℕ)
 
 -- the parts that a document gives
 abbrev pub parts_in : Members → SchemaParts
@@ -235,6 +243,7 @@ parts_in document = record {
   version = version_in document;
   columns = columns_in document;
   decimals = decimals_in document;
+  text_places = text_places_in document;
 }
 
 -- the parts of a schema of which no more is said than its names and the spellings of its aggregates:
@@ -250,12 +259,29 @@ named_parts dimensions measures spellings = record {
   version = Some 1;
   columns = Some None;
   decimals = Some [];
+  text_places = Some [];
 }
+
+-- the places of the texts that are counted, none where what is said of them is wrong
+abbrev pub places_in : SchemaParts → List ℕ
+places_in parts = unwrap_or parts.text_places []
+
+-- what the aggregates of parts are of
+abbrev pub counted_in : SchemaParts → List (List ℕ)
+counted_in parts = counted_of_measures (places_in parts) parts.measures
+
+-- the aggregates that are spelled
+abbrev pub aggregates_in : SchemaParts → List Agg
+aggregates_in parts = filter_map (aggregate_spelled (counted_in parts)) parts.spellings
+
+-- whether each may be of what it is of
+abbrev pub all_suit : SchemaParts → Bool
+all_suit parts = list_all (suits (length (beside_places (places_in parts) 0 parts.measures))) (aggregates_in parts)
 
 -- the faults of parts, in the order in which they are looked for
 abbrev pub parts_faults : List SchemaFault
 parts_faults = Dimensions ∷ Measures ∷ Name ∷ Aggregates ∷ MaxRecords ∷ Grouping ∷ Version ∷ Columns
-    ∷ Decimals ∷ []
+    ∷ Decimals ∷ Texts ∷ []
 
 -- whether parts have this fault
 abbrev pub is_fault_of_parts : SchemaParts → SchemaFault → Bool
@@ -266,27 +292,29 @@ is_fault_of_parts parts Dimensions = not (is_some_up_to 8 parts.dimensions)
 is_fault_of_parts parts Measures = not (is_number_of_measures parts.least_measures parts.measures)
 is_fault_of_parts parts Name = not (are_lawful_names (parts.dimensions ++ parts.measures))
 is_fault_of_parts parts Aggregates =
-    not (is_some_up_to 16 parts.spellings && are_spellings parts.measures parts.spellings)
+    not (is_some_up_to 16 parts.spellings && are_spellings (counted_in parts) parts.spellings && all_suit parts)
 is_fault_of_parts parts MaxRecords = not (is_some parts.max_records)
 is_fault_of_parts parts Grouping = not (is_some parts.grouping_sets)
 is_fault_of_parts parts Version = not (is_some parts.version)
 is_fault_of_parts parts Columns = not (is_some parts.columns)
 is_fault_of_parts parts Decimals = not (is_some parts.decimals)
+is_fault_of_parts parts Texts = not (is_some parts.text_places)
 
 -- the schema of parts that have no fault
 abbrev pub layout_of_parts : SchemaParts → Layout
 layout_of_parts parts = record {
-  dimensions = parts.dimensions;
-  measures = parts.measures;
-  aggregates = filter_map (aggregate_spelled parts.measures) parts.spellings;
+  dimensions = parts.dimensions ++ at_places (places_in parts) 0 parts.measures;
+  measures = beside_places (places_in parts) 0 parts.measures;
+  aggregates = aggregates_in parts;
   aggregate_texts = parts.spellings;
   max_records = unwrap_or parts.max_records default_max_records;
   grouping_sets = unwrap_or parts.grouping_sets [];
   version = unwrap_or parts.version 1;
   shard = whole_feed;
   max_record_bytes = None;
-  columns = unwrap_or parts.columns None;
-  decimals = unwrap_or parts.decimals [];
+  columns = option_map (columns_with_texts (places_in parts)) (unwrap_or parts.columns None);
+  decimals = beside_places (places_in parts) 0 (unwrap_or parts.decimals []);
+  text_places = places_in parts;
 }
 
 -- what parts say: their first fault, or their schema

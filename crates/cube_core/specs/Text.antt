@@ -6,7 +6,7 @@ use Rattle.std.specs.Prelude.{if◌then◌else◌}
 use Rattle.std.specs.Fmt.{signed_decimal}
 use Rattle.std.specs.List.{flat_map, range_with_len}
 use Rattle.csv.specs.Writing.{row_text, default_writer}
-use Rattle.cube_core.specs.Layout.{Layout, decimals_of}
+use Rattle.cube_core.specs.Layout.{Layout, cube_dimensions, decimals_of}
 use Rattle.cube_core.specs.Takes.{null_text}
 use Rattle.cube_core.specs.Wide.{long_decimal}
 use Rattle.cube_core.specs.declared.aggregate.Agg.{Agg}
@@ -30,7 +30,7 @@ grouping_name dimension = codes "grouping(" ++ dimension ++ codes ")"
 
 -- the fields of the header line: the dimensions, their GROUPING columns, the aggregates as spelled
 abbrev pub header_fields : Layout → List (List ℕ)
-header_fields s = s.dimensions ++ map grouping_name s.dimensions ++ s.aggregate_texts
+header_fields s = cube_dimensions s ++ map grouping_name (cube_dimensions s) ++ s.aggregate_texts
 
 -- what a row shows in a dimension: the text, or the null text for null and for ALL
 abbrev pub coord_text : Coord → List ℕ

@@ -6,7 +6,7 @@ use crate::small_sequence::SmallSequence;
 use crate::text::Text;
 use std::alloc::{AllocError, Global};
 
-/// One row of input: a value or null for each dimension, and for each measure.
+/// One row of input: a value or null for each dimension and each text that is counted, and for each measure.
 #[derive(Debug, Drop)]
 pub struct Fact {
     pub dims: DimensionValues,

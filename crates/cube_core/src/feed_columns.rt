@@ -13,8 +13,8 @@ pub struct Column {
 }
 
 /// The columns of feeds that are known by name, as the table `feed` of a schema says: those of ids and of operations,
-/// where there are some, and one for each dimension and each measure; the texts that are null; the byte between fields,
-/// and the point or the comma before decimals.
+/// where there are some, and one for each dimension, behind which those of the texts that are counted stand, and each
+/// measure; the texts that are null; the byte between fields, and the point or the comma before decimals.
 #[derive(Debug, Drop)]
 pub struct FeedColumns {
     pub id: Option<Text>,

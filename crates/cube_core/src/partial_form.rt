@@ -20,11 +20,14 @@ impl Schema {
     /// of m `values(m)`, where they aren't there yet. All of these can be made again from the sums, the counts, the sums of
     /// squares and the values of several cubes. The partial form of a partial form is itself.
     ///
-    /// The error is that memory ran out, or `Aggregates` where there would be more than 32, which never happens to the
-    /// schema of a document nor to its partial form.
+    /// The error is that memory ran out, `Texts` where there are texts that are counted, or `Aggregates` where there
+    /// would be more than 32, which never happens to the schema of a document nor to its partial form.
     pub fn partial(&self, alloc: Global) -> Result<Schema, SchemaFault>
         ensures { AnswersPartial self.now result }
     {
+        if !self.text_places.is_empty() {
+            return Err(SchemaFault::Texts);
+        }
         let aggregates = partial_aggregates(alloc, &self.aggregates)?;
         if aggregates.len() > MOST_AGGREGATES {
             return Err(SchemaFault::Aggregates);
@@ -41,6 +44,7 @@ impl Schema {
             max_record_bytes: self.max_record_bytes,
             columns: copy_columns(alloc, &self.columns)?,
             decimals: Vec::from_slice(alloc, &self.decimals)?,
+            text_places: Vec::new(alloc),
             hash_key: self.hash_key,
         })
     }
@@ -208,7 +212,7 @@ fn last_digit(number: u16) -> char
 }
 
 // The name at a place; the empty text past the last one.
-fn name_at(names: &[Text], place: usize) -> &str
+pub(crate) fn name_at(names: &[Text], place: usize) -> &str
     ensures { result.now ≡ get_or names.now place [] }
 {
     match names.get(place) {

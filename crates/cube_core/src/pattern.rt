@@ -45,7 +45,7 @@ impl Pattern {
         let Some(record) = only_record(alloc, word.as_bytes())? else {
             return Err(QueryFault::Fields);
         };
-        if record.len() != schema.dimensions().len() {
+        if record.len() != schema.number_of_dimensions() {
             return Err(QueryFault::Fields);
         }
         spelled_by(alloc, &record)

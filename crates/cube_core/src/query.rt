@@ -1,5 +1,6 @@
 //! Why a query is refused, and the dimension that a name means.
 ghost use Rattle.std.specs.Prelude.{◌≡◌, ◌<◌, length};
+ghost use Rattle.cube_core.specs.Layout.{number_of_dimensions};
 ghost use Rattle.cube_core.specs.Query.{place_of, drill_fault};
 
 use crate::key::Key;
@@ -66,15 +67,15 @@ impl Schema {
     pub fn dimension_of(&self, name: &str) -> Result<usize, QueryFault>
         ensures { result ≡ place_of self.now name.now }
     {
-        position_of(self.dimensions(), name).ok_or(QueryFault::UnknownDimension)
+        position_of(self.cube_dimensions(), name).ok_or(QueryFault::UnknownDimension)
     }
 
     /// Why there is no drill-down from a key along a dimension, counted from 0: `NotRolled` where the key isn't ALL in
     /// the dimension, else `NotGrouped` where the key's grouping set with the dimension isn't one of the schema's;
     /// `None` where there is one. The key has a coordinate for each dimension.
     pub fn drill_fault(&self, key: &Key, dim: usize) -> Option<QueryFault>
-        requires width { length key.now.coords ≡ length self.now.dimensions }
-        requires dim { dim < length self.now.dimensions }
+        requires width { length key.now.coords ≡ number_of_dimensions self.now }
+        requires dim { dim < number_of_dimensions self.now }
         ensures { result ≡ drill_fault self.now.grouping_sets dim key.now }
     {
         if !key.is_all(dim) {

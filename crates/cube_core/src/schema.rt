@@ -1,6 +1,7 @@
 //! The schema of a cube.
 ghost use Rattle.std.specs.Prelude.{◌≡◌, ◌≤◌, ◌<◌, ◌+◌, ◌^◌, IfOk, IfSome, false, true, length, map, option_map};
 ghost use Rattle.std.specs.List.{list_all, list_any};
+ghost use Rattle.cube_core.specs.Layout.{number_of_dimensions, cube_dimensions, counted_texts, counted_names, cube_schema};
 ghost use Rattle.cube_core.specs.Layout.{IsRecordBound, IsSchema, decimals_of, sample_layout, keeps, needs_each, needs_numbers, all_suffice};
 ghost use Rattle.cube_core.specs.Text.{digits_of};
 ghost use Rattle.cube_core.specs.SchemaDocument.{AnswersParts, layout_of_parts, named_parts};
@@ -23,8 +24,9 @@ use crate::text::{Text, copy_texts, texts_from_strs};
 use std::alloc::{AllocError, Global};
 use std::marker::Model;
 
-/// The schema of a cube: 1 to 8 dimensions, 1 to 4 measures (or none, where the columns of feeds are known by name),
-/// 1 to 32 aggregates of these measures, and the number of data records that a feed may have, 1 to 4294967295.
+/// The schema of a cube: 1 to 8 dimensions, 1 to 4 measures (or none, where the columns of feeds are known by name), each
+/// a number or a text that is counted, 1 to 32 aggregates of these, and the number of data records that a feed may have,
+/// 1 to 4294967295.
 ///
 /// All names differ, and none is empty, `op`, `id` or `*`.
 #[derive(Drop)]
@@ -40,6 +42,7 @@ pub struct Schema {
     pub(crate) max_record_bytes: Option<u64>,
     pub(crate) columns: Option<FeedColumns>,
     pub(crate) decimals: Vec<Option<u8>>,
+    pub(crate) text_places: Vec<usize>,
     pub(crate) hash_key: HashKey,
 }
 
@@ -60,6 +63,7 @@ impl Model for Schema {
       max_record_bytes = s.max_record_bytes;
       columns = s.columns;
       decimals = s.decimals.items;
+      text_places = s.text_places.items;
     } };
 
     ghost invariant = { λ s. IsSchema (record {
@@ -74,6 +78,7 @@ impl Model for Schema {
       max_record_bytes = s.max_record_bytes;
       columns = s.columns;
       decimals = s.decimals.items;
+      text_places = s.text_places.items;
     }) };
 }
 
@@ -109,6 +114,7 @@ impl Schema {
             aggregate_texts: aggregates,
             max_records: Some(u32::MAX),
             version: Some(1),
+            text_places: Some(Vec::new(alloc)),
         };
         schema_of_parts(alloc, parts, None, None, None)
     }
@@ -130,6 +136,7 @@ impl Schema {
             max_record_bytes: None,
             columns: None,
             decimals: Vec::new(alloc),
+            text_places: Vec::new(alloc),
             hash_key: HashKey::Known,
         })
     }
@@ -150,11 +157,13 @@ impl Schema {
             max_record_bytes: self.max_record_bytes,
             columns: copy_columns(alloc, &self.columns)?,
             decimals: Vec::from_slice(alloc, &self.decimals)?,
+            text_places: Vec::from_slice(alloc, &self.text_places)?,
             hash_key: self.hash_key,
         })
     }
 
-    /// The names of the dimensions, in order; 1 to 8.
+    /// The names of the dimensions, in order, 1 to 8, and behind them those of the texts that are counted, which are
+    /// read and kept as dimensions are.
     pub fn dimensions(&self) -> &[Text]
         ensures value { result.now ≡ self.now.dimensions }
         ensures schema { IsSchema self.now }
@@ -162,7 +171,43 @@ impl Schema {
         self.dimensions.as_slice()
     }
 
-    /// The names of the measures, in order; 1 to 4, or none, where the columns of feeds are known by name.
+    /// How many dimensions the cube has, 1 to 8: the texts that are counted are none.
+    pub fn number_of_dimensions(&self) -> usize
+        ensures value { result ≡ number_of_dimensions self.now }
+        ensures schema { IsSchema self.now }
+    {
+        self.dimensions.len() - self.text_places.len()
+    }
+
+    /// The names of the dimensions of the cube, in order; 1 to 8.
+    pub fn cube_dimensions(&self) -> &[Text]
+        ensures value { result.now ≡ cube_dimensions self.now }
+        ensures schema { IsSchema self.now }
+    {
+        let dimensions = self.number_of_dimensions();
+        &self.dimensions[..dimensions]
+    }
+
+    /// The names of the texts that are counted, in order; at most 4.
+    pub fn counted_texts(&self) -> &[Text]
+        ensures value { result.now ≡ counted_texts self.now }
+        ensures schema { IsSchema self.now }
+    {
+        let dimensions = self.number_of_dimensions();
+        &self.dimensions[dimensions..]
+    }
+
+    /// The places of the texts that are counted among the columns behind the dimensions, counted from 0, in ascending
+    /// order.
+    pub fn text_places(&self) -> &[usize]
+        ensures value { result.now ≡ self.now.text_places }
+        ensures schema { IsSchema self.now }
+    {
+        self.text_places.as_slice()
+    }
+
+    /// The names of the measures that are numbers, in order; with the texts that are counted 1 to 4, or none, where the
+    /// columns of feeds are known by name.
     pub fn measures(&self) -> &[Text]
         ensures value { result.now ≡ self.now.measures }
         ensures schema { IsSchema self.now }
@@ -170,7 +215,8 @@ impl Schema {
         self.measures.as_slice()
     }
 
-    /// The aggregates in order, each of a measure of this schema; 1 to 32.
+    /// The aggregates in order, each of a measure of this schema or of a text that is counted, whose numbers follow those
+    /// of the measures; 1 to 32. Of a text there are counts and distinct counts alone.
     pub fn aggregates(&self) -> &[Agg]
         ensures value { result.now ≡ self.now.aggregates }
         ensures schema { IsSchema self.now }
@@ -277,6 +323,42 @@ impl Schema {
         self.shard
     }
 
+    /// The schema of the cube of this schema's feeds: the texts that are counted are measures of it, behind the others,
+    /// and its feeds have no columns by name. Where there are no such texts it is a copy of this schema. The only error is
+    /// that memory ran out.
+    pub fn cube_schema(&self, alloc: Global) -> Result<Schema, AllocError>
+        ensures { IfOk result (λ schema. schema ≡ cube_schema self.now) }
+    {
+        if self.text_places.is_empty() {
+            return self.copy(alloc);
+        }
+        Ok(Schema {
+            dimensions: copy_texts(alloc, self.cube_dimensions())?,
+            measures: self.counted_names(alloc)?,
+            aggregates: Vec::from_slice(alloc, &self.aggregates)?,
+            aggregate_texts: copy_texts(alloc, &self.aggregate_texts)?,
+            max_records: self.max_records,
+            grouping_sets: Vec::from_slice(alloc, &self.grouping_sets)?,
+            version: self.version,
+            shard: self.shard,
+            max_record_bytes: self.max_record_bytes,
+            columns: None,
+            decimals: Vec::from_slice(alloc, &self.decimals)?,
+            text_places: Vec::new(alloc),
+            hash_key: self.hash_key,
+        })
+    }
+
+    // What aggregates are of: the measures, and then the texts that are counted.
+    fn counted_names(&self, alloc: Global) -> Result<Vec<Text>, AllocError>
+        ensures { IfOk result (λ names. names.items ≡ counted_names self.now) }
+    {
+        let mut names = copy_texts(alloc, &self.measures)?;
+        let mut texts = copy_texts(alloc, self.counted_texts())?;
+        names.append(&mut texts)?;
+        Ok(names)
+    }
+
     /// The same schema, of one shard of each feed.
     pub fn with_shard(self, shard: Shard) -> Schema
         requires { IsShard shard }
@@ -322,9 +404,9 @@ impl Schema {
     }
 
     /// Whether the schema keeps the grouping set of a key: the set of dimensions that aren't ALL in it. The key
-    /// has a coordinate for each dimension.
+    /// has a coordinate for each dimension of the cube.
     pub fn keeps(&self, key: &Key) -> bool
-        requires { length key.now.coords ≡ length self.now.dimensions }
+        requires { length key.now.coords ≡ number_of_dimensions self.now }
         ensures { result ≡ keeps self.now key.now }
     {
         let sets = self.grouping_sets();
@@ -335,16 +417,16 @@ impl Schema {
     /// set that a drill-down along the dimension leads to. The key has a coordinate for each dimension.
     #[tactic(auto, using(crate::proofs::AncestorLaws::mask_of_coords_byte))]
     pub(crate) fn keeps_below(&self, key: &Key, dim: usize) -> bool
-        requires width { length key.now.coords ≡ length self.now.dimensions }
-        requires dim { dim < length self.now.dimensions }
+        requires width { length key.now.coords ≡ number_of_dimensions self.now }
+        requires dim { dim < number_of_dimensions self.now }
         ensures { result ≡ is_among (mask_of key.now + 2 ^ dim) self.now.grouping_sets }
     {
         let sets = self.grouping_sets();
         is_among(mask_of_coords(key.coords.as_slice()) + bit_of(dim), sets)
     }
 
-    /// Whether a fact has this schema's numbers of dimensions and measures, and no dimension text `\N`, which
-    /// would read as null.
+    /// Whether a fact has a value or null for each of this schema's dimensions and texts that are counted, and one for each
+    /// measure that is a number, and no text `\N`, which would read as null.
     pub fn fits(&self, fact: &Fact) -> bool
         ensures { result ≡ fits self.now fact.now }
     {

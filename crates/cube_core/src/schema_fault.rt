@@ -43,6 +43,10 @@ pub enum SchemaFault {
     /// The table `decimals` has a key that is no measure, or a value that is no whole number from 0 to 18.
     #[error("S12")]
     Decimals,
+    /// There is no array of texts at `texts`, or one of them is no measure, stands twice, or is in the table
+    /// `decimals`; or the partial form is wanted of a schema that has texts there.
+    #[error("S13")]
+    Texts,
 }
 
 impl From<AllocError> for SchemaFault {

@@ -1,38 +1,47 @@
 //! Reads a schema from a TOML document, and makes one of its parts.
-ghost use Rattle.std.specs.Prelude.{◌≡◌, ◌≢◌, ◌≤◌, ℕ, List, ◌++◌, codes, false, true, Option, Some, Err, IfOk, IfErr, IfSome, IfNone, MatchOption, is_some, option_map, position};
+ghost use Rattle.std.specs.Prelude.{◌≡◌, ◌≢◌, ◌≤◌, ◌&&◌, ℕ, List, ◌++◌, codes, false, true, Option, Some, Err, IfOk, IfErr, IfSome, IfNone, MatchOption, is_some, length, map, option_map, position, unwrap_or, []};
 ghost use Rattle.std.specs.Str.{bytes_eq};
 ghost use Rattle.std.specs.List.{list_all, filter_map};
 ghost use Rattle.toml.specs.Data.{get_member};
 ghost use Rattle.toml.specs.View.{view, table_view, items_view};
 ghost use Rattle.cube_core.specs.DecimalsDocument.{decimals_of_value};
 ghost use Rattle.cube_core.specs.FeedDocument.{texts_of, columns_of_value};
-ghost use Rattle.cube_core.specs.Layout.{is_listed, are_distinct, is_lawful_name};
+ghost use Rattle.cube_core.specs.Layout.{is_listed, are_distinct, is_lawful_name, suits};
+ghost use Rattle.cube_core.specs.TextPlaces.{AreTextPlaces, beside_places};
+ghost use Rattle.cube_core.specs.TextsDocument.{columns_with_texts, counted_of_measures, text_column};
 ghost use Rattle.cube_core.specs.SchemaDocument.{AnswersBytes, AnswersDocument, AnswersParts, known_keys, has_known_keys, texts_at, texts_in, measures_in, least_measures_in, is_some_up_to, is_number_of_measures, are_lawful_names, aggregate_spelled, are_spellings, record_limit, max_records_in, feed_version, version_in, sets_of_grouping, statistic_spelled};
 ghost use Rattle.cube_core.specs.declared.feed_columns.FeedColumns.{FeedColumns};
 
 mod decimals_table;
 mod feed_table;
 mod grouping;
+mod parted;
 mod percentile;
+mod texts_array;
 
 use crate::aggregate::Agg;
+use crate::feed_columns::{Column, FeedColumns};
 use crate::hash_key::HashKey;
 use crate::schema::Schema;
 use crate::schema_fault::SchemaFault;
+use crate::sequence::Sequence;
 use crate::shard::Shard;
-use crate::text::Text;
+use crate::text::{Text, copy_texts};
 use decimals_table::decimals_of_value;
 use feed_table::columns_of_value;
 use grouping::sets_of_grouping;
+use parted::parted;
 use percentile::percentile_spelled;
 use std::alloc::{AllocError, Global};
+use texts_array::text_places_of_value;
 use toml::{Table, Value};
 
 impl Schema {
     /// The schema that a TOML document writes: the arrays of texts `dimensions`, `measures` and `aggregates`, the
     /// whole number `max_records`, which is 4294967295 where the document doesn't give it, the `grouping`, the
     /// `version` of the feeds, which is 1 where the document doesn't give it, the table `feed`, which says the columns of
-    /// feeds by their names, and the table `decimals`, which says how many digits measures have behind a point.
+    /// feeds by their names, the table `decimals`, which says how many digits measures have behind a point, and the array
+    /// `texts`, which names those measures that are texts, which are counted.
     ///
     /// The grouping is `cube` for all grouping sets, as where the document doesn't give it, `rollup` for those of
     /// the first dimensions, from none to all, or an array of sets, each an array of names of dimensions in any
@@ -50,8 +59,9 @@ impl Schema {
     }
 }
 
-/// The parts of a schema, as a document or a caller gives them: names, how many measures there are at least, spellings of
-/// aggregates, the number of data records, and the version of the feeds. What is None is wrong.
+/// The parts of a schema, as a document or a caller gives them: names, how many measures there are at least, spellings
+/// of aggregates, the number of data records, the version of the feeds, and the places of those measures that are texts.
+/// What is None is wrong.
 #[derive(Drop)]
 pub(crate) struct GivenParts {
     pub(crate) dimensions: Vec<Text>,
@@ -60,6 +70,7 @@ pub(crate) struct GivenParts {
     pub(crate) aggregate_texts: Vec<Text>,
     pub(crate) max_records: Option<u32>,
     pub(crate) version: Option<u32>,
+    pub(crate) text_places: Option<Vec<usize>>,
 }
 
 /// The schema that a document writes, or its first fault.
@@ -72,6 +83,9 @@ fn schema_of(alloc: Global, document: &Table) -> Result<Schema, SchemaFault>
     let dimensions = texts_in(alloc, document, "dimensions")?;
     let (measures, least_measures) = measures_in(alloc, document)?;
     let aggregate_texts = texts_in(alloc, document, "aggregates")?;
+    let decimals = value_at(document, "decimals");
+    let texts = value_at(document, "texts");
+    let text_places = text_places_of_value(alloc, &measures, decimals, texts)?;
     let parts = GivenParts {
         dimensions,
         measures,
@@ -79,10 +93,10 @@ fn schema_of(alloc: Global, document: &Table) -> Result<Schema, SchemaFault>
         aggregate_texts,
         max_records: max_records_in(document),
         version: version_in(document),
+        text_places,
     };
     let grouping = value_at(document, "grouping");
     let feed = value_at(document, "feed");
-    let decimals = value_at(document, "decimals");
     schema_of_parts(alloc, parts, grouping, feed, decimals)
 }
 
@@ -114,6 +128,8 @@ pub(crate) fn schema_of_parts(
 ) -> Result<Schema, SchemaFault>
     requires records { IfSome parts.max_records (λ limit. 1 ≤ limit) }
     requires versions { IfSome parts.version (λ number. (1 ≤ number) × (number ≤ 2)) }
+    requires texts { IfSome parts.text_places
+        (λ places. AreTextPlaces (length parts.measures.items) places.items) }
     requires measures { IfNone (option_map (λ value. view value.now) feed) (1 ≤ parts.least_measures) }
     ensures { AnswersParts (record {
       dimensions = parts.dimensions.items;
@@ -126,6 +142,7 @@ pub(crate) fn schema_of_parts(
       columns = columns_of_value parts.dimensions.items parts.measures.items
           (option_map (λ value. view value.now) feed.entry);
       decimals = decimals_of_value parts.measures.items (option_map (λ value. view value.now) decimals.entry);
+      text_places = option_map (λ places. places.items) parts.text_places;
     }) result }
 {
     let (aggregates, max_records) = lawful_aggregates(alloc, &parts)?;
@@ -141,24 +158,84 @@ pub(crate) fn schema_of_parts(
     let Some(decimals) = decimals_of_value(alloc, &parts.measures, decimals)? else {
         return Err(SchemaFault::Decimals);
     };
+    let GivenParts {
+        dimensions,
+        measures,
+        aggregate_texts,
+        text_places,
+        ..
+    } = parts;
+    let Some(text_places) = text_places else {
+        return Err(SchemaFault::Texts);
+    };
+    let (measures, texts) = parted(alloc, measures, &text_places)?;
+    let (decimals, _) = parted(alloc, decimals, &text_places)?;
     Ok(Schema {
-        dimensions: parts.dimensions,
-        measures: parts.measures,
+        dimensions: joined(dimensions, texts)?,
+        measures,
         aggregates,
-        aggregate_texts: parts.aggregate_texts,
+        aggregate_texts,
         max_records,
         grouping_sets,
         version,
         shard: Shard::whole(),
         max_record_bytes: None,
-        columns,
+        columns: columns_with_texts(alloc, columns, &text_places)?,
         decimals,
+        text_places,
         hash_key: HashKey::Known,
     })
 }
 
+/// A list of texts, with others behind it.
+fn joined(texts: Vec<Text>, others: Vec<Text>) -> Result<Vec<Text>, AllocError>
+    ensures { IfOk result (λ all. all.items ≡ texts.items ++ others.items) }
+{
+    let mut all = texts;
+    let mut others = others;
+    all.append(&mut others)?;
+    Ok(all)
+}
+
+/// Columns by name, where there are some, in which those of the texts at these places stand behind those of dimensions.
+fn columns_with_texts(
+    alloc: Global,
+    columns: Option<FeedColumns>,
+    places: &[usize],
+) -> Result<Option<FeedColumns>, AllocError>
+    ensures { IfOk result (λ found. found ≡ option_map (columns_with_texts places.now) columns) }
+{
+    let Some(columns) = columns else {
+        return Ok(None);
+    };
+    let (measures, texts) = parted(alloc, columns.measures.into_vec(), places)?;
+    let dimensions = with_text_columns(columns.dimensions.into_vec(), texts)?;
+    Ok(Some(FeedColumns {
+        id: columns.id,
+        op: columns.op,
+        nulls: columns.nulls,
+        delimiter: columns.delimiter,
+        point: columns.point,
+        dimensions: Sequence::from_vec(dimensions),
+        measures: Sequence::from_vec(measures),
+    }))
+}
+
+/// Columns, with those of these names behind them, of which all is read.
+fn with_text_columns(columns: Vec<Column>, names: Vec<Text>) -> Result<Vec<Column>, AllocError>
+    ensures { IfOk result (λ all. all.items ≡ columns.items ++ map text_column names.items) }
+{
+    let mut all = columns;
+    for name in names {
+        all.push(Column { name, first: None })?;
+    }
+    Ok(all)
+}
+
 /// The aggregates and the number of data records of a schema of such names, or the first fault of these parts.
 fn lawful_aggregates(alloc: Global, parts: &GivenParts) -> Result<(Vec<Agg>, u32), SchemaFault>
+    requires texts { IfSome parts.now.text_places
+        (λ places. AreTextPlaces (length parts.now.measures.items) places.items) }
     ensures faults { (sets : Option (List ℕ)) (columns : Option (Option FeedColumns))
         (decimals : Option (List (Option ℕ))) → IfErr result (λ fault. AnswersParts (record {
           dimensions = parts.now.dimensions.items;
@@ -170,6 +247,7 @@ fn lawful_aggregates(alloc: Global, parts: &GivenParts) -> Result<(Vec<Agg>, u32
           version = parts.now.version;
           columns = columns;
           decimals = decimals;
+          text_places = option_map (λ places. places.items) parts.now.text_places;
         }) (Err fault)) }
     ensures numbers { IfOk result (λ _. (is_some_up_to 8 parts.now.dimensions.items ≡ true)
         × (is_number_of_measures parts.now.least_measures parts.now.measures.items ≡ true)
@@ -178,8 +256,17 @@ fn lawful_aggregates(alloc: Global, parts: &GivenParts) -> Result<(Vec<Agg>, u32
         (λ _. are_lawful_names (parts.now.dimensions.items ++ parts.now.measures.items) ≡ true) }
     ensures aggregates { IfOk result (λ found.
         (found.0.items
-        ≡ filter_map (aggregate_spelled parts.now.measures.items) parts.now.aggregate_texts.items)
-        × (are_spellings parts.now.measures.items parts.now.aggregate_texts.items ≡ true)) }
+        ≡ filter_map (aggregate_spelled (counted_of_measures
+        (unwrap_or (option_map (λ places. places.items) parts.now.text_places) []) parts.now.measures.items))
+        parts.now.aggregate_texts.items)
+        × (are_spellings (counted_of_measures
+        (unwrap_or (option_map (λ places. places.items) parts.now.text_places) []) parts.now.measures.items)
+        parts.now.aggregate_texts.items ≡ true)
+        × (list_all (suits (length (beside_places
+        (unwrap_or (option_map (λ places. places.items) parts.now.text_places) []) 0 parts.now.measures.items)))
+        (filter_map (aggregate_spelled (counted_of_measures
+        (unwrap_or (option_map (λ places. places.items) parts.now.text_places) []) parts.now.measures.items))
+        parts.now.aggregate_texts.items) ≡ true)) }
     ensures records { IfOk result (λ found. parts.now.max_records ≡ Some found.1) }
 {
     if !is_some_up_to(&parts.dimensions, 8) {
@@ -194,13 +281,105 @@ fn lawful_aggregates(alloc: Global, parts: &GivenParts) -> Result<(Vec<Agg>, u32
     if !is_some_up_to(&parts.aggregate_texts, 16) {
         return Err(SchemaFault::Aggregates);
     }
-    let Some(aggregates) = aggregates_of(alloc, &parts.measures, &parts.aggregate_texts)? else {
+    let places = places_of(&parts.text_places);
+    let Some(aggregates) = suiting_aggregates(
+        alloc,
+        &parts.measures,
+        places,
+        &parts.aggregate_texts,
+    )?
+    else {
         return Err(SchemaFault::Aggregates);
     };
     let Some(max_records) = parts.max_records else {
         return Err(SchemaFault::MaxRecords);
     };
     Ok((aggregates, max_records))
+}
+
+/// The places of texts, none where what is said of them is wrong.
+fn places_of(places: &Option<Vec<usize>>) -> &[usize]
+    ensures { result.now ≡ unwrap_or (option_map (λ places. places.items) places.now) [] }
+{
+    match places {
+        Some(places) => places.as_slice(),
+        None => &[],
+    }
+}
+
+/// The aggregates that texts spell, where each spells one, and may be of what it is of: of the numbers among these
+/// measures, or of the texts, which stand at these places.
+fn suiting_aggregates(
+    alloc: Global,
+    measures: &[Text],
+    places: &[usize],
+    texts: &[Text],
+) -> Result<Option<Vec<Agg>>, AllocError>
+    requires { AreTextPlaces (length measures.now) places.now }
+    ensures { IfOk result (λ found. MatchOption found
+        (are_spellings (counted_of_measures places.now measures.now) texts.now
+        && list_all (suits (length (beside_places places.now 0 measures.now)))
+        (filter_map (aggregate_spelled (counted_of_measures places.now measures.now)) texts.now) ≡ false)
+        (λ read. (read.items
+        ≡ filter_map (aggregate_spelled (counted_of_measures places.now measures.now)) texts.now)
+        × (are_spellings (counted_of_measures places.now measures.now) texts.now ≡ true)
+        × (list_all (suits (length (beside_places places.now 0 measures.now)))
+        (filter_map (aggregate_spelled (counted_of_measures places.now measures.now)) texts.now) ≡ true))) }
+{
+    let Some(aggregates) = counted_aggregates(alloc, measures, places, texts)? else {
+        return Ok(None);
+    };
+    if !all_suit(measures.len() - places.len(), &aggregates) {
+        return Ok(None);
+    }
+    Ok(Some(aggregates))
+}
+
+/// The aggregates that texts spell, where each spells one: of the numbers among these measures, and then of the texts,
+/// which stand at these places.
+fn counted_aggregates(
+    alloc: Global,
+    measures: &[Text],
+    places: &[usize],
+    texts: &[Text],
+) -> Result<Option<Vec<Agg>>, AllocError>
+    ensures { IfOk result (λ found.
+        MatchOption found (are_spellings (counted_of_measures places.now measures.now) texts.now ≡ false)
+        (λ read. (read.items
+        ≡ filter_map (aggregate_spelled (counted_of_measures places.now measures.now)) texts.now)
+        × (are_spellings (counted_of_measures places.now measures.now) texts.now ≡ true))) }
+{
+    if places.is_empty() {
+        return aggregates_of(alloc, measures, texts);
+    }
+    let (numbers, counted) = parted(alloc, copy_texts(alloc, measures)?, places)?;
+    let names = joined(numbers, counted)?;
+    aggregates_of(alloc, &names, texts)
+}
+
+/// Whether each aggregate may be of what it is of, where numbers stand in so many places and texts behind them.
+fn all_suit(numbers: usize, aggregates: &[Agg]) -> bool
+    ensures { result ≡ list_all (suits numbers) aggregates.now }
+{
+    aggregates.iter().all(|aggregate| suits(numbers, aggregate))
+}
+
+/// Whether an aggregate may be of what it is of: a count and a distinct count are of either, the others of numbers.
+fn suits(numbers: usize, aggregate: &Agg) -> bool
+    ensures { result ≡ suits numbers aggregate.now }
+{
+    match aggregate {
+        Agg::CountAll | Agg::Count(_) | Agg::CountDistinct(_) => true,
+        Agg::Sum(measure)
+        | Agg::Min(measure)
+        | Agg::Max(measure)
+        | Agg::Avg(measure)
+        | Agg::PercentileDisc { measure, .. }
+        | Agg::SumOfSquares(measure)
+        | Agg::VarPop(measure)
+        | Agg::VarSamp(measure)
+        | Agg::Values(measure) => *measure < numbers,
+    }
 }
 
 /// Whether a document has only keys that a schema has.
@@ -228,6 +407,7 @@ fn is_known_key(key: &str) -> bool
             | "version"
             | "feed"
             | "decimals"
+            | "texts"
     )
 }
 

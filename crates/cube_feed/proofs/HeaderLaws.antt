@@ -6,7 +6,7 @@ use Rattle.std.specs.Prelude.{◌&&◌, ◌||◌, zero, suc, codes, slice_range}
 use Rattle.std.specs.Str.{bytes_eq}
 use Rattle.std.proofs.lemmas.Bool.{and_parts}
 use Rattle.cube_core.specs.Layout.{Layout}
-use Rattle.cube_core.specs.Items.{width_of, field_at, same_fields, byte_order_mark, column_names, is_header}
+use Rattle.cube_core.specs.Items.{width_of, field_at, same_fields, byte_order_mark, column_names, are_names}
 use Rattle.cube_feed.proofs.FieldLaws.{slice_range-cons}
 use Rattle.cube_feed.proofs.LineLaws.{drop-slice_range, slice_range-drop}
 
@@ -78,10 +78,10 @@ same_fields-append (x ∷ xs) ys (v ∷ vs) ws h =
     one false b c = refl
     one true b c = refl
 
--- a record of another width is no header
-pub is_header-width_of : (s : Layout) (fields : List (List ℕ)) → (length fields ≡ width_of s → ⊥)
-    → false ≡ is_header s fields
-is_header-width_of s fields h =
+-- the fields of a record of another width are no names of columns
+pub are_names-width_of : (s : Layout) (fields : List (List ℕ)) → (length fields ≡ width_of s → ⊥)
+    → false ≡ are_names s fields
+are_names-width_of s fields h =
     let long = length-append s.dimensions s.measures in
     let other : length fields ≡ length (codes "op" ∷ column_names s) → ⊥ = λ e. h (omega arith) in
     let marked : length fields ≡ length ((byte_order_mark ++ codes "op") ∷ column_names s) → ⊥ = λ e. h (omega arith) in
@@ -113,8 +113,8 @@ or-and false true true false e = refl
 or-and false true false d e = refl
 or-and false false c d e = refl
 
--- the test of a header, by its parts
-pub is_header-parts : (s : Layout) (fields : List (List ℕ)) (first second dims measures : Bool)
+-- the test of the names of the columns, by their parts
+pub are_names-parts : (s : Layout) (fields : List (List ℕ)) (first second dims measures : Bool)
     → length fields ≡ width_of s
     → first
     ≡ (bytes_eq (field_at fields 0) (codes "op") || bytes_eq (field_at fields 0) (byte_order_mark ++ codes "op"))
@@ -122,8 +122,8 @@ pub is_header-parts : (s : Layout) (fields : List (List ℕ)) (first second dims
     → dims ≡ same_fields (slice_range fields 2 (2 + length s.dimensions)) s.dimensions
     → measures ≡ same_fields
     (slice_range fields (2 + length s.dimensions) ((2 + length s.dimensions) + length s.measures)) s.measures
-    → (first && second && dims && measures) ≡ is_header s fields
-is_header-parts s fields first second dims measures h a b c d =
+    → (first && second && dims && measures) ≡ are_names s fields
+are_names-parts s fields first second dims measures h a b c d =
     let first_measure = 2 + length s.dimensions in
     let part = slice_range fields 2 first_measure in
     let long : length part ≡ length s.dimensions =

@@ -5,6 +5,7 @@ mod LineLaws
 pub mod NumberLaws
 mod ColumnLaws
 mod PlainFieldLaws
+mod ArrangedLaws
 mod RecordLaws
 mod MarkLaws
 mod BoundLaws

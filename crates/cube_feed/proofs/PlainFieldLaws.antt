@@ -34,7 +34,7 @@ put-all f xs i whole done past so_far =
     sym (append-nil done) ∙ ap (λ rest. done ++ map f rest) (sym none) ∙ so_far
 
 -- a part of a record begins with the field at its first place, where there is one
-part-Some : (fields : List (List ℕ)) (place end : ℕ) (field : List ℕ) → place < end
+pub part-Some : (fields : List (List ℕ)) (place end : ℕ) (field : List ℕ) → place < end
     → Some field ≡ csv.field_at fields place
     → slice_range fields place end ≡ field ∷ slice_range fields (place + 1) end
 part-Some fields place end field below found =
@@ -47,7 +47,7 @@ take-none (suc n) [] none = refl
 take-none (suc n) (field ∷ fields) none = cc none
 
 -- and has nothing past the last field
-part-None : (fields : List (List ℕ)) (place end : ℕ) → None ≡ csv.field_at fields place
+pub part-None : (fields : List (List ℕ)) (place end : ℕ) → None ≡ csv.field_at fields place
     → slice_range fields place end ≡ []
 part-None fields place end none = take-none (end - place) (drop place fields) (field_at-None fields place none)
 

@@ -2,6 +2,7 @@ pub mod Contiguous
 pub mod SoundFields
 pub mod Reading
 pub mod Columns
+pub mod Arranged
 pub mod PlainFields
 pub mod FeedBytes
 pub mod FeedText

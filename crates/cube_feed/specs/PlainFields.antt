@@ -1,12 +1,10 @@
 -- The fields of a plain record, one by one (this project's choice).
-use Rattle.std.specs.Prelude.{ℕ, Bool, List, [], ◌∷◌, Option, None, if◌then◌else◌}
+use Rattle.std.specs.Prelude.{ℕ, Bool, List, [], Option, if◌then◌else◌}
 use Rattle.std.specs.Str.{bytes_eq}
 use Rattle.cube_core.specs.Items.{is_keep}
 use Rattle.cube_core.specs.Layout.{Layout, decimals_of}
-use Rattle.cube_core.specs.Plain.{first_of, in_units, nulls_of, plain_dimension}
+use Rattle.cube_core.specs.Plain.{first_of, in_units}
 use Rattle.cube_core.specs.Takes.{null_text}
-use Rattle.cube_feed.specs.declared.plain.FieldKind.{FieldKind}
-use Rattle.cube_feed.specs.declared.plain.FieldKind.TheVariants.{Other, Dimension}
 
 -- the plain field of a dimension, where it is known whether the field is null
 abbrev pub dimension_from : Layout → Bool → Option ℕ → List ℕ → List ℕ
@@ -20,8 +18,3 @@ measure_from s m null point field =
     else if null then null_text
     else if bytes_eq field null_text then []
     else in_units (decimals_of s m) point field
-
--- the plain field of a record in the order of the schema, by what the field is of
-abbrev pub plain_field : Layout → FieldKind → List ℕ → List ℕ
-plain_field s Other field = field
-plain_field s Dimension field = plain_dimension s (null_text ∷ nulls_of s) None field

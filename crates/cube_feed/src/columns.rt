@@ -26,7 +26,7 @@ pub(crate) fn find_columns(
     ensures { IfOk result (λ found. found ≡ found_columns schema.now (fields_of header.now)) }
 {
     let Some(columns) = schema.columns() else {
-        return Ok(in_order(schema, header));
+        return in_order(alloc, schema, header);
     };
     match places(alloc, columns, header) {
         Ok(places) => Ok(Some(FoundColumns::ByName(places))),
@@ -35,15 +35,19 @@ pub(crate) fn find_columns(
     }
 }
 
-// The columns in the order of the schema, where a record is its header.
-fn in_order(schema: &Schema, header: &ByteRecord) -> Option<FoundColumns>
+// The columns in the order of the schema, where a record is its header. The only error is that memory ran out.
+fn in_order(
+    alloc: Global,
+    schema: &Schema,
+    header: &ByteRecord,
+) -> Result<Option<FoundColumns>, AllocError>
     requires { schema.now.columns ≡ None }
-    ensures { result ≡ found_columns schema.now (fields_of header.now) }
+    ensures { IfOk result (λ found. found ≡ found_columns schema.now (fields_of header.now)) }
 {
-    if is_header(schema, header) {
-        Some(FoundColumns::InOrder)
+    if is_header(alloc, schema, header)? {
+        Ok(Some(FoundColumns::InOrder))
     } else {
-        None
+        Ok(None)
     }
 }
 

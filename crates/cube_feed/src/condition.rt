@@ -22,8 +22,9 @@ use std::alloc::{AllocError, Global};
 
 /// The condition that a word spells under a schema: the longest of its names with which the word begins and behind which
 /// an operator stands, that operator (the first that fits of `!=`, `>=`, `<=`, `=`, `<` and `>`), and exactly one CSV
-/// record (RFC 4180) of values (this project's choice). A field `\N` is null; of a measure another is a number with a point
-/// before its decimals. `=` and `!=` take one value or more, the others one that isn't null.
+/// record (RFC 4180) of values (this project's choice). A field `\N` is null; of a dimension and of a text that is
+/// counted another is a text, and of another measure a number with a point before its decimals. `=` and `!=` take one
+/// value or more, the others one that isn't null.
 ///
 /// The error is `Condition`, where the word is none, or `Memory`, which says nothing of the word.
 pub fn read_condition(alloc: Global, schema: &Schema, word: &str) -> Result<Condition, QueryFault>

@@ -1,13 +1,15 @@
 //! The first record of a feed: the names of its columns.
-ghost use Rattle.std.specs.Prelude.{◌≡◌, ◌≤◌, ◌+◌, ◌||◌, ◌++◌, length, codes, slice_range};
+ghost use Rattle.std.specs.Prelude.{◌≡◌, ◌≤◌, ◌+◌, ◌||◌, ◌++◌, IfOk, length, codes, slice_range};
 ghost use Rattle.std.specs.Str.{bytes_eq};
 ghost use Rattle.csv.specs.Records.{fields_of};
-ghost use Rattle.cube_core.specs.Items.{byte_order_mark, is_header, same_fields};
+ghost use Rattle.cube_core.specs.Items.{are_names, byte_order_mark, is_header, same_fields};
 
+use crate::arranged::arranged;
 use crate::field::Fields;
 use crate::line::width;
 use csv::ByteRecord;
 use cube_core::{Schema, Text};
+use std::alloc::{AllocError, Global};
 
 // Whether a field is `op`, which a byte order mark may precede.
 fn is_first_name(field: &[u8]) -> bool
@@ -24,7 +26,7 @@ fn is_name(field: &[u8], name: &str) -> bool
 }
 
 // Whether the fields from a place on are these names.
-fn are_names(fields: &Fields<'_>, start: usize, names: &[Text]) -> bool
+fn are_names_from(fields: &Fields<'_>, start: usize, names: &[Text]) -> bool
     requires few { start + length names.now ≤ 16 }
     requires in_record { start + length names.now ≤ length fields.now }
     ensures { result
@@ -38,10 +40,9 @@ fn are_names(fields: &Fields<'_>, start: usize, names: &[Text]) -> bool
     true
 }
 
-/// Whether a record is the header of a schema's feeds: `op`, which a byte order mark may precede, `id`, and the names of
-/// the dimensions and of the measures.
-pub fn is_header(schema: &Schema, fields: &ByteRecord) -> bool
-    ensures { result ≡ is_header schema.now (fields_of fields.now) }
+// Whether the fields of a record are the names of the columns, in the order of a plain record.
+fn are_names(schema: &Schema, fields: &ByteRecord) -> bool
+    ensures { result ≡ are_names schema.now (fields_of fields.now) }
 {
     let spelled = Fields::of(fields);
     if spelled.len() != width(schema) {
@@ -50,7 +51,18 @@ pub fn is_header(schema: &Schema, fields: &ByteRecord) -> bool
     let first = is_first_name(spelled.bytes_at(0));
     let second = is_name(spelled.bytes_at(1), "id");
     let names = schema.dimensions();
-    let dimensions = are_names(&spelled, 2, names);
-    let measures = are_names(&spelled, 2 + names.len(), schema.measures());
+    let dimensions = are_names_from(&spelled, 2, names);
+    let measures = are_names_from(&spelled, 2 + names.len(), schema.measures());
     first & second & dimensions & measures
+}
+
+/// Whether a record is the header of a schema's feeds: `op`, which a byte order mark may precede, `id`, and the names
+/// of the dimensions and then of all measures, among which the texts that are counted stand at their places. The only
+/// error is that memory ran out.
+pub fn is_header(alloc: Global, schema: &Schema, fields: &ByteRecord) -> Result<bool, AllocError>
+    ensures { IfOk result (λ is. is ≡ is_header schema.now (fields_of fields.now)) }
+{
+    let mut room = ByteRecord::new(alloc);
+    let fields = arranged(schema, fields, &mut room)?;
+    Ok(are_names(schema, fields))
 }

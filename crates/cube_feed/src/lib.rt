@@ -5,6 +5,7 @@
 //! change that the fields of a record spell, or its first fault.
 #![tactic(auto)]
 
+mod arranged;
 mod columns;
 mod condition;
 mod contiguous;

@@ -7,11 +7,12 @@ ghost use Rattle.csv.specs.Records.{fields_of, partial_of};
 ghost use Rattle.cube_core.specs.FeedRecords.{change_in_order, is_read, plain_of};
 ghost use Rattle.cube_core.specs.Items.{change_of, field_at, is_keep};
 ghost use Rattle.cube_core.specs.Layout.{is_listed};
-ghost use Rattle.cube_core.specs.Plain.{first_of, nulls_of, plain_at, plain_by_name, plain_in_order, plain_measures, point_of};
+ghost use Rattle.cube_core.specs.Plain.{first_of, nulls_of, plain_at, plain_by_name, plain_dimension, plain_measures, plain_of_arranged, point_of};
 ghost use Rattle.cube_core.specs.Takes.{null_text};
 ghost use Rattle.cube_feed.specs.Columns.{Puts};
-ghost use Rattle.cube_feed.specs.PlainFields.{dimension_from, measure_from, plain_field};
+ghost use Rattle.cube_feed.specs.PlainFields.{dimension_from, measure_from};
 
+use crate::arranged::{arranged, put_fields};
 use crate::field::{Fields, bytes_at, is_keep_text, is_text};
 use crate::line::change;
 use crate::rest::is_read;
@@ -21,9 +22,10 @@ use cube_core::{Change, ColumnPlaces, DimensionPlace, FoundColumns, LineFault, S
 use itoa::Buffer;
 use std::alloc::{AllocError, Global};
 
-/// A plain record in the making: its fields so far, and a buffer for a number.
+/// A plain record in the making: its fields so far, and room for a number and for the fields of a record in its order.
 #[derive(Drop)]
 pub(crate) struct PlainRecord {
+    arranged: ByteRecord,
     row: ByteRecord,
     units: Vec<u8>,
 }
@@ -32,18 +34,11 @@ impl PlainRecord {
     /// A record without a field; it takes no memory.
     pub(crate) fn new(alloc: Global) -> PlainRecord {
         PlainRecord {
+            arranged: ByteRecord::new(alloc),
             row: ByteRecord::new(alloc),
             units: Vec::new(alloc),
         }
     }
-}
-
-/// What a field of a record in the order of the schema is of, before the measures.
-#[derive(Clone, Copy)]
-pub(crate) enum FieldKind {
-    /// The operation or the id.
-    Other,
-    Dimension,
 }
 
 /// The change that a record in the order of the schema spells, or its first fault; its plain record is put in place of
@@ -56,94 +51,79 @@ pub(crate) fn change_in_order(
 ) -> Result<Result<Change, LineFault>, AllocError>
     ensures { IfOk result (λ what. what ≡ change_in_order schema.now (fields_of fields.now)) }
 {
+    let fields = arranged(schema, fields, &mut plain.arranged)?;
     if is_plain(schema) {
         // Each field stays as it is.
         return change(alloc, schema, &Fields::of(fields));
     }
-    put_in_order(schema, fields, plain)?;
+    put_plain(schema, fields, &mut plain.row, &mut plain.units)?;
     change(alloc, schema, &Fields::of(&plain.row))
 }
 
-// Whether each record in the order of the schema is its own plain one.
+// Whether each record in the order of a plain one is plain.
 fn is_plain(schema: &Schema) -> bool
     ensures { result ≡ true → (schema.now.columns ≡ None) × (schema.now.decimals ≡ []) }
 {
     schema.columns().is_none() && schema.decimals().is_empty()
 }
 
-// Puts the plain record of one in the order of the schema in place of another record.
-fn put_in_order(
+// Puts the plain record of one in its order in place of another record.
+fn put_plain(
     schema: &Schema,
     fields: &ByteRecord,
-    plain: &mut PlainRecord,
+    row: &mut ByteRecord,
+    units: &mut Vec<u8>,
 ) -> Result<(), AllocError>
-    ensures { OnOk result (fields_of plain.new.row ≡ plain_in_order schema.now (fields_of fields.now)) }
+    ensures { OnOk result (fields_of row.new ≡ plain_of_arranged schema.now (fields_of fields.now)) }
 {
     let first_measure = 2 + schema.dimensions().len();
-    let row = &mut plain.row;
     row.clear();
-    put_part(schema, FieldKind::Other, fields, 0, 2, row)?;
-    put_part(schema, FieldKind::Dimension, fields, 2, first_measure, row)?;
-    put_measures_from(schema, fields, first_measure, plain)
+    put_fields(fields, 0, 2, row)?;
+    put_dimensions_before(schema, fields, first_measure, row)?;
+    put_measures_from(schema, fields, first_measure, row, units)
 }
 
-// Puts the plain fields of those from a place to another behind the fields of a record.
-fn put_part(
+// Puts the plain fields of the dimensions of a record in the order of a plain one, which end at a place.
+fn put_dimensions_before(
     schema: &Schema,
-    kind: FieldKind,
     fields: &ByteRecord,
-    start: usize,
     end: usize,
     plain: &mut ByteRecord,
 ) -> Result<(), AllocError>
     requires { partial_of plain.old ≡ [] }
     ensures { OnOk result (Puts plain.old
-        (map (plain_field schema.now kind) (slice_range (fields_of fields.now) start end)) plain.new) }
+        (map (plain_dimension schema.now (null_text ∷ nulls_of schema.now) None)
+        (slice_range (fields_of fields.now) 2 end)) plain.new) }
 {
-    for place in start..end {
+    for place in 2..end {
         let Some(field) = fields.get(place) else {
             break;
         };
-        plain.push_field(plain_field(schema, kind, field))?;
+        let is_null = is_null_in_order(schema, field);
+        plain.push_field(dimension_from(schema, is_null, None, field))?;
     }
     Ok(())
 }
 
-// The plain field of one in the order of the schema, by what it is of.
-fn plain_field<'f>(schema: &Schema, kind: FieldKind, field: &'f [u8]) -> &'f [u8]
-    ensures { result.now ≡ plain_field schema.now kind field.now }
-{
-    match kind {
-        FieldKind::Other => field,
-        FieldKind::Dimension => dimension_from(
-            schema,
-            is_null_in_order(schema, field),
-            None,
-            field,
-        ),
-    }
-}
-
-// Puts the plain fields of the measures of a record in the order of the schema, which begin at a place.
+// Puts the plain fields of the measures of a record in the order of a plain one, which begin at a place.
 fn put_measures_from(
     schema: &Schema,
     fields: &ByteRecord,
     first: usize,
-    plain: &mut PlainRecord,
+    plain: &mut ByteRecord,
+    units: &mut Vec<u8>,
 ) -> Result<(), AllocError>
-    requires { partial_of plain.old.row ≡ [] }
-    ensures { OnOk result (Puts plain.old.row
+    requires { partial_of plain.old ≡ [] }
+    ensures { OnOk result (Puts plain.old
         (plain_measures schema.now (null_text ∷ nulls_of schema.now) 46 0 (drop first (fields_of fields.now)))
-        plain.new.row) }
+        plain.new) }
 {
     for place in first..fields.len() {
         let Some(field) = fields.get(place) else {
             break;
         };
         let is_null = is_null_in_order(schema, field);
-        let units = &mut plain.units;
-        let value = measure_from(schema, place - first, is_null, b'.', field, units)?;
-        plain.row.push_field(value)?;
+        plain.push_field(measure_from(schema, place - first, is_null, b'.', field, units)?)?;
     }
     Ok(())
 }

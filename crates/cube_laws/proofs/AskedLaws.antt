@@ -13,9 +13,10 @@ use Rattle.std.proofs.lemmas.Map.Text.{is_eq-slice_cmp}
 use Rattle.std.proofs.lemmas.Slice.Eq.{bytes_eq-Decides}
 use Rattle.csv.specs.Writing.{default_writer, escaped, field_text, needs_byte, quoted}
 use Rattle.cube_core.specs.Covers.{all_stand_for, covers, stands_for}
-use Rattle.cube_core.specs.Cube.{AreRows, HasAnswers, is_total, key_of}
+use Rattle.cube_core.specs.Cube.{HasAnswers, is_total, key_of}
 use Rattle.cube_core.specs.GroupingSet.{is_all_at, is_all_coord}
-use Rattle.cube_core.specs.Layout.{Layout, keeps}
+use Rattle.cube_core.specs.Layout.{Layout, keeps, number_of_dimensions}
+use Rattle.cube_laws.specs.Cells.{AreCountedRows}
 use Rattle.cube_core.specs.Order.{coord_cmp, key_cmp}
 use Rattle.cube_core.specs.Query.{AreRowsWhere, Wanted, all_wanted, cell_of, drills_down, is_wanted, matches, only_one}
 use Rattle.cube_core.specs.Query.{pattern_of, rolled_up, spelled_by, spelled_under, wanted_by}
@@ -96,9 +97,9 @@ cell_of-pattern_for key =
     ∙ ap (λ (coords : List Coord). let found : Key = record { coords = coords } in Ok found) (filter_map-all key.coords)
 
 -- and its slice is one row
-pub slice-row : (s : Layout) (facts : List Fact) (rows sliced : List Row) (row : Row) → AreRows s facts rows
+pub slice-row : (s : Layout) (facts : List Fact) (rows sliced : List Row) (row : Row) → AreCountedRows s facts rows
     → Contains rows row
-    → AreRowsWhere (matches (pattern_for row.key)) s.grouping_sets (length s.dimensions) s.aggregates facts sliced
+    → AreRowsWhere (matches (pattern_for row.key)) s.grouping_sets (number_of_dimensions s) s.aggregates facts sliced
     → sliced ≡ row ∷ []
 unfolding IsStrictlySortedBy
 slice-row s facts rows sliced row all among some =
@@ -247,14 +248,14 @@ records_of-Writes pattern (byte ∷ word) some written begins =
     ∙ records-IsUnended [] [] [] (map field_for pattern) (byte ∷ word) tt tt unended
 
 pub pattern_of-Writes : (s : Layout) (pattern : Wanted) (word : List ℕ) → 1 ≤ length pattern
-    → length pattern ≡ length s.dimensions → AllByRecursion CanBeWritten pattern → Writes word pattern
+    → length pattern ≡ number_of_dimensions s → AllByRecursion CanBeWritten pattern → Writes word pattern
     → pattern_of s word ≡ Ok pattern
 pattern_of-Writes s pattern word some wide all written =
     let fields : List (List ℕ) = map field_for pattern in
     ap (λ (rs : List (List (List ℕ))). option_map_or (spelled_under s) (only_one rs) (Err Fields))
     (records_of-Writes pattern word some written (line-BeginsWell pattern some))
     ∙ ap (λ (b : Bool). if b then spelled_by fields else Err Fields)
-    (eq-eqb (length fields) (length s.dimensions) (length-map pattern field_for ∙ wide))
+    (eq-eqb (length fields) (number_of_dimensions s) (length-map pattern field_for ∙ wide))
     ∙ spelled_by-field_for pattern all
 
 -- ---- rolling up
@@ -317,10 +318,10 @@ rolled-total (coord.Null ∷ coords) dimension all = cc
 rolled-total (coord.Text name ∷ coords) dimension all = cc
 
 rolled-cell : (s : Layout) (facts : List Fact) (key : Key) (dimension : ℕ)
-    → is_total (length s.dimensions) key || list_any (covers key) facts ≡ true
-    → is_total (length s.dimensions) (rolled_up dimension key) || list_any (covers (rolled_up dimension key)) facts ≡ true
+    → is_total (number_of_dimensions s) key || list_any (covers key) facts ≡ true
+    → is_total (number_of_dimensions s) (rolled_up dimension key) || list_any (covers (rolled_up dimension key)) facts ≡ true
 rolled-cell s facts key dimension cell =
-    let width = length s.dimensions in
+    let width = number_of_dimensions s in
     elim (or_cases (is_total width key) (list_any (covers key) facts) cell) [
       | inl total ↦
           let parts = and_parts (length key.coords == width) (list_all is_all_coord key.coords) total in
@@ -334,16 +335,16 @@ rolled-cell s facts key dimension cell =
           (rolled-covers key.coords found.0.dims dimension found.2))
     ]
 
-pub rolled_up-row : (s : Layout) (facts : List Fact) (rows : List Row) (row : Row) (dimension : ℕ) → AreRows s facts rows
+pub rolled_up-row : (s : Layout) (facts : List Fact) (rows : List Row) (row : Row) (dimension : ℕ) → AreCountedRows s facts rows
     → Contains rows row → keeps s (rolled_up dimension row.key) ≡ true
     → (above : Row) × Contains rows above × (above.key ≡ rolled_up dimension row.key)
 rolled_up-row s facts rows row dimension are among kept =
     let key = row.key in
-    let cell = and_parts (keeps s key) (is_total (length s.dimensions) key || list_any (covers key) facts)
+    let cell = and_parts (keeps s key) (is_total (number_of_dimensions s) key || list_any (covers key) facts)
     ((are.cells key).0 (map-Contains key_of rows row among)) in
     let rolled = (are.cells (rolled_up dimension key)).1
     (and_from (keeps s (rolled_up dimension key))
-    (is_total (length s.dimensions) (rolled_up dimension key) || list_any (covers (rolled_up dimension key)) facts)
+    (is_total (number_of_dimensions s) (rolled_up dimension key) || list_any (covers (rolled_up dimension key)) facts)
     kept (rolled-cell s facts key dimension cell.1)) in
     let found = Contains-map key_of rows (rolled_up dimension key) rolled in
     (found.0, found.1, found.2)

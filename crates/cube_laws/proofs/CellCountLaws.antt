@@ -12,11 +12,11 @@ use Rattle.std.proofs.lemmas.List.FromFn.{length-range_with_len, get_or-range_wi
 use Rattle.std.proofs.lemmas.List.Sums.{sum_by-cons}
 use Rattle.std.proofs.lemmas.Map.Keys.{IsDistinct-from_sorted}
 use Rattle.std.proofs.lemmas.Map.Made.{length-le_from_is_member}
-use Rattle.cube_core.specs.Layout.{Layout}
+use Rattle.cube_core.specs.Layout.{Layout, number_of_dimensions}
 use Rattle.cube_core.specs.Covers.{covers, all_stand_for, stands_for}
-use Rattle.cube_core.specs.Cube.{AreRows, key_of, is_total}
+use Rattle.cube_core.specs.Cube.{key_of, is_total}
 use Rattle.cube_core.specs.GroupingSet.{is_all_coord, is_among, mask_of, all_sets}
-use Rattle.cube_laws.specs.Cells.{CoveringKeys, HaveValuesAmong, most_cells}
+use Rattle.cube_laws.specs.Cells.{AreCountedRows, CoveringKeys, HaveValuesAmong, most_cells}
 use Rattle.cube_core.specs.Order.{key_cmp}
 use Rattle.cube_core.specs.declared.fact.Fact.{Fact}
 use Rattle.cube_core.specs.declared.key.Coord.{Coord}
@@ -180,7 +180,7 @@ StandAmong-is_all_coord (values ∷ other_values) (coord.Text name ∷ coords) l
 
 -- the cells are no more than the product
 pub AreRows-most_cells : (s : Layout) (facts : List Fact) (rows : List Row) (values : List (List (Option (List ℕ)))) →
-    AreRows s facts rows → length values ≡ length s.dimensions → HaveValuesAmong values facts →
+    AreCountedRows s facts rows → length values ≡ number_of_dimensions s → HaveValuesAmong values facts →
     length rows ≤ most_cells values
 AreRows-most_cells s facts rows values are long among =
     let at_most : length (map key_of rows) ≤ length (map key_with (coords_over values))
@@ -194,7 +194,7 @@ AreRows-most_cells s facts rows values are long among =
 
     in_cells : (key : Key) → Contains (map key_of rows) key → StandAmong values key.coords
     in_cells key key_among =
-        let dimensions = length s.dimensions in
+        let dimensions = number_of_dimensions s in
         let is_in_set = is_among (mask_of key) s.grouping_sets in
         let cell =
         and_parts is_in_set (is_total dimensions key || list_any (covers key) facts) ((are.cells key).0 key_among) in

@@ -1,20 +1,22 @@
 -- Each fact is in the group of one cell of each grouping set.
 use Rattle.std.proofs.Common.{◌≡◌, ℕ, zero, suc, ◌^◌, ◌<◌, ◌==◌, ◌||◌, Bool, true, List, [], ◌∷◌, length, map, get_or}
 use Rattle.std.proofs.Common.{filter, sum_by, count_by, slice_get, Contains, Option, Some, refl, sym, ap, ◌∙◌, subst}
-use Rattle.std.proofs.Common.{arith, eqb-true, eq-eqb}
+use Rattle.std.proofs.Common.{arith, eqb-true, eq-eqb, pos, ◌-◌, ℤ}
+use Rattle.std.proofs.lemmas.List.{length-take-le}
 use Rattle.std.specs.List.{AllByRecursion, list_any, list_all}
 use Rattle.std.proofs.lemmas.Bool.{and_parts, and_from, or_right}
 use Rattle.std.proofs.lemmas.List.Concat.{length-flat_map}
 use Rattle.std.proofs.lemmas.List.Kept.{IsStrictlySortedBy-filter}
-use Rattle.cube_core.specs.Layout.{Layout}
+use Rattle.cube_core.specs.Layout.{Layout, number_of_dimensions}
 use Rattle.cube_core.specs.Answer.{IsAnswer, AreAnswers}
 use Rattle.cube_core.specs.Covers.{covers, all_stand_for}
-use Rattle.cube_core.specs.Cube.{AreRows, HasAnswers, key_of, is_total}
+use Rattle.cube_core.specs.Cube.{HasAnswers, key_of, is_total}
 use Rattle.cube_core.specs.Group.{group_of}
 use Rattle.cube_core.specs.GroupingSet.{is_all_coord, is_among, mask_of}
-use Rattle.cube_laws.specs.Cells.{HaveDimensions, rows_in_set, group_size, answer_at, count_at}
+use Rattle.cube_laws.specs.Cells.{AreCountedRows, all_counted, HaveDimensions, rows_in_set, group_size, answer_at, count_at}
 use Rattle.cube_core.specs.Merged.{count_answered}
 use Rattle.cube_core.specs.Order.{key_cmp}
+use Rattle.cube_core.specs.TextPlaces.{counted, counted_by, text_number}
 use Rattle.cube_core.specs.declared.aggregate.Agg.{Agg}
 use Rattle.cube_core.specs.declared.aggregate.Agg.TheVariants as agg
 use Rattle.cube_core.specs.declared.aggregate.Answer.{Answer}
@@ -48,12 +50,12 @@ is_in_set set key = mask_of key == set
 abbrev pub key_in_set : ℕ → Fact → Key
 key_in_set set fact = record { coords = ancestor_of fact.dims set }
 
-module _ (s : Layout) (facts : List Fact) (rows : List Row) (are : AreRows s facts rows) where
+module _ (s : Layout) (facts : List Fact) (rows : List Row) (are : AreCountedRows s facts rows) where
   -- the key of each fact's grouping set is a cell
   pub AreRows-covers : (key : Key) (fact : Fact) → Contains facts fact → covers key fact ≡ true →
       is_among (mask_of key) s.grouping_sets ≡ true → Contains (map key_of rows) key
   AreRows-covers key fact among covered kept =
-      let dimensions = length s.dimensions in
+      let dimensions = number_of_dimensions s in
       let has_fact : list_any (covers key) facts ≡ true = Contains-list_any (covers key) facts fact among covered in
       (are.cells key).1
       (and_from (is_among (mask_of key) s.grouping_sets) (is_total dimensions key || list_any (covers key) facts) kept
@@ -64,9 +66,9 @@ module _ (s : Layout) (facts : List Fact) (rows : List Row) (are : AreRows s fac
   keys_in_set set = filter (is_in_set set) (map key_of rows)
 
   -- one key of a grouping set covers a fact
-  pub keys_in_set-one : (set : ℕ) (fact : Fact) → set < 2 ^ length s.dimensions → is_among set s.grouping_sets ≡ true
+  pub keys_in_set-one : (set : ℕ) (fact : Fact) → set < 2 ^ number_of_dimensions s → is_among set s.grouping_sets ≡ true
       → Contains facts fact →
-      length fact.dims ≡ length s.dimensions →
+      length fact.dims ≡ number_of_dimensions s →
       count_by (λ key. covers key fact) (keys_in_set set) ≡ 1
   keys_in_set-one set fact below kept among dims =
       let one : Key = key_in_set set fact in
@@ -86,7 +88,7 @@ module _ (s : Layout) (facts : List Fact) (rows : List Row) (are : AreRows s fac
       (all_stand_for-mask_of_coords key.coords one.coords fact.dims key_covers covered (in_set ∙ sym mask)))
 
   -- the groups of the rows of a grouping set have each fact once
-  pub rows_in_set-group_size : (set : ℕ) → HaveDimensions (length s.dimensions) facts → set < 2 ^ length s.dimensions
+  pub rows_in_set-group_size : (set : ℕ) → HaveDimensions (number_of_dimensions s) facts → set < 2 ^ number_of_dimensions s
       → is_among set s.grouping_sets ≡ true →
       sum_by (group_size facts) (rows_in_set set rows) ≡ length facts
   rows_in_set-group_size set dims below kept =
@@ -94,7 +96,7 @@ module _ (s : Layout) (facts : List Fact) (rows : List Row) (are : AreRows s fac
       let shared : AllByRecursion (SharedOut keys (λ _. true)) facts
       = Contains-AllByRecursion (SharedOut keys (λ _. true)) facts (λ fact among. record {
         one = λ _. keys_in_set-one set fact below kept among
-            (HaveDimensions-Contains (length s.dimensions) facts fact dims among);
+            (HaveDimensions-Contains (number_of_dimensions s) facts fact dims among);
         no_other = λ never. cc;
       }) in
       sym (sum_by-map key_of (λ key. length (group_of key facts)) (rows_in_set set rows))
@@ -117,7 +119,7 @@ AreAnswers-slice_get group (a ∷ aggregates) (x ∷ answers) (suc place) aggreg
     AreAnswers-slice_get group aggregates answers place aggregate h.1 at_place
 
 -- the answers of a row of the cube
-pub AreRows-answer_at : (s : Layout) (facts : List Fact) (rows : List Row) → AreRows s facts rows → (row : Row) →
+pub AreRows-answer_at : (s : Layout) (facts : List Fact) (rows : List Row) → AreCountedRows s facts rows → (row : Row) →
     Contains rows row → (place : ℕ) (aggregate : Agg) → slice_get s.aggregates place ≡ Some aggregate →
     IsAnswer (group_of row.key facts) aggregate (answer_at place row)
 AreRows-answer_at s facts rows are row among place aggregate at_place =
@@ -125,8 +127,8 @@ AreRows-answer_at s facts rows are row among place aggregate at_place =
     (AllByRecursion-Contains (HasAnswers s.aggregates facts) rows row are.answers among) at_place
 
 -- the counts of the rows of a grouping set add up to the number of facts
-pub rows_in_set-count_at : (s : Layout) (facts : List Fact) (rows : List Row) (set place : ℕ) → AreRows s facts rows →
-    HaveDimensions (length s.dimensions) facts → set < 2 ^ length s.dimensions → is_among set s.grouping_sets ≡ true →
+pub rows_in_set-count_at : (s : Layout) (facts : List Fact) (rows : List Row) (set place : ℕ) → AreCountedRows s facts rows →
+    HaveDimensions (number_of_dimensions s) facts → set < 2 ^ number_of_dimensions s → is_among set s.grouping_sets ≡ true →
     slice_get s.aggregates place ≡ Some agg.CountAll → sum_by (count_at place) (rows_in_set set rows) ≡ length facts
 rows_in_set-count_at s facts rows set place are dims below kept at_place =
     sum_by-same (count_at place) (group_size facts) (rows_in_set set rows)
@@ -159,9 +161,29 @@ group_of-is_total dimensions facts key dims total =
 
 -- the count of the grand total is the number of facts
 pub answer_at-is_total : (s : Layout) (facts : List Fact) (rows : List Row) (row : Row) (place : ℕ)
-    → AreRows s facts rows →
-    HaveDimensions (length s.dimensions) facts → Contains rows row → is_total (length s.dimensions) row.key ≡ true →
+    → AreCountedRows s facts rows →
+    HaveDimensions (number_of_dimensions s) facts → Contains rows row → is_total (number_of_dimensions s) row.key ≡ true →
     slice_get s.aggregates place ≡ Some agg.CountAll → answer_at place row ≡ answer.Count (length facts)
 answer_at-is_total s facts rows row place are dims among total at_place =
     AreRows-answer_at s facts rows are row among place agg.CountAll at_place
-    ∙ ap (λ group. answer.Count (length group)) (group_of-is_total (length s.dimensions) facts row.key dims total)
+    ∙ ap (λ group. answer.Count (length group)) (group_of-is_total (number_of_dimensions s) facts row.key dims total)
+
+-- a fact that is counted has the dimensions of the cube
+counted_by-dims : (number : List ℕ → ℤ) (texts : ℕ) (fact : Fact)
+    → length (counted_by number texts fact).dims ≡ length fact.dims - texts
+counted_by-dims number zero fact = omega arith
+counted_by-dims number (suc texts) fact = length-take-le (length fact.dims - suc texts) fact.dims (omega arith)
+
+pub counted-dims : (s : Layout) (fact : Fact) → length fact.dims ≡ length s.dimensions
+    → length (counted s fact).dims ≡ number_of_dimensions s
+counted-dims s fact wide =
+    counted_by-dims (λ text. pos (text_number text)) (length s.text_places) fact
+    ∙ ap (λ n. n - length s.text_places) wide
+
+pub all_counted-HaveDimensions : (s : Layout) (facts : List Fact) → HaveDimensions (length s.dimensions) facts
+    → HaveDimensions (number_of_dimensions s) (all_counted s facts)
+all_counted-HaveDimensions s [] dims = tt
+all_counted-HaveDimensions s (fact ∷ facts) dims = (
+  counted-dims s fact dims.0,
+  all_counted-HaveDimensions s facts dims.1,
+)

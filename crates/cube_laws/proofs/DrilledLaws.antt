@@ -1,8 +1,8 @@
 -- The rows that drill down from a key, found alone, are those among all rows.
-use Rattle.std.proofs.Common.{◌≡◌, ℕ, List, length, map, filter, sym, ◌∙◌}
+use Rattle.std.proofs.Common.{◌≡◌, ℕ, List, map, filter, sym, ◌∙◌}
 use Rattle.std.proofs.lemmas.List.Kept.{IsStrictlySortedBy-filter}
-use Rattle.cube_core.specs.Layout.{Layout}
-use Rattle.cube_core.specs.Cube.{AreRows, HasAnswers, key_of}
+use Rattle.cube_core.specs.Layout.{Layout, number_of_dimensions}
+use Rattle.cube_core.specs.Cube.{HasAnswers, key_of}
 use Rattle.cube_core.specs.Order.{key_cmp}
 use Rattle.cube_core.specs.Query.{AreRowsWhere, drills_down, rows_below}
 use Rattle.cube_core.specs.declared.fact.Fact.{Fact}
@@ -11,13 +11,14 @@ use Rattle.cube_core.specs.declared.key.Row.{Row}
 use Rattle.cube_core.proofs.ListLaws.{AllByRecursion-Contains, Contains-AllByRecursion, Contains-filter}
 use Rattle.cube_core.proofs.ListLaws.{filter-Contains, map-filter}
 use Rattle.cube_core.proofs.KeyOrderLaws.{key_cmp-IsTotalOrder}
+use Rattle.cube_laws.specs.Cells.{AreCountedRows}
 use Rattle.cube_laws.proofs.RowLaws.{HasAnswers-keys}
 use Rattle.cube_laws.proofs.SortedLaws.{IsStrictlySortedBy-unique}
 
 -- the rows of a cube that drill down from a key are those among all its rows
 pub rows_below-unique : (s : Layout) (facts : List Fact) (rows drilled : List Row) (above : Key) (dimension : ℕ) →
-    AreRows s facts rows →
-    AreRowsWhere (drills_down dimension above) s.grouping_sets (length s.dimensions) s.aggregates facts drilled →
+    AreCountedRows s facts rows →
+    AreRowsWhere (drills_down dimension above) s.grouping_sets (number_of_dimensions s) s.aggregates facts drilled →
     drilled ≡ rows_below dimension above rows
 rows_below-unique s facts rows drilled above dimension all some =
     HasAnswers-keys s.aggregates facts drilled (rows_below dimension above rows)

@@ -63,31 +63,98 @@ document_faults-Ranked = (
     omega arith,
     (
       omega arith,
-      (omega arith, (omega arith, (omega arith, (omega arith, (omega arith, (omega arith, (omega arith, tt))))))),
+      (
+        omega arith,
+        (
+          omega arith,
+          (
+            omega arith,
+            (
+              omega arith,
+              (
+                omega arith,
+                (
+                  omega arith,
+                  (omega arith, (omega arith, tt)),
+                ),
+              ),
+            ),
+          ),
+        ),
+      ),
     ),
   ),
   (
     (
       omega arith,
-      (omega arith, (omega arith, (omega arith, (omega arith, (omega arith, (omega arith, (omega arith, tt))))))),
+      (
+        omega arith,
+        (
+          omega arith,
+          (
+            omega arith,
+            (
+              omega arith,
+              (omega arith, (omega arith, (omega arith, (omega arith, tt)))),
+            ),
+          ),
+        ),
+      ),
     ),
     (
-      (omega arith, (omega arith, (omega arith, (omega arith, (omega arith, (omega arith, (omega arith, tt))))))),
       (
-        (omega arith, (omega arith, (omega arith, (omega arith, (omega arith, (omega arith, tt)))))),
+        omega arith,
         (
-          (omega arith, (omega arith, (omega arith, (omega arith, (omega arith, tt))))),
+          omega arith,
           (
-            (omega arith, (omega arith, (omega arith, (omega arith, tt)))),
+            omega arith,
+            (omega arith, (omega arith, (omega arith, (omega arith, (omega arith, tt))))),
+          ),
+        ),
+      ),
+      (
+        (
+          omega arith,
+          (
+            omega arith,
+            (omega arith, (omega arith, (omega arith, (omega arith, (omega arith, tt))))),
+          ),
+        ),
+        (
+          (
+            omega arith,
             (
-              (omega arith, (omega arith, (omega arith, tt))),
+              omega arith,
+              (omega arith, (omega arith, (omega arith, (omega arith, tt)))),
+            ),
+          ),
+          (
+            (
+              omega arith,
               (
-                (omega arith, (omega arith, tt)),
+                omega arith,
                 (
-                  (omega arith, tt),
+                  omega arith,
+                  (omega arith, (omega arith, tt)),
+                ),
+              ),
+            ),
+            (
+              (omega arith, (omega arith, (omega arith, (omega arith, tt)))),
+              (
+                (
+                  omega
+                      arith,
+                  (omega arith, (omega arith, tt)),
+                ),
+                (
+                  (omega arith, (omega arith, tt)),
                   (
-                    tt,
-                    tt,
+                    (omega arith, tt),
+                    (
+                      tt,
+                      tt,
+                    ),
                   ),
                 ),
               ),
@@ -114,6 +181,7 @@ has_fault-Contains document fault.Grouping has = (6, omega arith, refl)
 has_fault-Contains document fault.Version has = (7, omega arith, refl)
 has_fault-Contains document fault.Columns has = (8, omega arith, refl)
 has_fault-Contains document fault.Decimals has = (9, omega arith, refl)
+has_fault-Contains document fault.Texts has = (10, omega arith, refl)
 
 -- what is told
 told-first_fault : (document : Members) (told : SchemaFault) (first : Option SchemaFault)

@@ -25,10 +25,13 @@ use Rattle.cube_core.specs.Items.{dimension_field_of, measure_field_of, dimensio
 use Rattle.cube_core.specs.Items.{amendment_of, unless_at_fault, insert_of, update_of, change_of, is_header}
 use Rattle.cube_core.specs.FeedRecords.{config_by, feed_records, found_columns, is_read, names_read, places_by}
 use Rattle.cube_core.specs.FeedRecords.{plain_of, stands_once}
-use Rattle.cube_core.specs.Items.{upsert_of, remove_of}
+use Rattle.cube_core.specs.Items.{upsert_of, remove_of, are_names, arranged}
 use Rattle.cube_core.specs.Items.{same_fields, keep_text, column_names, byte_order_mark}
 use Rattle.cube_core.specs.FeedRecords.{items_after, items_of}
-use Rattle.cube_core.specs.Layout.{Layout}
+use Rattle.cube_core.specs.Layout.{Layout, number_of_dimensions}
+use Rattle.cube_core.specs.TextPlaces.{at_places, beside_places, with_places_first}
+use Rattle.cube_core.proofs.TextPlaceLaws.{parted-length}
+use Rattle.std.proofs.lemmas.List.{take-append-drop}
 use Rattle.cube_core.specs.Plain.{delimiter_of, plain_in_order}
 use Rattle.cube_core.specs.Records.{records_of}
 use Rattle.cube_core.specs.Shard.{whole_feed, is_in_shard, fnv_hash}
@@ -48,7 +51,7 @@ use Rattle.cube_core.specs.declared.partial.Field.{Field}
 use Rattle.cube_core.specs.declared.partial.Field.TheVariants.{Keep, Put}
 use Rattle.cube_core.specs.declared.partial.Partial.{Partial}
 use Rattle.cube_core.proofs.ItemLaws.{takes-change_of}
-use Rattle.cube_core.proofs.PlainLaws.{plain_in_order-same}
+use Rattle.cube_core.proofs.PlainLaws.{arranged-none, map-same, plain_in_order-same}
 use Rattle.cube_core.proofs.LifeLaws.{bytes_eq-itself, bytes_eq-other}
 use Rattle.cube_laws.specs.Feeds.{CanBeSpelled, HasField, HasNumber, Puts, dimension_text, header_for, is_kept}
 use Rattle.cube_laws.specs.Feeds.{measure_text, numbered, put_text, record_for, record_with}
@@ -392,39 +395,71 @@ whole-is_read s fields whole =
 no_more : RestOfFeed FeedEnd
 no_more = record { items = []; end = TooManyRecords }
 
-items_after-record_for : (s : Layout) (changes : List Change) (number : ℕ) → s.columns ≡ None → s.decimals ≡ []
-    → s.shard ≡ whole_feed
+items_after-spelled : (s : Layout) (records : List (List (List ℕ))) (changes : List Change) (number : ℕ)
+    → s.columns ≡ None → s.decimals ≡ [] → s.shard ≡ whole_feed
+    → map (arranged s) records ≡ map record_for changes
     → number + length changes ≤ s.max_records → AllByRecursion (CanBeSpelled s) changes
-    → items_after s InOrder number (map record_for changes)
-    ≡ record { items = numbered (number + 1) changes; end = Good }
+    → items_after s InOrder number records ≡ record { items = numbered (number + 1) changes; end = Good }
 unfolding no_more
-items_after-record_for s [] number none no_point whole few all = refl
-items_after-record_for s (change ∷ changes) number none no_point whole few all =
-    let plain : List (List ℕ) = plain_in_order s (record_for change) in
+items_after-spelled s [] [] number none no_point whole spelled few all = refl
+items_after-spelled s [] (change ∷ changes) number none no_point whole spelled few all = cc spelled
+items_after-spelled s (fields ∷ records) [] number none no_point whole spelled few all = cc spelled
+items_after-spelled s (fields ∷ records) (change ∷ changes) number none no_point whole spelled few all =
+    let here : arranged s fields ≡ record_for change = cc spelled in
+    let others : map (arranged s) records ≡ map record_for changes = cc spelled in
+    let plain : List (List ℕ) = plain_in_order s fields in
     let item : Item = record { number = number + 1; what = change_of s plain } in
-    let rest : RestOfFeed FeedEnd = items_after s InOrder (number + 1) (map record_for changes) in
+    let rest : RestOfFeed FeedEnd = items_after s InOrder (number + 1) records in
     ap (λ (b : Bool). if b then (if is_read s plain then item_then item rest else rest) else no_more)
     (lt-ltb number s.max_records (omega (arith, few)))
     ∙ ap (λ (b : Bool). if b then item_then item rest else rest) (whole-is_read s plain whole)
     ∙ ap₂ (λ (what : Result Change LineFault) (more : RestOfFeed FeedEnd).
     item_then (record { number = number + 1; what = what }) more)
-    (ap (change_of s) (plain_in_order-same s (record_for change) none no_point) ∙ change_of-record_for s change all.0)
-    (items_after-record_for s changes (number + 1) none no_point whole (omega (arith, few)) all.1)
+    (ap (change_of s) (plain_in_order-same s fields none no_point ∙ here) ∙ change_of-record_for s change all.0)
+    (items_after-spelled s records changes (number + 1) none no_point whole others (omega (arith, few)) all.1)
 
 same_fields-itself : (fields : List (List ℕ)) → same_fields fields fields ≡ true
 same_fields-itself [] = refl
 same_fields-itself (field ∷ fields) =
     and_from (bytes_eq field field) (same_fields fields fields) (bytes_eq-itself field) (same_fields-itself fields)
 
-pub is_header-header_for : (s : Layout) → is_header s (header_for s) ≡ true
-is_header-header_for s =
-    ap (λ b. b || same_fields (header_for s) ((byte_order_mark ++ codes "op") ∷ column_names s))
+pub is_header-arranged : (s : Layout) (header : List (List ℕ)) → arranged s header ≡ header_for s
+    → is_header s header ≡ true
+is_header-arranged s header heads =
+    ap (are_names s) heads
+    ∙ ap (λ b. b || same_fields (header_for s) ((byte_order_mark ++ codes "op") ∷ column_names s))
     (same_fields-itself (header_for s))
 
+-- a record has as many fields in the order of a plain record, the first of them in front
+arranged-length : (s : Layout) (fields : List (List ℕ)) → length (arranged s fields) ≡ length fields
+arranged-length s fields =
+    let front = take (2 + number_of_dimensions s) fields in
+    let others = drop (2 + number_of_dimensions s) fields in
+    omega (
+      arith,
+      length-append front (with_places_first s.text_places others),
+      length-append (at_places s.text_places 0 others) (beside_places s.text_places 0 others),
+      parted-length s.text_places 0 others,
+      length-append front others,
+      ap length (take-append-drop (2 + number_of_dimensions s) fields),
+    )
+
+arranged-first : (s : Layout) (field : List ℕ) (fields : List (List ℕ))
+    → field_at (arranged s (field ∷ fields)) 0 ≡ field
+arranged-first s field fields =
+    let next : 2 + number_of_dimensions s ≡ suc (1 + number_of_dimensions s) = omega arith in
+    ap (λ n. field_at (take n (field ∷ fields)
+    ++ with_places_first s.text_places (drop (2 + number_of_dimensions s) (field ∷ fields))) 0) next
+
 -- each line has a field
-some_field : (changes : List Change) → AllByRecursion (λ fields. 1 ≤ length fields) (map record_for changes)
-some_field [] = tt
-some_field (change ∷ changes) = (each change, some_field changes)
+some_field : (s : Layout) (records : List (List (List ℕ))) (changes : List Change)
+    → map (arranged s) records ≡ map record_for changes → AllByRecursion (λ fields. 1 ≤ length fields) records
+some_field s [] changes spelled = tt
+some_field s (fields ∷ records) [] spelled = cc spelled
+some_field s (fields ∷ records) (change ∷ changes) spelled =
+    let here : arranged s fields ≡ record_for change = cc spelled in
+    let others : map (arranged s) records ≡ map record_for changes = cc spelled in
+    (omega (arith, arranged-length s fields, ap length here, each change), some_field s records changes others)
   where
     each : (c : Change) → 1 ≤ length (record_for c)
     each (Insert id fact) = omega arith
@@ -435,10 +470,19 @@ some_field (change ∷ changes) = (each change, some_field changes)
     each (Remove id) = omega arith
 
 -- the text of the header begins with `o`
-records_of-feed : (s : Layout) (lines : List (List (List ℕ))) → AllByRecursion (λ fields. 1 ≤ length fields) lines
-    → records_of (flat_map line (header_for s ∷ lines)) ≡ header_for s ∷ lines
-records_of-feed s lines all =
-    records_of-other 111 _ (λ is. omega arith) ∙ records-line (header_for s ∷ lines) (omega arith, all)
+records_of-feed : (s : Layout) (header : List (List ℕ)) (lines : List (List (List ℕ)))
+    → arranged s header ≡ header_for s → AllByRecursion (λ fields. 1 ≤ length fields) lines
+    → records_of (flat_map line (header ∷ lines)) ≡ header ∷ lines
+records_of-feed s [] lines heads all = absurd (omega (arith, arranged-length s [], ap length heads))
+records_of-feed s (name ∷ []) lines heads all =
+    absurd (omega (arith, arranged-length s (name ∷ []), ap length heads))
+records_of-feed s (name ∷ second ∷ names) lines heads all =
+    let is_op : name ≡ codes "op" =
+    sym (arranged-first s name (second ∷ names)) ∙ ap (λ fields. field_at fields 0) heads in
+    subst (λ first. records_of (flat_map line ((first ∷ second ∷ names) ∷ lines)) ≡ (first ∷ second ∷ names) ∷ lines)
+    (sym is_op)
+    (records_of-other 111 _ (λ is. omega arith)
+    ∙ records-line ((codes "op" ∷ second ∷ names) ∷ lines) (omega arith, all))
 
 -- without columns by name nobody asks whether a text ends within quotes
 ends_in_quotes-in_order : (s : Layout) (bytes : List ℕ) → s.columns ≡ None → ends_in_quotes s bytes ≡ false
@@ -515,22 +559,32 @@ found_columns-in_order : (s : Layout) (header : List (List ℕ)) → s.columns �
     → found_columns s header ≡ (if is_header s header then Some InOrder else None)
 found_columns-in_order s header none = rw none refl
 
+pub items_of-spelled : (s : Layout) (header : List (List ℕ)) (lines : List (List (List ℕ))) (changes : List Change)
+    → s.columns ≡ None → s.decimals ≡ [] → s.shard ≡ whole_feed → length changes ≤ s.max_records
+    → arranged s header ≡ header_for s → map (arranged s) lines ≡ map record_for changes
+    → has_long_record s (flat_map line (header ∷ lines)) ≡ false → AllByRecursion (CanBeSpelled s) changes
+    → feed_of s (flat_map line (header ∷ lines)) ≡ record { items = numbered 1 changes; end = Good }
+items_of-spelled s header lines changes none no_point whole few heads spelled short all =
+    let wrong : RestOfFeed FeedEnd = record { items = []; end = WrongHeader } in
+    feed_of-in_order s (flat_map line (header ∷ lines)) none short
+    ∙ ap (items_of s) (all_records-in_order s (flat_map line (header ∷ lines)) none short)
+    ∙ ap (items_of s) (records_of-feed s header lines heads (some_field s lines changes spelled))
+    ∙ ap (λ (found : Option FoundColumns). option_map_or (λ columns. items_after s columns 0 lines) found wrong)
+    (found_columns-in_order s header none
+    ∙ ap (λ (b : Bool). if b then Some InOrder else None) (is_header-arranged s header heads))
+    ∙ items_after-spelled s lines changes 0 none no_point whole spelled (omega (arith, few)) all
+
+-- where no text is counted, records stand in their order
 pub items_of-record_for : (s : Layout) (changes : List Change) → s.columns ≡ None → s.decimals ≡ []
-    → s.shard ≡ whole_feed → length changes ≤ s.max_records
+    → s.text_places ≡ [] → s.shard ≡ whole_feed → length changes ≤ s.max_records
     → has_long_record s (flat_map line (header_for s ∷ map record_for changes)) ≡ false
     → AllByRecursion (CanBeSpelled s) changes
     → feed_of s (flat_map line (header_for s ∷ map record_for changes))
     ≡ record { items = numbered 1 changes; end = Good }
-items_of-record_for s changes none no_point whole few short all =
-    let lines : List (List (List ℕ)) = map record_for changes in
-    let wrong : RestOfFeed FeedEnd = record { items = []; end = WrongHeader } in
-    feed_of-in_order s (flat_map line (header_for s ∷ lines)) none short
-    ∙ ap (items_of s) (all_records-in_order s (flat_map line (header_for s ∷ lines)) none short)
-    ∙ ap (items_of s) (records_of-feed s lines (some_field changes))
-    ∙ ap (λ (found : Option FoundColumns). option_map_or (λ columns. items_after s columns 0 lines) found wrong)
-    (found_columns-in_order s (header_for s) none
-    ∙ ap (λ (b : Bool). if b then Some InOrder else None) (is_header-header_for s))
-    ∙ items_after-record_for s changes 0 none no_point whole (omega (arith, few)) all
+items_of-record_for s changes none no_point no_texts whole few =
+    let same : (fields : List (List ℕ)) → arranged s fields ≡ fields = λ fields. arranged-none s fields no_texts in
+    items_of-spelled s (header_for s) (map record_for changes) changes none no_point whole few (same (header_for s))
+    (map-same (arranged s) same (map record_for changes))
 
 -- ---- how much a feed gives
 items_after-at_most : (s : Layout) (columns : FoundColumns) (number : ℕ) (records : List (List (List ℕ)))

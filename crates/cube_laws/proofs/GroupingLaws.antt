@@ -5,6 +5,7 @@ use Rattle.std.proofs.Common.{codes, refl, sym, ap, ap₂, ◌∙◌, subst, inl
 use Rattle.std.specs.Prelude.{⊤, ◌&&◌, is_some, if◌then◌else◌}
 use Rattle.std.specs.List.{range_with_len}
 use Rattle.std.specs.Str.{bytes_eq}
+use Rattle.std.proofs.lemmas.List.{length-append}
 use Rattle.std.proofs.Math.Nat.{pow-succ', pow-le-pow_right}
 use Rattle.std.proofs.lemmas.Bool.{and_parts, cases_Bool, not-true, false_from_ne_true, false≢true}
 use Rattle.std.proofs.lemmas.Bool.Decides.{nat_tests}
@@ -16,18 +17,23 @@ use Rattle.std.proofs.lemmas.List.Folds.{list_any-append}
 use Rattle.toml.specs.Data.{Members, string, get_member}
 use Rattle.cube_core.specs.Cube.{AreRows, AreRowsOver}
 use Rattle.cube_core.specs.GroupingSet.{all_sets, is_among}
-use Rattle.cube_core.specs.Layout.{Layout, IsSchema, is_listed, are_distinct}
+use Rattle.cube_core.specs.Layout.{Layout, IsSchema, is_listed, are_distinct, number_of_dimensions}
+use Rattle.cube_core.specs.TextPlaces.{AreTextPlaces, at_places}
+use Rattle.cube_core.specs.TextsDocument.{text_places_of_value}
 use Rattle.cube_core.specs.SchemaDocument.{dimensions_in, measures_in, spellings_in, max_records_in}
 use Rattle.cube_core.specs.SchemaDocument.{default_max_records, record_limit, mask_of_names, rollup_sets, kept_sets}
 use Rattle.cube_core.specs.SchemaDocument.{sets_of_grouping, grouping_sets_in, feed_version, version_in, parts_in}
 use Rattle.cube_core.specs.FeedDocument.{columns_of_value}
 use Rattle.cube_core.specs.DecimalsDocument.{decimals_of_value}
-use Rattle.cube_core.specs.SchemaDocument.{columns_in, decimals_in, least_measures_in, texts_at}
+use Rattle.cube_core.specs.SchemaDocument.{columns_in, decimals_in, least_measures_in, text_places_in, texts_at}
 use Rattle.cube_core.specs.SchemaDocument.{named_parts, schema_of_parts, first_fault, layout_of, schema_of}
 use Rattle.cube_core.specs.declared.fact.Fact.{Fact}
 use Rattle.cube_core.specs.declared.key.Row.{Row}
 use Rattle.cube_core.specs.declared.schema_fault.SchemaFault.{SchemaFault}
 use Rattle.cube_core.proofs.GroupingLaws.{kept_sets-all_sets}
+use Rattle.cube_core.proofs.TextPlaceLaws.{at_places-length}
+use Rattle.cube_core.proofs.TextsDocumentLaws.{no_places-are, said-are}
+use Rattle.cube_laws.specs.Cells.{all_counted}
 use Rattle.cube_laws.specs.Written.{GivesNames}
 
 -- the schema that is answered is the document's
@@ -39,13 +45,33 @@ option_map_or-Ok (Some fault) layout s is = cc
 pub schema_of-layout_of : (document : Members) (s : Layout) → schema_of document ≡ Ok s → layout_of document ≡ s
 schema_of-layout_of document s is = option_map_or-Ok (first_fault document) (layout_of document) s is
 
+-- ---- the places of texts
+-- as many texts stand behind the dimensions of a document as it says are counted
+text_places-are : (document : Members) (found : Option (List ℕ)) → found ≡ text_places_in document
+    → AreTextPlaces (length (measures_in document)) (unwrap_or found [])
+text_places-are document None is = no_places-are (length (measures_in document))
+text_places-are document (Some places) is =
+    said-are (measures_in document) (get_member (codes "decimals") document) (get_member (codes "texts") document) places
+    (sym is)
+
+number_of_dimensions-document : (document : Members)
+    → number_of_dimensions (layout_of document) ≡ length (dimensions_in document)
+number_of_dimensions-document document =
+    let places = unwrap_or (text_places_in document) [] in
+    omega (
+      arith,
+      length-append (dimensions_in document) (at_places places 0 (measures_in document)),
+      at_places-length places (measures_in document) (text_places-are document (text_places_in document) refl),
+    )
+
 -- without a grouping all are kept
 pub grouping_sets-all_sets : (document : Members) (s : Layout) → schema_of document ≡ Ok s
-    → get_member (codes "grouping") document ≡ None → s.grouping_sets ≡ all_sets (length s.dimensions)
+    → get_member (codes "grouping") document ≡ None → s.grouping_sets ≡ all_sets (number_of_dimensions s)
 grouping_sets-all_sets document s is none =
-    subst (λ (t : Layout). t.grouping_sets ≡ all_sets (length t.dimensions)) (schema_of-layout_of document s is)
+    subst (λ (t : Layout). t.grouping_sets ≡ all_sets (number_of_dimensions t)) (schema_of-layout_of document s is)
     (ap (λ grouping. unwrap_or (sets_of_grouping (dimensions_in document) grouping) []) none
-    ∙ kept_sets-all_sets (length (dimensions_in document)))
+    ∙ kept_sets-all_sets (length (dimensions_in document))
+    ∙ ap all_sets (sym (number_of_dimensions-document document)))
 
 -- a document of names alone has the parts of a schema that is told by them
 pub GivesNames-schema_of : (document : Members) (dimensions measures spellings : List (List ℕ))
@@ -63,6 +89,8 @@ GivesNames-schema_of document dimensions measures spellings gives =
     let columns : columns_in document ≡ Some None =
     ap (columns_of_value (dimensions_in document) (measures_in document)) gives.feed in
     let decimals : decimals_in document ≡ Some [] = ap (decimals_of_value (measures_in document)) gives.decimals in
+    let places : text_places_in document ≡ Some [] =
+    ap (text_places_of_value (measures_in document) (get_member (codes "decimals") document)) gives.texts in
     let least : least_measures_in document ≡ 1 =
     ap (λ feed. if is_some feed && is_some (texts_at (codes "measures") document) then 0 else 1) gives.feed in
     let parts : parts_in document ≡ named_parts dimensions measures spellings = λ i. record {
@@ -75,14 +103,15 @@ GivesNames-schema_of document dimensions measures spellings gives =
       version = version i;
       columns = columns i;
       decimals = decimals i;
+      text_places = places i;
     } in
     rw gives.known_keys (ap schema_of_parts parts)
 
 pub AreRows-all_sets : (document : Members) (s : Layout) (facts : List Fact) (rows : List Row)
     → schema_of document ≡ Ok s → get_member (codes "grouping") document ≡ None → AreRows s facts rows
-    → AreRowsOver (all_sets (length s.dimensions)) (length s.dimensions) s.aggregates facts rows
+    → AreRowsOver (all_sets (number_of_dimensions s)) (number_of_dimensions s) s.aggregates (all_counted s facts) rows
 AreRows-all_sets document s facts rows is none are =
-    subst (λ sets. AreRowsOver sets (length s.dimensions) s.aggregates facts rows)
+    subst (λ sets. AreRowsOver sets (number_of_dimensions s) s.aggregates (all_counted s facts) rows)
     (grouping_sets-all_sets document s is none) are
 
 -- a name that is no dimension adds nothing to a mask
@@ -212,14 +241,16 @@ kept_sets-first_sets dimensions =
 -- ROLLUP keeps the sets of the first dimensions
 pub grouping_sets-first_sets : (document : Members) (s : Layout) → IsSchema s → schema_of document ≡ Ok s
     → get_member (codes "grouping") document ≡ Some (string (codes "rollup"))
-    → s.grouping_sets ≡ first_sets (length s.dimensions)
+    → s.grouping_sets ≡ first_sets (number_of_dimensions s)
 grouping_sets-first_sets document s schema is rollup =
-    subst (λ (t : Layout). IsSchema t → t.grouping_sets ≡ first_sets (length t.dimensions))
+    subst (λ (t : Layout). IsSchema t → t.grouping_sets ≡ first_sets (number_of_dimensions t))
     (schema_of-layout_of document s is)
     (λ read.
     let dimensions = dimensions_in document in
     ap (λ grouping. unwrap_or (sets_of_grouping dimensions grouping) []) rollup
     ∙ ap (kept_sets (length dimensions)) (rollup_sets-first_sets dimensions
-    (are_distinct-front dimensions (layout_of document).measures read.names_are_distinct))
-    ∙ kept_sets-first_sets (length dimensions))
+    (are_distinct-front dimensions (at_places (layout_of document).text_places 0 (measures_in document))
+    (are_distinct-front (layout_of document).dimensions (layout_of document).measures read.names_are_distinct)))
+    ∙ kept_sets-first_sets (length dimensions)
+    ∙ ap first_sets (sym (number_of_dimensions-document document)))
     schema

@@ -2,7 +2,7 @@
 -- level 1 the greatest.
 use Rattle.std.proofs.Common.{◌≡◌, ℕ, ◌+◌, ◌-◌, ◌*◌, ◌/◌, ◌^◌, ◌<◌, ◌≤◌, ◌<ℤ◌, ◌≤ℤ◌, ℤ, Bool, true, false}
 use Rattle.std.proofs.Common.{List, [], ◌∷◌, length, Contains, Ordering, Less, Equal, Greater, sym, ap, ◌∙◌}
-use Rattle.std.proofs.Common.{cond, subst, inl, inr, arith}
+use Rattle.std.proofs.Common.{cond, subst, inl, inr, arith, ◌↔◌}
 use Rattle.std.specs.List.{AllByRecursion, count_by}
 use Rattle.std.specs.Bool.{Decides}
 use Rattle.std.specs.Cmp.{int_ranks, ranked_equal}
@@ -23,7 +23,7 @@ use Rattle.cube_core.specs.declared.aggregate.Agg.TheVariants as agg
 use Rattle.cube_core.specs.declared.aggregate.Answer.{Answer}
 use Rattle.cube_core.specs.declared.aggregate.Answer.TheVariants as answer
 use Rattle.cube_core.specs.declared.fact.Fact.{Fact}
-use Rattle.cube_core.proofs.ListLaws.{AllByRecursion-Contains, Contains-head, Contains-tail}
+use Rattle.cube_core.proofs.ListLaws.{AllByRecursion-Contains, Contains-head, Contains-nil, Contains-tail}
 use Rattle.cube_laws.proofs.SortedLaws.{IsStrictlySortedBy-unique}
 
 -- a distinct count is determined
@@ -221,6 +221,22 @@ IsAnswer-distinct group m distinct count (numbers, sorted, same, is) counted =
     let as_many : distinct ≡ length numbers = ap count_answered is in
     let all : count ≡ length (values_of m group) = ap count_answered counted in
     omega (arith, as_many, all, IsDistinct-length numbers (values_of m group) sorted (λ x there. (same x).0 there))
+
+-- and where there is a value, one is different
+IsDistinctCount-some : (numbers values : List ℤ) → ((x : ℤ) → Contains numbers x ↔ Contains values x)
+    → 1 ≤ length values → 1 ≤ length numbers
+IsDistinctCount-some numbers [] same some = absurd (omega (arith, some))
+IsDistinctCount-some [] (value ∷ values) same some =
+    absurd (Contains-nil value ((same value).1 (Contains-head value values)))
+IsDistinctCount-some (number ∷ numbers) (value ∷ values) same some = omega arith
+
+pub IsAnswer-some_distinct : (group : List Fact) (m distinct count : ℕ)
+    → IsAnswer group (agg.CountDistinct m) (answer.Count distinct)
+    → IsAnswer group (agg.Count m) (answer.Count count) → 1 ≤ count → 1 ≤ distinct
+IsAnswer-some_distinct group m distinct count (numbers, sorted, same, is) counted some =
+    let as_many : distinct ≡ length numbers = ap count_answered is in
+    let all : count ≡ length (values_of m group) = ap count_answered counted in
+    omega (arith, as_many, IsDistinctCount-some numbers (values_of m group) same (omega (arith, all, some)))
 
 -- a percentile that isn't null is one of the values
 IsPercentile-value : (units places : ℕ) (values : List ℤ) (value : ℤ)

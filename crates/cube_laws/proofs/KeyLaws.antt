@@ -3,17 +3,19 @@ use Rattle.std.specs.Prelude.{◌≡◌, ◌==◌, ◌*◌, ℕ, true, not, List
 use Rattle.std.specs.Prelude.{Option, Some, None, Contains, codes}
 use Rattle.std.specs.Str.{bytes_eq}
 use Rattle.std.specs.List.{list_any, list_all}
-use Rattle.std.proofs.Common.{refl, sym, ap, ◌∙◌, inl, inr, arith}
+use Rattle.std.proofs.Common.{ℤ, pos, subst, refl, sym, ap, ◌∙◌, inl, inr, arith}
 use Rattle.std.proofs.Math.Seq.{take-append_seam, drop-append_seam}
 use Rattle.std.proofs.lemmas.List.{length-append, length-map}
 use Rattle.std.proofs.lemmas.Bool.{or_cases, and_parts, and_from, both_ways, not-true, false≢true}
 use Rattle.std.proofs.lemmas.Slice.Eq.{bytes_eq-Decides}
-use Rattle.cube_core.specs.Layout.{Layout}
+use Rattle.cube_core.specs.Layout.{Layout, cube_schema, number_of_dimensions}
+use Rattle.cube_core.specs.TextPlaces.{text_number}
 use Rattle.cube_core.specs.Takes.{null_text, fits, is_dimension_value}
 use Rattle.cube_core.specs.Covers.{stands_for, all_stand_for, covers}
 use Rattle.cube_core.specs.GroupingSet.{is_all_coord}
 use Rattle.cube_core.specs.Cube.{is_total, is_cell, HasAnswers, key_of, AreRows}
 use Rattle.cube_core.specs.Text.{answer_texts, coord_text, digits_of_answers, grouping_text}
+use Rattle.cube_laws.specs.Cells.{all_counted}
 use Rattle.cube_laws.specs.Keys.{LookAlike, key_columns}
 use Rattle.cube_merge.specs.Lawful.{is_no_null_text, has_no_null_text}
 use Rattle.cube_core.specs.declared.fact.Fact.{Fact}
@@ -22,6 +24,7 @@ use Rattle.cube_core.specs.declared.key.Coord.TheVariants as coord
 use Rattle.cube_core.specs.declared.key.Key.{Key}
 use Rattle.cube_core.specs.declared.key.Row.{Row}
 use Rattle.cube_laws.proofs.RowLaws.{HasAnswers-unique}
+use Rattle.cube_core.proofs.CubeSchemaLaws.{all_fit-cube_schema, cube_schema-dimensions}
 use Rattle.cube_core.proofs.CellKeyLaws.{is_cell-length}
 use Rattle.cube_core.proofs.ListLaws.{AllByRecursion-Contains, list_all-Contains, list_any-Contains, map-Contains}
 
@@ -125,6 +128,18 @@ IsTold-is_cell s sets facts key fit cell =
     ] in
     (told, is_cell-length s facts key fit parts.1)
 
+-- a cell of a schema's cube can be told, and has its dimensions
+told-is_cell : (s : Layout) (facts : List Fact) (key : Key) → list_all (fits s) facts ≡ true
+    → is_cell s.grouping_sets (number_of_dimensions s) (all_counted s facts) key ≡ true
+    → (has_no_null_text key ≡ true) × (length key.coords ≡ number_of_dimensions s)
+told-is_cell s facts key fit cell =
+    let number : List ℕ → ℤ = λ text. pos (text_number text) in
+    let dimensions = cube_schema-dimensions s in
+    let told = IsTold-is_cell (cube_schema s) s.grouping_sets (all_counted s facts) key
+    (all_fit-cube_schema s number facts fit)
+    (subst (λ n. is_cell s.grouping_sets n (all_counted s facts) key ≡ true) (sym dimensions) cell) in
+    (told.0, told.1 ∙ dimensions)
+
 -- lists of one length that begin two equal lists are equal, and so is what comes after
 pub append-front : {X : Type 0} (a b as' bs : List X) → length a ≡ length b → a ++ as' ≡ b ++ bs → a ≡ b
 append-front {X} a b as' bs lengths same =
@@ -141,10 +156,10 @@ shown key = map coord_text key.coords ++ map grouping_text key.coords
 pub length-shown : (key : Key) → length (shown key) ≡ 2 * length key.coords
 length-shown key = simp (length-append, length-map) (omega arith)
 
-key_columns-shown : (s : Layout) (row : Row) → length row.key.coords ≡ length s.dimensions
+key_columns-shown : (s : Layout) (row : Row) → length row.key.coords ≡ number_of_dimensions s
     → key_columns s row ≡ shown row.key
 key_columns-shown s row as_many =
-    let n : 2 * length s.dimensions ≡ length (shown row.key) =
+    let n : 2 * number_of_dimensions s ≡ length (shown row.key) =
     sym (length-shown row.key ∙ ap (λ (k : ℕ). 2 * k) as_many) in
     rw n (take-append_seam (shown row.key) (answer_texts (digits_of_answers s) row.answers))
 
@@ -163,10 +178,8 @@ shown-unique : (s : Layout) (facts : List Fact) (rows : List Row) (a b : Row) �
     → AreRows s facts rows
     → Contains rows a → Contains rows b → key_columns s a ≡ key_columns s b → a.key ≡ b.key
 shown-unique s facts rows a b fit whole in_a in_b same =
-    let told_a =
-    IsTold-is_cell s s.grouping_sets facts a.key fit ((whole.cells a.key).0 (map-Contains key_of rows a in_a)) in
-    let told_b =
-    IsTold-is_cell s s.grouping_sets facts b.key fit ((whole.cells b.key).0 (map-Contains key_of rows b in_b)) in
+    let told_a = told-is_cell s facts a.key fit ((whole.cells a.key).0 (map-Contains key_of rows a in_a)) in
+    let told_b = told-is_cell s facts b.key fit ((whole.cells b.key).0 (map-Contains key_of rows b in_b)) in
     LookAlike-unique a.key b.key told_a.0 told_b.0
     (shown-LookAlike a.key b.key (told_a.1 ∙ sym told_b.1)
     (sym (key_columns-shown s a told_a.1) ∙ same ∙ key_columns-shown s b told_b.1))
@@ -176,6 +189,6 @@ pub row_fields-unique : (s : Layout) (facts : List Fact) (rows : List Row) (a b 
     → AreRows s facts rows
     → Contains rows a → Contains rows b → key_columns s a ≡ key_columns s b → a ≡ b
 row_fields-unique s facts rows a b fit whole in_a in_b same =
-    HasAnswers-unique s.aggregates facts a b (shown-unique s facts rows a b fit whole in_a in_b same)
-    (AllByRecursion-Contains (HasAnswers s.aggregates facts) rows a whole.answers in_a)
-    (AllByRecursion-Contains (HasAnswers s.aggregates facts) rows b whole.answers in_b)
+    HasAnswers-unique s.aggregates (all_counted s facts) a b (shown-unique s facts rows a b fit whole in_a in_b same)
+    (AllByRecursion-Contains (HasAnswers s.aggregates (all_counted s facts)) rows a whole.answers in_a)
+    (AllByRecursion-Contains (HasAnswers s.aggregates (all_counted s facts)) rows b whole.answers in_b)

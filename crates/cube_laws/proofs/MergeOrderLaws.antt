@@ -10,10 +10,10 @@ use Rattle.cube_core.specs.declared.fact.Fact.{Fact}
 use Rattle.cube_core.specs.declared.key.Row.{Row}
 use Rattle.cube_laws.specs.Merging.{joined, AreMergedOf, IsMergeTree, cube, merge, AreMergeTrees, none, more}
 use Rattle.cube_laws.proofs.GroupCountLaws.{flat_map-Reordered}
-use Rattle.cube_laws.proofs.MergedLaws.{AreRowsOver-AreMergedOf}
-use Rattle.cube_laws.proofs.RowLaws.{AreRowsOver-unique}
+use Rattle.cube_laws.proofs.MergedLaws.{AreMergedOf-AreRows}
+use Rattle.cube_laws.proofs.RowLaws.{AreRows-unique}
 use Rattle.cube_core.proofs.ReorderedLaws.{IsPermutation-Reordered, Reordered-IsPermutation}
-use Rattle.cube_laws.proofs.RowOrderLaws.{AreRowsOver-IsPermutation}
+use Rattle.cube_laws.proofs.RowOrderLaws.{AreRows-IsPermutation}
 
 -- lists in another order, joined, are joined in another order
 pub joined-IsPermutation : {X : Type 0} (lists others : List (List X)) → IsPermutation lists others
@@ -41,13 +41,11 @@ pub AreMergedOf-parts : (s : Layout) (parts others : List (List Fact)) (cubes ot
     → AreMergedOf (partial_aggregates s.aggregates) s.aggregates other_cubes other_rows → rows ≡ other_rows
 AreMergedOf-parts s parts others cubes other_cubes rows other_rows some some_others order are are_others merged
     merged_others =
-    AreRowsOver-unique s.grouping_sets (length s.dimensions) s.aggregates (joined others) rows other_rows
-    (AreRowsOver-IsPermutation s.grouping_sets (length s.dimensions) s.aggregates (joined parts)
-    (joined others) rows order
-    (AreRowsOver-AreMergedOf s.grouping_sets (length s.dimensions)
-    (partial_aggregates s.aggregates) s.aggregates parts cubes rows some are merged))
-    (AreRowsOver-AreMergedOf s.grouping_sets (length s.dimensions)
-    (partial_aggregates s.aggregates) s.aggregates others other_cubes other_rows some_others are_others merged_others)
+    AreRows-unique s (joined others) rows other_rows
+    (AreRows-IsPermutation s (joined parts) (joined others) rows order
+    (AreMergedOf-AreRows s (partial_aggregates s.aggregates) s.aggregates parts cubes rows some are merged))
+    (AreMergedOf-AreRows s (partial_aggregates s.aggregates) s.aggregates others other_cubes other_rows some_others
+    are_others merged_others)
 
 mutual
   -- what is merged in any nesting are the rows of the cube of all facts
@@ -56,8 +54,7 @@ mutual
   IsMergeTree-AreRows s (cube are) = are
   IsMergeTree-AreRows s (merge {parts} {cubes} {facts} {rows} some same trees merged) =
       subst (λ all. AreRows s all rows) (sym same)
-      (AreRowsOver-AreMergedOf s.grouping_sets (length s.dimensions) s.aggregates s.aggregates parts cubes rows some
-      (AreMergeTrees-AllZip s trees) merged)
+      (AreMergedOf-AreRows s s.aggregates s.aggregates parts cubes rows some (AreMergeTrees-AllZip s trees) merged)
 
   -- so each part's are the rows of its cube
   pub AreMergeTrees-AllZip : (s : Layout) {parts : List (List Fact)} {cubes : List (List Row)}
@@ -70,8 +67,7 @@ pub AreMergeTrees-AreRows : (s : Layout) (parts : List (List Fact)) (cubes : Lis
     → 1 ≤ length parts → AreMergeTrees (partial_form s) parts cubes
     → AreMergedOf (partial_aggregates s.aggregates) s.aggregates cubes rows → AreRows s (joined parts) rows
 AreMergeTrees-AreRows s parts cubes rows some trees merged =
-    AreRowsOver-AreMergedOf s.grouping_sets (length s.dimensions)
-    (partial_aggregates s.aggregates) s.aggregates parts cubes rows some
+    AreMergedOf-AreRows s (partial_aggregates s.aggregates) s.aggregates parts cubes rows some
     (AreMergeTrees-AllZip (partial_form s) trees) merged
 
 -- two merges in any nesting, of the same facts in any order, give the same rows
@@ -79,7 +75,6 @@ pub IsMergeTree-unique : (s : Layout) (facts others : List Fact) (rows other_row
     → IsPermutation facts others → IsMergeTree s facts rows → IsMergeTree s others other_rows
     → rows ≡ other_rows
 IsMergeTree-unique s facts others rows other_rows order tree other_tree =
-    AreRowsOver-unique s.grouping_sets (length s.dimensions) s.aggregates others rows other_rows
-    (AreRowsOver-IsPermutation s.grouping_sets (length s.dimensions) s.aggregates facts others rows order
-    (IsMergeTree-AreRows s tree))
+    AreRows-unique s others rows other_rows
+    (AreRows-IsPermutation s facts others rows order (IsMergeTree-AreRows s tree))
     (IsMergeTree-AreRows s other_tree)

@@ -7,7 +7,7 @@ use Rattle.std.specs.List.Sorted.{IsStrictlySortedBy}
 use Rattle.std.specs.Ordering.{ordering_reverse}
 use Rattle.std.proofs.lemmas.Bool.{cases_Bool, and_parts, and_from, or_cases, or_left, or_right, false_from_ne_true}
 use Rattle.std.proofs.lemmas.Bool.{both_ways}
-use Rattle.std.proofs.lemmas.List.{map-append, append-nil}
+use Rattle.std.proofs.lemmas.List.{map-append, append-nil, length-map}
 use Rattle.std.proofs.lemmas.List.Elements.{Contains-append_left, Contains-append_right, Contains-append_cases}
 use Rattle.std.proofs.lemmas.List.Elements.{filter-append}
 use Rattle.std.proofs.lemmas.List.Folds.{list_any-append}
@@ -17,6 +17,9 @@ use Rattle.std.proofs.lemmas.Map.Keys.{sorted_tail}
 use Rattle.std.proofs.lemmas.Grind.{flat_map-append}
 use Rattle.cube_core.specs.Answer.{AreAnswers}
 use Rattle.cube_core.specs.Covers.{covers}
+use Rattle.cube_core.specs.Layout.{Layout, number_of_dimensions}
+use Rattle.cube_core.specs.TextPlaces.{counted}
+use Rattle.cube_laws.specs.Cells.{all_counted}
 use Rattle.cube_core.specs.Cube.{AreRowsOver, HasAnswers, is_cell, is_total, key_of}
 use Rattle.cube_core.specs.Group.{group_of}
 use Rattle.cube_core.specs.GroupingSet.{is_among, mask_of}
@@ -292,3 +295,44 @@ module _ (sets : List ℕ) (dimensions : ℕ) (given : List Agg) where
           answers = Contains-AllByRecursion (HasMergedAnswers given wanted (joined cubes)) rows answers;
         };
       }
+
+-- ---- facts as a schema's cube counts them
+-- parts counted one by one are what is counted of them all
+all_counted-joined : (s : Layout) (parts : List (List Fact))
+    → joined (map (all_counted s) parts) ≡ all_counted s (joined parts)
+all_counted-joined s [] = refl
+all_counted-joined s (part ∷ parts) =
+    ap (λ others. all_counted s part ++ others) (all_counted-joined s parts)
+    ∙ sym (map-append (counted s) part (joined parts))
+
+all_counted-AllZip : (s : Layout) (given : List Agg) (parts : List (List Fact)) (cubes : List (List Row))
+    → AllZip (λ facts. AreRowsOver s.grouping_sets (number_of_dimensions s) given (all_counted s facts)) parts cubes
+    → AllZip (AreRowsOver s.grouping_sets (number_of_dimensions s) given) (map (all_counted s) parts) cubes
+all_counted-AllZip s given [] [] are = tt
+all_counted-AllZip s given [] (cube ∷ cubes) are = are
+all_counted-AllZip s given (part ∷ parts) [] are = are
+all_counted-AllZip s given (part ∷ parts) (cube ∷ cubes) are =
+    (are.0, all_counted-AllZip s given parts cubes are.1)
+
+-- so the merged rows of the cubes of parts are the rows of the cube of all facts
+pub AreMergedOf-AreRows : (s : Layout) (given wanted : List Agg) (parts : List (List Fact)) (cubes : List (List Row))
+    (rows : List Row) → 1 ≤ length parts
+    → AllZip (λ facts. AreRowsOver s.grouping_sets (number_of_dimensions s) given (all_counted s facts)) parts cubes
+    → AreMergedOf given wanted cubes rows
+    → AreRowsOver s.grouping_sets (number_of_dimensions s) wanted (all_counted s (joined parts)) rows
+AreMergedOf-AreRows s given wanted parts cubes rows some are merge =
+    subst (λ facts. AreRowsOver s.grouping_sets (number_of_dimensions s) wanted facts rows) (all_counted-joined s parts)
+    (AreRowsOver-AreMergedOf s.grouping_sets (number_of_dimensions s) given wanted (map (all_counted s) parts) cubes rows
+    (omega (arith, some, length-map parts (all_counted s))) (all_counted-AllZip s given parts cubes are) merge)
+
+-- and the rows of that are merged rows
+pub AreRows-AreMergedOf : (s : Layout) (given wanted : List Agg) (parts : List (List Fact)) (cubes : List (List Row))
+    (rows : List Row) → AllByRecursion (CanBeMadeOf given) wanted → 1 ≤ length parts
+    → AllZip (λ facts. AreRowsOver s.grouping_sets (number_of_dimensions s) given (all_counted s facts)) parts cubes
+    → AreRowsOver s.grouping_sets (number_of_dimensions s) wanted (all_counted s (joined parts)) rows
+    → AreMergedOf given wanted cubes rows
+AreRows-AreMergedOf s given wanted parts cubes rows made some are whole =
+    AreMergedOf-AreRowsOver s.grouping_sets (number_of_dimensions s) given wanted (map (all_counted s) parts) cubes rows
+    made (omega (arith, some, length-map parts (all_counted s))) (all_counted-AllZip s given parts cubes are)
+    (subst (λ facts. AreRowsOver s.grouping_sets (number_of_dimensions s) wanted facts rows)
+    (sym (all_counted-joined s parts)) whole)

@@ -4,17 +4,17 @@ use Rattle.std.proofs.Common.{Some, None, IfSome, refl, sym, ◌∙◌, subst, a
 use Rattle.std.proofs.lemmas.List.{length-map}
 use Rattle.std.specs.List.{AllByRecursion, AllZip}
 use Rattle.cube_core.specs.Cube.{AreRows}
-use Rattle.cube_core.specs.Layout.{Layout, IsSchema}
+use Rattle.cube_core.specs.Layout.{Layout}
 use Rattle.cube_core.specs.PartialForm.{partial_aggregates, partial_form}
 use Rattle.cube_core.specs.Printed.{IsPrinted}
 use Rattle.cube_core.specs.declared.fact.Fact.{Fact}
 use Rattle.cube_core.specs.declared.key.Row.{Row}
 use Rattle.cube_core.specs.Text.{text_of_rows}
 use Rattle.cube_merge.specs.Merging.{IsMergeOf}
-use Rattle.cube_laws.specs.Merging.{joined, IsTextOfRows, IsMergedText, PutsPrinted}
+use Rattle.cube_laws.specs.Merging.{joined, IsSchemaWithoutTexts, IsTextOfRows, IsMergedText, PutsPrinted}
 use Rattle.cube_laws.specs.Told.{CanBePrinted}
 use Rattle.cube_laws.proofs.AnswerTextLaws.{HasFewDigits}
-use Rattle.cube_laws.proofs.MergedLaws.{AreRowsOver-AreMergedOf}
+use Rattle.cube_laws.proofs.MergedLaws.{AreMergedOf-AreRows}
 use Rattle.cube_laws.proofs.RangeLaws.{AreRows-IsLawfulRow}
 use Rattle.cube_laws.proofs.RowLaws.{IsPrinted-unique}
 use Rattle.cube_laws.proofs.RowOrderLaws.{IsPrinted-IsPermutation}
@@ -32,13 +32,13 @@ AllZip-places R (x ∷ xs) (y ∷ ys) d e as_many each = (
 )
 
 -- rows whose text is the printed cube are the cube's
-AreRows-IsTextOfRows : (s : Layout) (facts : List Fact) (text : List ℕ) (rows : List Row) → 1 ≤ length s.dimensions
-    → HasFewDigits s → CanBePrinted s facts → IsPrinted s facts text → IsTextOfRows s text rows
+AreRows-IsTextOfRows : (s : Layout) (facts : List Fact) (text : List ℕ) (rows : List Row)
+    → length s.text_places < length s.dimensions → s.text_places ≡ [] → HasFewDigits s → CanBePrinted s facts → IsPrinted s facts text → IsTextOfRows s text rows
     → AreRows s facts rows
-AreRows-IsTextOfRows s facts text rows some few printable printed read =
+AreRows-IsTextOfRows s facts text rows some no_texts few printable printed read =
     subst (AreRows s facts)
     (text_of_rows-told s printed.rows rows some few
-    (AreRows-IsLawfulRow s facts printed.rows printable printed.are_rows) read.of_schema
+    (AreRows-IsLawfulRow s facts printed.rows printable no_texts printed.are_rows) read.of_schema
     (sym printed.text_is ∙ read.text_is))
     printed.are_rows
 
@@ -49,44 +49,44 @@ partial_form-CanBePrinted s facts printable = record { fit = printable.fit; coun
 
 -- the rows that are read of printed partial cubes are those of each part
 AllZip-AreRows : (s : Layout) (parts : List (List Fact)) (texts : List (List ℕ)) (cubes : List (List Row))
-    → 1 ≤ length s.dimensions → HasFewDigits s → AllByRecursion (CanBePrinted s) parts
+    → length s.text_places < length s.dimensions → s.text_places ≡ [] → HasFewDigits s
+    → AllByRecursion (CanBePrinted s) parts
     → AllZip (IsPrinted (partial_form s)) parts texts → AllZip (IsTextOfRows (partial_form s)) texts cubes
     → AllZip (AreRows (partial_form s)) parts cubes
-AllZip-AreRows s [] [] [] some few printable printed read = tt
-AllZip-AreRows s [] [] (rows ∷ cubes) some few printable printed read = absurd read
-AllZip-AreRows s [] (text ∷ texts) cubes some few printable printed read = absurd printed
-AllZip-AreRows s (facts ∷ parts) [] cubes some few printable printed read = absurd printed
-AllZip-AreRows s (facts ∷ parts) (text ∷ texts) [] some few printable printed read = absurd read
-AllZip-AreRows s (facts ∷ parts) (text ∷ texts) (rows ∷ cubes) some few printable printed read = (
-  AreRows-IsTextOfRows (partial_form s) facts text rows some few
+AllZip-AreRows s [] [] [] some no_texts few printable printed read = tt
+AllZip-AreRows s [] [] (rows ∷ cubes) some no_texts few printable printed read = absurd read
+AllZip-AreRows s [] (text ∷ texts) cubes some no_texts few printable printed read = absurd printed
+AllZip-AreRows s (facts ∷ parts) [] cubes some no_texts few printable printed read = absurd printed
+AllZip-AreRows s (facts ∷ parts) (text ∷ texts) [] some no_texts few printable printed read = absurd read
+AllZip-AreRows s (facts ∷ parts) (text ∷ texts) (rows ∷ cubes) some no_texts few printable printed read = (
+  AreRows-IsTextOfRows (partial_form s) facts text rows some no_texts few
       (partial_form-CanBePrinted s facts printable.0) printed.0 read.0,
-  AllZip-AreRows s parts texts cubes some few printable.1 printed.1 read.1,
+  AllZip-AreRows s parts texts cubes some no_texts few printable.1 printed.1 read.1,
 )
 
 -- so what is merged of them is printed
 pub IsMergedText-IsPrinted : (s : Layout) (parts : List (List Fact)) (texts : List (List ℕ)) (text : List ℕ)
-    → IsSchema s → 1 ≤ length parts → AllByRecursion (CanBePrinted s) parts
+    → IsSchemaWithoutTexts s → 1 ≤ length parts → AllByRecursion (CanBePrinted s) parts
     → AllZip (IsPrinted (partial_form s)) parts texts → IsMergedText (partial_form s) s texts text
     → IsPrinted s (joined parts) text
 IsMergedText-IsPrinted s parts texts text schema some printable printed merged = record {
   rows = merged.rows;
-  are_rows = AreRowsOver-AreMergedOf s.grouping_sets (length s.dimensions)
-      (partial_aggregates s.aggregates) s.aggregates parts merged.cubes merged.rows some
-      (AllZip-AreRows s parts texts merged.cubes schema.some_dimension schema.few_digits printable printed
+  are_rows = AreMergedOf-AreRows s (partial_aggregates s.aggregates) s.aggregates parts merged.cubes merged.rows some
+      (AllZip-AreRows s parts texts merged.cubes schema.schema.some_dimension schema.no_texts schema.schema.few_digits printable printed
       (AllZip-places (IsTextOfRows (partial_form s)) texts merged.cubes [] [] merged.as_many merged.read))
       merged.merged;
   text_is = merged.text_is;
 }
 
-pub IsMergedText-partial : (s : Layout) (parts : List (List Fact)) (texts : List (List ℕ)) (text : List ℕ) → IsSchema s
+pub IsMergedText-partial : (s : Layout) (parts : List (List Fact)) (texts : List (List ℕ)) (text : List ℕ) → IsSchemaWithoutTexts s
     → 1 ≤ length parts → AllByRecursion (CanBePrinted s) parts
     → AllZip (IsPrinted (partial_form s)) parts texts → IsMergedText (partial_form s) (partial_form s) texts text
     → IsPrinted (partial_form s) (joined parts) text
 IsMergedText-partial s parts texts text schema some printable printed merged = record {
   rows = merged.rows;
-  are_rows = AreRowsOver-AreMergedOf s.grouping_sets (length s.dimensions) (partial_aggregates s.aggregates)
+  are_rows = AreMergedOf-AreRows s (partial_aggregates s.aggregates)
       (partial_aggregates s.aggregates) parts merged.cubes merged.rows some
-      (AllZip-AreRows s parts texts merged.cubes schema.some_dimension schema.few_digits printable printed
+      (AllZip-AreRows s parts texts merged.cubes schema.schema.some_dimension schema.no_texts schema.schema.few_digits printable printed
       (AllZip-places (IsTextOfRows (partial_form s)) texts merged.cubes [] [] merged.as_many merged.read))
       merged.merged;
   text_is = merged.text_is;
@@ -94,7 +94,7 @@ IsMergedText-partial s parts texts text schema some printable printed merged = r
 
 -- so texts that are merged of the same facts, however these are parted, are the same
 pub IsMergedText-unique : (s : Layout) (parts others : List (List Fact)) (texts other_texts : List (List ℕ))
-    (text other_text : List ℕ) → IsSchema s → 1 ≤ length parts → 1 ≤ length others
+    (text other_text : List ℕ) → IsSchemaWithoutTexts s → 1 ≤ length parts → 1 ≤ length others
     → AllByRecursion (CanBePrinted s) parts → AllByRecursion (CanBePrinted s) others
     → IsPermutation (joined parts) (joined others)
     → AllZip (IsPrinted (partial_form s)) parts texts → AllZip (IsPrinted (partial_form s)) others other_texts
@@ -135,7 +135,7 @@ IsMergeOf-IsMergedText given wanted texts old new merge = (
 
 -- so a merge of printed partial cubes writes the printed cube
 pub IsMergeOf-PutsPrinted : (s : Layout) (parts : List (List Fact)) (texts : List (List ℕ)) (old new : List ℕ)
-    → IsSchema s → 1 ≤ length parts → AllByRecursion (CanBePrinted s) parts
+    → IsSchemaWithoutTexts s → 1 ≤ length parts → AllByRecursion (CanBePrinted s) parts
     → AllZip (IsPrinted (partial_form s)) parts texts
     → IsMergeOf (partial_form s) s (map Some texts) (Some old) (Some new) → PutsPrinted s (joined parts) old new
 IsMergeOf-PutsPrinted s parts texts old new schema some printable printed merge =
@@ -143,7 +143,7 @@ IsMergeOf-PutsPrinted s parts texts old new schema some printable printed merge 
     (wrote.0, wrote.1, IsMergedText-IsPrinted s parts texts wrote.0 schema some printable printed wrote.2)
 
 pub IsMergeOf-PutsPrinted_partial : (s : Layout) (parts : List (List Fact)) (texts : List (List ℕ)) (old new : List ℕ)
-    → IsSchema s → 1 ≤ length parts → AllByRecursion (CanBePrinted s) parts
+    → IsSchemaWithoutTexts s → 1 ≤ length parts → AllByRecursion (CanBePrinted s) parts
     → AllZip (IsPrinted (partial_form s)) parts texts
     → IsMergeOf (partial_form s) (partial_form s) (map Some texts) (Some old) (Some new)
     → PutsPrinted (partial_form s) (joined parts) old new

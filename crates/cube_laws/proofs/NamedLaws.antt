@@ -26,7 +26,7 @@ use Rattle.cube_core.specs.Items.{change_of, delete_of, dimension_fields, field_
 use Rattle.cube_core.specs.Items.{measure_fields, remove_of, unless_at_fault, update_of, upsert_of, width_of}
 use Rattle.cube_core.specs.declared.change.LineFault.TheVariants as fault
 use Rattle.cube_core.specs.Layout.{IsSchema, Layout, are_distinct, is_lawful_name, is_listed}
-use Rattle.cube_core.specs.Plain.{nulls_of, plain_at, plain_by_name, plain_dimension, plain_in_order}
+use Rattle.cube_core.specs.Plain.{nulls_of, plain_at, plain_by_name, plain_dimension, plain_in_order, plain_of_arranged}
 use Rattle.cube_core.specs.Plain.{plain_measure, plain_measures, point_of}
 use Rattle.cube_core.specs.Takes.{null_text}
 use Rattle.cube_core.specs.declared.feed_columns.Column.{Column}
@@ -35,8 +35,8 @@ use Rattle.cube_core.specs.declared.feed_columns.FoundColumns.{FoundColumns}
 use Rattle.cube_core.specs.declared.feed_columns.FoundColumns.TheVariants.{InOrder, ByName}
 use Rattle.cube_core.proofs.LifeLaws.{bytes_eq-itself}
 use Rattle.cube_core.proofs.ListLaws.{filter-failed, filter-passed}
-use Rattle.cube_core.proofs.PlainLaws.{map-same, plain_dimension-same}
-use Rattle.cube_laws.proofs.FeedLaws.{is_header-header_for}
+use Rattle.cube_core.proofs.PlainLaws.{arranged-none, map-same, plain_dimension-same}
+use Rattle.cube_laws.proofs.FeedLaws.{is_header-arranged}
 use Rattle.cube_laws.specs.Feeds.{header_for}
 use Rattle.cube_laws.specs.Named.{AreReadAlike, bare_columns, by_names, in_order, own_columns, picked}
 use Rattle.cube_laws.specs.Named.{puts_or_removes, whole_column}
@@ -306,10 +306,10 @@ plain_measures-once s point m (field ∷ fields) =
 
 -- a plain record in the order of the schema, by its parts
 plain_in_order-parts : (s : Layout) (op id : List ℕ) (dimensions measures : List (List ℕ)) → s.columns ≡ None
-    → length dimensions ≡ length s.dimensions
+    → s.text_places ≡ [] → length dimensions ≡ length s.dimensions
     → plain_in_order s (op ∷ id ∷ dimensions ++ measures)
     ≡ op ∷ id ∷ dimensions ++ plain_measures s (null_text ∷ []) 46 0 measures
-plain_in_order-parts s op id dimensions measures none wide =
+plain_in_order-parts s op id dimensions measures none no_texts wide =
     let nulls : nulls_of s ≡ null_text ∷ [] = rw none refl in
     let fields = op ∷ id ∷ dimensions ++ measures in
     let front : dimension_fields s fields ≡ dimensions = rw (← wide) (take-append_seam dimensions measures) in
@@ -323,9 +323,10 @@ plain_in_order-parts s op id dimensions measures none wide =
     ≡ plain_measures s (null_text ∷ []) 46 0 measures
     = ap (λ (texts : List (List ℕ)). plain_measures s (null_text ∷ texts) 46 0 (measure_fields s fields)) nulls
     ∙ ap (plain_measures s (null_text ∷ null_text ∷ []) 46 0) back ∙ sym (plain_measures-once s 46 0 measures) in
-    ap₂ (λ (a b : List (List ℕ)). op ∷ id ∷ a ++ b) first last
+    ap (plain_of_arranged s) (arranged-none s fields no_texts)
+    ∙ ap₂ (λ (a b : List (List ℕ)). op ∷ id ∷ a ++ b) first last
 
-module _ (s : Layout) (is : IsSchema s) where
+module _ (s : Layout) (is : IsSchema s) (no_texts : s.text_places ≡ []) where
   abbrev named : Layout
   named = by_names (own_columns s) s
 
@@ -365,14 +366,16 @@ module _ (s : Layout) (is : IsSchema s) where
       ++ (if right i then [] else [] ∷ []))
       ∙ append-nil _
       ∙ sym (plain_in_order-parts (in_order s) (at fields (codes "op")) (at fields (codes "id"))
-      (map (at fields) s.dimensions) (map (at fields) s.measures) refl (length-map s.dimensions (at fields)))
+      (map (at fields) s.dimensions) (map (at fields) s.measures) refl no_texts (length-map s.dimensions (at fields)))
       ∙ sym (ap (plain_in_order (in_order s)) (own-fields fields wide))
 
   -- the operation of a plain record is that of the record
   first-plain : (fields : List (List ℕ)) → 1 ≤ length fields
       → field_at (plain_in_order (in_order s) fields) 0 ≡ field_at fields 0
   first-plain [] some = absurd (omega arith)
-  first-plain (op ∷ fields) some = refl
+  first-plain (op ∷ fields) some =
+      ap (λ arranged. field_at (plain_of_arranged (in_order s) arranged) 0)
+      (arranged-none (in_order s) (op ∷ fields) no_texts)
 
   -- a record that isn't an upsert or a removal spells the same change by names and in order
   change_of-own : (plain : List (List ℕ)) → puts_or_removes plain ≡ false
@@ -407,20 +410,20 @@ module _ (s : Layout) (is : IsSchema s) where
       else no_more
 
 pub items_of-own : (s : Layout) (records : List (List (List ℕ))) → IsSchema s
-    → AllByRecursion (λ fields. length fields ≡ width_of s) records
+    → s.text_places ≡ [] → AllByRecursion (λ fields. length fields ≡ width_of s) records
     → AllByRecursion (λ fields. puts_or_removes fields ≡ false) records
     → items_of (by_names (own_columns s) s) (header_for s ∷ records)
     ≡ items_of (in_order s) (header_for s ∷ records)
-items_of-own s records is wide neither =
+items_of-own s records is no_texts wide neither =
     let columns = own_columns s in
     let once : list_all (stands_once (header_for s)) (names_read (own_columns s)) ≡ true =
     subst (λ names. list_all (stands_once (header_for s)) names ≡ true) (sym (names_read-own s))
     (stands_once-own (header_for s) (header_for-distinct s is)) in
     items_of-found (by_names columns s) (header_for s) records (ByName (places_by columns (header_for s)))
     (found_columns-once (by_names columns s) columns (header_for s) refl once)
-    ∙ items_after-own s is 0 records (each records wide) neither
+    ∙ items_after-own s is no_texts 0 records (each records wide) neither
     ∙ sym (items_of-found (in_order s) (header_for s) records InOrder
-    (ap (λ (b : Bool). if b then Some InOrder else None) (is_header-header_for s)))
+    (ap (λ (b : Bool). if b then Some InOrder else None) (is_header-arranged (in_order s) (header_for s) (arranged-none (in_order s) (header_for s) no_texts))))
   where
     each : (rs : List (List (List ℕ))) → AllByRecursion (λ fields. length fields ≡ width_of s) rs
         → AllByRecursion (λ fields. length fields ≡ length (header_for s)) rs

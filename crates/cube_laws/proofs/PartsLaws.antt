@@ -7,7 +7,7 @@ use Rattle.std.specs.List.{AllByRecursion, AllZip, list_all}
 use Rattle.std.proofs.lemmas.Bool.{and_from, and_parts, cases_Bool, false≢true}
 use Rattle.std.proofs.lemmas.List.Elements.{Contains-append_left, Contains-push, Contains-push_cases}
 use Rattle.cube_core.specs.Cube.{AreRows}
-use Rattle.cube_core.specs.Layout.{Layout, spelling_of}
+use Rattle.cube_core.specs.Layout.{Layout, counted_names, spelling_of}
 use Rattle.cube_core.specs.PartialForm.{is_aggregate, has_aggregate, with_aggregate, with_parts, partial_aggregates}
 use Rattle.cube_core.specs.PartialForm.{partial_form, with_mean_parts, with_variance_parts}
 use Rattle.cube_core.specs.declared.aggregate.Agg.{Agg}
@@ -20,7 +20,7 @@ use Rattle.cube_core.proofs.ListLaws.{Contains-AllByRecursion, Contains-cases, C
 use Rattle.cube_core.proofs.ListLaws.{list_any-Contains}
 use Rattle.cube_merge.specs.Source.{can_be_made, can_make_variance}
 use Rattle.cube_laws.specs.Merging.{joined, AreMergedOf, Stands, CanBeMadeOf, HasVarianceParts}
-use Rattle.cube_laws.proofs.MergedLaws.{AreMergedOf-AreRowsOver}
+use Rattle.cube_laws.proofs.MergedLaws.{AreRows-AreMergedOf}
 
 -- aggregates that are the same are one
 is_aggregate-same : (a b : Agg) → is_aggregate a b ≡ true → a ≡ b
@@ -314,15 +314,14 @@ pub AreMergedOf-whole : (s : Layout) (parts : List (List Fact)) (cubes : List (L
     → 1 ≤ length parts → AllZip (AreRows (partial_form s)) parts cubes
     → AreRows s (joined parts) rows → AreMergedOf (partial_aggregates s.aggregates) s.aggregates cubes rows
 AreMergedOf-whole s parts cubes rows some are whole =
-    AreMergedOf-AreRowsOver s.grouping_sets (length s.dimensions)
-    (partial_aggregates s.aggregates) s.aggregates parts cubes rows (own-each s.aggregates) some are whole
+    AreRows-AreMergedOf s (partial_aggregates s.aggregates) s.aggregates parts cubes rows (own-each s.aggregates) some are whole
 
 pub AreMergedOf-partial : (s : Layout) (parts : List (List Fact)) (cubes : List (List Row)) (rows : List Row)
     → 1 ≤ length parts → AllZip (AreRows (partial_form s)) parts cubes
     → AreRows (partial_form s) (joined parts) rows
     → AreMergedOf (partial_aggregates s.aggregates) (partial_aggregates s.aggregates) cubes rows
 AreMergedOf-partial s parts cubes rows some are whole =
-    AreMergedOf-AreRowsOver s.grouping_sets (length s.dimensions) (partial_aggregates s.aggregates)
+    AreRows-AreMergedOf s (partial_aggregates s.aggregates)
     (partial_aggregates s.aggregates) parts cubes rows (partial-each s.aggregates) some are whole
 
 -- ---- the partial form of a partial form
@@ -400,7 +399,7 @@ pub partial_form-itself : (s : Layout) → partial_form (partial_form s) ≡ par
 partial_form-itself s =
     ap (λ (aggregates : List Agg). let form : Layout = record s {
       aggregates = aggregates;
-      aggregate_texts = map (spelling_of s.measures) aggregates;
+      aggregate_texts = map (spelling_of (counted_names s)) aggregates;
     } in form) (partial_aggregates-itself s.aggregates)
 
 -- ---- what can be made

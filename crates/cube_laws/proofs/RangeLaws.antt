@@ -43,6 +43,8 @@ use Rattle.cube_merge.specs.Lawful.{IsNoneAmong, TellsNone, measure_of, tells_no
 use Rattle.cube_laws.specs.Told.{HasSmallValues, AreCountable, CanBePrinted}
 use Rattle.cube_laws.proofs.HeldLaws.{AreHeld-each, AreHeld-itself, AreHeld-none, AreHeld-order}
 use Rattle.cube_laws.proofs.HolisticLaws.{IsDistinct-length, IsPercentile-Contains}
+use Rattle.cube_core.proofs.TextRowLaws.{are_rows-plain}
+use Rattle.cube_core.proofs.TextSchemaLaws.{number_of_dimensions-none}
 use Rattle.cube_laws.proofs.KeyLaws.{IsTold-is_cell}
 use Rattle.cube_laws.proofs.RowOrderLaws.{length-Reordered}
 use Rattle.cube_laws.proofs.StatisticsLaws.{IsReduced-IsInLowestTerms, IsVariance-spread}
@@ -597,9 +599,10 @@ group_of-some dimensions facts key cell part =
 
 -- the rows of a cube are rows of its schema
 pub AreRows-IsLawfulRow : (s : Layout) (facts : List Fact) (rows : List Row) → CanBePrinted s facts
-    → AreRows s facts rows
+    → s.text_places ≡ [] → AreRows s facts rows
     → AllByRecursion (IsLawfulRow s) rows
-AreRows-IsLawfulRow s facts rows printable are =
+AreRows-IsLawfulRow s facts rows printable no_texts counted_rows =
+    let are = (are_rows-plain s facts rows no_texts).1 counted_rows in
     Contains-AllByRecursion (IsLawfulRow s) rows (λ row among.
     let cell = (are.cells row.key).0 (map-Contains key_of rows row among) in
     let told = IsTold-is_cell s s.grouping_sets facts row.key printable.fit cell in
@@ -607,7 +610,7 @@ AreRows-IsLawfulRow s facts rows printable are =
     and_parts (keeps s row.key) (is_total (length s.dimensions) row.key || list_any (covers row.key) facts) cell in
     let answers = AllByRecursion-Contains (HasAnswers s.aggregates facts) rows row are.answers among in
     record {
-      coords = told.1;
+      coords = told.1 ∙ sym (number_of_dimensions-none s no_texts);
       told = told.0;
       kept = parts.0;
       answers = AreAnswers-AreOfKind (group_of row.key facts) s.aggregates row.answers

@@ -10,7 +10,7 @@ use Rattle.std.proofs.lemmas.Cmp.{tied_itself}
 use Rattle.std.proofs.lemmas.List.Kept.{IsStrictlySortedBy-filter}
 use Rattle.cube_core.specs.Layout.{Layout}
 use Rattle.cube_core.specs.Covers.{covers, all_stand_for, stands_for}
-use Rattle.cube_core.specs.Cube.{AreRows, key_of}
+use Rattle.cube_core.specs.Cube.{key_of}
 use Rattle.cube_core.specs.Group.{group_of}
 use Rattle.cube_core.specs.GroupingSet.{is_all_coord, is_all_at, mask_of, is_among, mask_of_coords}
 use Rattle.cube_core.specs.Query.{rolled_up, drills_down, rows_below}
@@ -21,6 +21,7 @@ use Rattle.cube_core.specs.declared.key.Coord.TheVariants as coord
 use Rattle.cube_core.specs.declared.key.Key.{Key}
 use Rattle.cube_core.specs.declared.key.Row.{Row}
 use Rattle.cube_core.proofs.ReorderedLaws.{Reordered}
+use Rattle.cube_laws.specs.Cells.{AreCountedRows}
 use Rattle.cube_laws.proofs.CountLaws.{AreRows-covers}
 use Rattle.cube_laws.proofs.GroupCountLaws.{count_by-one, SharedOut, joined_groups, joined_groups-filter}
 use Rattle.cube_core.proofs.AncestorLaws.{coord_of, coord_of-stands_for, stands_for-coord_of, is_all_coord-coord_of}
@@ -125,7 +126,7 @@ drills_down-rolled_up dimension above key h =
 eq_by_cmp-refl : (key : Key) → eq_by_cmp key_cmp key key ≡ true
 eq_by_cmp-refl key = ap (λ o. eq_by_cmp (λ (x y : ℕ). o) 0 0) (tied_itself key_cmp-IsTotalOrder key)
 
-module _ (s : Layout) (facts : List Fact) (rows : List Row) (are : AreRows s facts rows) (above : Key) (dimension : ℕ)
+module _ (s : Layout) (facts : List Fact) (rows : List Row) (are : AreCountedRows s facts rows) (above : Key) (dimension : ℕ)
     (all : is_all_at above dimension ≡ true) (kept : is_among (mask_of above + 2 ^ dimension) s.grouping_sets ≡ true)
   where
     -- the key that drills down to a fact

@@ -9,7 +9,7 @@ use Rattle.cube_core.specs.Layout.{Layout}
 use Rattle.cube_core.specs.Answer.{IsSum, IsBest, IsLeast, IsGreatest, IsAnswer}
 use Rattle.cube_core.specs.Cube.{key_of}
 use Rattle.cube_core.specs.Group.{group_of, values_of, value_of}
-use Rattle.cube_laws.specs.Cells.{group_size, answer_at, count_at}
+use Rattle.cube_laws.specs.Cells.{all_counted, group_size, answer_at, count_at}
 use Rattle.cube_core.specs.Merged.{count_answered}
 use Rattle.cube_core.specs.Query.{drills_down, rows_below}
 use Rattle.cube_laws.specs.Rollup.{IsRolledUp, numbers_at, gives_numbers}
@@ -72,8 +72,12 @@ IsAnswer-Says group (agg.VarPop m) a numbers h = cc
 IsAnswer-Says group (agg.VarSamp m) a numbers h = cc
 IsAnswer-Says group (agg.Values m) a numbers h = cc
 
-module _ (s : Layout) (facts : List Fact) (rows : List Row) (row : Row) (dimension place : ℕ)
-    (is : IsRolledUp s facts rows row dimension) where
+module _ (s : Layout) (given : List Fact) (rows : List Row) (row : Row) (dimension place : ℕ)
+    (is : IsRolledUp s given rows row dimension) where
+  -- the facts as the cube counts them
+  abbrev facts : List Fact
+  facts = all_counted s given
+
   -- the rows one step below
   abbrev under : List Row
   under = rows_below dimension row.key rows

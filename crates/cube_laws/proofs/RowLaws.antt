@@ -4,8 +4,9 @@ use Rattle.std.proofs.Common.{ap, ap₂, ◌∙◌, subst, arith, zero-lt-suc}
 use Rattle.std.specs.List.{AllByRecursion}
 use Rattle.std.proofs.lemmas.Int.{ints}
 use Rattle.cube_core.specs.Layout.{Layout}
+use Rattle.cube_laws.specs.Cells.{all_counted}
 use Rattle.cube_core.specs.Answer.{IsSum, IsBest, IsMean, IsAnswer, AreAnswers}
-use Rattle.cube_core.specs.Cube.{AreRowsOver, HasAnswers, key_of}
+use Rattle.cube_core.specs.Cube.{AreRows, AreRowsOver, HasAnswers, key_of}
 use Rattle.cube_core.specs.Group.{group_of, total_of, values_of}
 use Rattle.cube_core.specs.Printed.{IsPrinted}
 use Rattle.cube_core.specs.Text.{text_of_rows}
@@ -111,9 +112,15 @@ AreRowsOver-unique sets dimensions aggregates facts rows rows' h k =
     (λ key among. (h.cells key).1 ((k.cells key).0 among)))
     h.answers k.answers
 
+-- and so are the rows of a schema's cube
+pub AreRows-unique : (s : Layout) (facts : List Fact) (rows rows' : List Row) → AreRows s facts rows →
+    AreRows s facts rows' → rows ≡ rows'
+AreRows-unique s facts rows rows' h k =
+    AreRowsOver-unique _ _ s.aggregates (all_counted s facts) rows rows' h k
+
 -- the printed cube is determined
 pub IsPrinted-unique : (s : Layout) (facts : List Fact) (text text' : List ℕ) → IsPrinted s facts text →
     IsPrinted s facts text' → text ≡ text'
 IsPrinted-unique s facts text text' h k =
-    h.text_is ∙ ap (text_of_rows s) (AreRowsOver-unique _ _ s.aggregates facts h.rows k.rows h.are_rows k.are_rows)
+    h.text_is ∙ ap (text_of_rows s) (AreRows-unique s facts h.rows k.rows h.are_rows k.are_rows)
     ∙ sym k.text_is

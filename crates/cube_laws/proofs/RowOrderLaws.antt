@@ -7,15 +7,17 @@ use Rattle.std.specs.List.{AllByRecursion, cons_option, count_by}
 use Rattle.std.specs.Ordering.{int_cmp, int_eq, is_lt, is_le}
 use Rattle.std.proofs.lemmas.Int.{ints}
 use Rattle.std.proofs.lemmas.List.Elements.{All-from_recursion, recursion_from_All}
-use Rattle.std.proofs.lemmas.List.Sorted.{All-permutation}
+use Rattle.std.proofs.lemmas.List.Sorted.{All-permutation, IsPermutation-map}
 use Rattle.std.proofs.lemmas.List.Sorted.{Contains-permutation, list_any-IsPermutation, sum_by-IsPermutation}
 use Rattle.cube_core.specs.Layout.{Layout}
+use Rattle.cube_core.specs.TextPlaces.{counted}
+use Rattle.cube_laws.specs.Cells.{all_counted}
 use Rattle.cube_core.proofs.ReorderedLaws.{Reordered, none, next, exchange, both, Reordered-refl, IsPermutation-Reordered}
 use Rattle.cube_core.proofs.ReorderedLaws.{Reordered-sym, Reordered-IsPermutation, filter-Reordered}
 use Rattle.cube_core.specs.Answer.{IsSum, IsBest, IsMean, IsAnswer, AreAnswers, IsDistinctCount, IsPercentile, StandsAt}
 use Rattle.cube_core.specs.Answer.{AreHeld, AreValues, IsSumOfSquares, IsVarianceAnswer, percentile_place}
 use Rattle.cube_core.specs.Covers.{covers}
-use Rattle.cube_core.specs.Cube.{AreRowsOver, HasAnswers, key_of, is_cell, is_total}
+use Rattle.cube_core.specs.Cube.{AreRows, AreRowsOver, HasAnswers, key_of, is_cell, is_total}
 use Rattle.cube_core.specs.Fraction.{IsInLowestTerms}
 use Rattle.cube_core.specs.Group.{group_of, total_of, values_of, value_of}
 use Rattle.cube_core.specs.GroupingSet.{is_among, mask_of}
@@ -257,12 +259,19 @@ AreRowsOver-IsPermutation sets dimensions aggregates facts facts' rows h are =
       answers = HasAnswers-Reordered aggregates facts facts' rows (IsPermutation-Reordered facts facts' h) are.answers;
     }
 
+-- the rows of a schema's cube are those of the facts in another order
+pub AreRows-IsPermutation : (s : Layout) (facts facts' : List Fact) (rows : List Row) → IsPermutation facts facts' →
+    AreRows s facts rows → AreRows s facts' rows
+AreRows-IsPermutation s facts facts' rows h are =
+    AreRowsOver-IsPermutation _ _ s.aggregates (all_counted s facts) (all_counted s facts') rows
+    (IsPermutation-map (counted s) facts facts' h) are
+
 -- the printed cube of facts is that of the facts in another order
 pub IsPrinted-IsPermutation : (s : Layout) (facts facts' : List Fact) (text : List ℕ) → IsPermutation facts facts' →
     IsPrinted s facts text → IsPrinted s facts' text
 IsPrinted-IsPermutation s facts facts' text h printed =
     record {
       rows = printed.rows;
-      are_rows = AreRowsOver-IsPermutation _ _ s.aggregates facts facts' printed.rows h printed.are_rows;
+      are_rows = AreRows-IsPermutation s facts facts' printed.rows h printed.are_rows;
       text_is = printed.text_is;
     }

@@ -1,5 +1,5 @@
 -- Rows of a schema are told by their text.
-use Rattle.std.proofs.Common.{◌≡◌, ◌≤◌, ◌*◌, List, [], ◌∷◌, length, map, refl, sym, ap, ap₂, ◌∙◌, arith, length-append}
+use Rattle.std.proofs.Common.{◌≡◌, ◌<◌, ◌≤◌, ◌*◌, List, [], ◌∷◌, length, map, refl, sym, ap, ap₂, ◌∙◌, arith, length-append}
 use Rattle.std.specs.List.{AllByRecursion}
 use Rattle.csv.specs.Reading.{records, default_config}
 use Rattle.cube_core.specs.Layout.{Layout}
@@ -13,7 +13,7 @@ use Rattle.cube_laws.proofs.KeyLaws.{LookAlike-unique, append-front, append-back
 use Rattle.cube_laws.proofs.TextLaws.{records-fields}
 
 -- a row of a schema has a field
-row_fields-IsLawfulRow : (s : Layout) (rows : List Row) → 1 ≤ length s.dimensions → AllByRecursion (IsLawfulRow s) rows
+row_fields-IsLawfulRow : (s : Layout) (rows : List Row) → length s.text_places < length s.dimensions → AllByRecursion (IsLawfulRow s) rows
     → AllByRecursion (λ fields. 1 ≤ length fields) (map (row_fields s) rows)
 row_fields-IsLawfulRow s [] some all = tt
 row_fields-IsLawfulRow s (row ∷ rows) some all = (
@@ -53,7 +53,7 @@ rows-told s (a ∷ rows) (b ∷ others) few h k same =
     (rows-told s rows others few h.1 k.1 after)
 
 -- two lists of rows of a schema with the same text are the same rows
-pub text_of_rows-told : (s : Layout) (rows others : List Row) → 1 ≤ length s.dimensions → HasFewDigits s
+pub text_of_rows-told : (s : Layout) (rows others : List Row) → length s.text_places < length s.dimensions → HasFewDigits s
     → AllByRecursion (IsLawfulRow s) rows → AllByRecursion (IsLawfulRow s) others
     → text_of_rows s rows ≡ text_of_rows s others → rows ≡ others
 text_of_rows-told s rows others some few h k same =

@@ -6,15 +6,14 @@ use Rattle.cube_core.specs.Layout.{Layout}
 use Rattle.cube_core.specs.Sources.{SurviveTogether}
 use Rattle.cube_core.specs.declared.fact.Fact.{Fact}
 use Rattle.cube_core.specs.declared.key.Row.{Row}
-use Rattle.cube_laws.proofs.RowLaws.{AreRowsOver-unique}
-use Rattle.cube_laws.proofs.RowOrderLaws.{AreRowsOver-IsPermutation}
+use Rattle.cube_laws.proofs.RowLaws.{AreRows-unique}
+use Rattle.cube_laws.proofs.RowOrderLaws.{AreRows-IsPermutation}
 use Rattle.cube_laws.proofs.SurvivorLaws.{SurviveTogether-IsPermutation}
 
 pub AreRows-same : (s : Layout) (facts others : List Fact) (rows other_rows : List Row) → IsPermutation facts others
     → AreRows s facts rows → AreRows s others other_rows → rows ≡ other_rows
 AreRows-same s facts others rows other_rows same are are_too =
-    AreRowsOver-unique _ _ s.aggregates others rows other_rows
-    (AreRowsOver-IsPermutation _ _ s.aggregates facts others rows same are) are_too
+    AreRows-unique s others rows other_rows (AreRows-IsPermutation s facts others rows same are) are_too
 
 pub AreRows-arrivals : (s : Layout) (sources : ℕ) (arrivals others : Arrivals) (facts other_facts : List Fact)
     (rows other_rows : List Row) → of_sources sources arrivals ≡ of_sources sources others

@@ -1,11 +1,11 @@
 -- Filters of lists, of grouping sets and of the rows of a cube.
-use Rattle.std.specs.Prelude.{◌≡◌, ◌==◌, ◌≤◌, ℕ, Bool, true, List, [], ◌∷◌, map, filter, ◌<◌, ◌^◌, length}
+use Rattle.std.specs.Prelude.{◌≡◌, ◌==◌, ◌≤◌, ℕ, Bool, true, List, [], ◌∷◌, map, filter, ◌<◌, ◌^◌}
 use Rattle.std.proofs.Common.{refl, sym, ap, ◌∙◌, inl, inr}
 use Rattle.std.proofs.lemmas.List.Elements.{All-from_recursion, recursion_from_All, All-filter}
 use Rattle.std.proofs.lemmas.List.Kept.{IsStrictlySortedBy-filter}
 use Rattle.std.proofs.lemmas.Bool.{cases_Bool, or_cases, or_left, or_right, and_parts, and_from, eqb-true, eq-eqb}
 use Rattle.std.specs.List.{AllByRecursion}
-use Rattle.cube_core.specs.Layout.{Layout, IsSchema}
+use Rattle.cube_core.specs.Layout.{Layout, IsSchema, number_of_dimensions}
 use Rattle.cube_core.proofs.GroupingLaws.{list_any-all_sets}
 use Rattle.cube_core.specs.Cube.{is_cell, key_of, HasAnswers, AreRowsOver}
 use Rattle.cube_core.specs.Order.{key_cmp}
@@ -63,10 +63,10 @@ AreAmong-all_sets dimensions (set ∷ sets) below = (
   AreAmong-all_sets dimensions sets below.1,
 )
 
-pub IsSchema-AreAmong : (s : Layout) → IsSchema s → AreAmong s.grouping_sets (all_sets (length s.dimensions))
+pub IsSchema-AreAmong : (s : Layout) → IsSchema s → AreAmong s.grouping_sets (all_sets (number_of_dimensions s))
 IsSchema-AreAmong s is =
-    AreAmong-all_sets (length s.dimensions) s.grouping_sets
-    (recursion_from_All (λ set. set < 2 ^ length s.dimensions) s.grouping_sets is.sets_are_of_dimensions)
+    AreAmong-all_sets (number_of_dimensions s) s.grouping_sets
+    (recursion_from_All (λ set. set < 2 ^ number_of_dimensions s) s.grouping_sets is.sets_are_of_dimensions)
 
 -- a set that passes is among those that a filter keeps
 is_among-filter : (p : ℕ → Bool) (sets : List ℕ) (set : ℕ) → is_among set sets ≡ true → p set ≡ true

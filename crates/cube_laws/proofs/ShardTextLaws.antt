@@ -13,7 +13,7 @@ use Rattle.cube_core.specs.Sources.{SurviveTogether, IsPrintedOf, items_of_sourc
 use Rattle.cube_core.specs.Surviving.{AreSurviving}
 use Rattle.cube_core.specs.declared.fact.Fact.{Fact}
 use Rattle.cube_merge.specs.Merging.{IsMergeOf}
-use Rattle.cube_laws.specs.Merging.{joined, IsMergedText, PutsPrintedOf}
+use Rattle.cube_laws.specs.Merging.{joined, IsSchemaWithoutTexts, IsMergedText, PutsPrintedOf}
 use Rattle.cube_laws.specs.Shards.{of_shard, places}
 use Rattle.cube_laws.specs.Told.{AreFewSources, CanBePrinted}
 use Rattle.cube_laws.proofs.MergedTextLaws.{IsMergeOf-IsMergedText, IsMergedText-IsPrinted, IsMergedText-partial}
@@ -35,6 +35,7 @@ of_shard-IsSchema s count place is below most = record {
   names_are_lawful = is.names_are_lawful;
   names_are_distinct = is.names_are_distinct;
   aggregates_are_of_measures = is.aggregates_are_of_measures;
+  aggregates_suit = is.aggregates_suit;
   aggregates_are_spelled = is.aggregates_are_spelled;
   some_record = is.some_record;
   records_at_most = is.records_at_most;
@@ -47,6 +48,8 @@ of_shard-IsSchema s count place is below most = record {
   lawful_record_bytes = is.lawful_record_bytes;
   lawful_columns = is.lawful_columns;
   few_digits = is.few_digits;
+  text_places_are_ascending = is.text_places_are_ascending;
+  text_places_are_of_measures = is.text_places_are_of_measures;
 }
 
 -- ---- shards of several sources
@@ -189,12 +192,12 @@ ArePrintedShards-all s count start (suc len) sources (text ∷ texts) schema wit
     }
 
 -- merging the printed shards of sources is printing the sources
-pub IsMergedText-shards : (s : Layout) (count : ℕ) (sources texts : List (List ℕ)) (text : List ℕ) → IsSchema s
+pub IsMergedText-shards : (s : Layout) (count : ℕ) (sources texts : List (List ℕ)) (text : List ℕ) → IsSchemaWithoutTexts s
     → s.shard ≡ whole_feed → 1 ≤ count → count ≤ 65536 → AreFewSources sources
     → AllZip (λ place part. IsPrintedOf (partial_form (of_shard count s place)) sources part) (places count) texts
     → IsMergedText (partial_form s) s texts text → IsPrintedOf s sources text
 IsMergedText-shards s count sources texts text schema whole some most few all merged =
-    let found = ArePrintedShards-all s count 0 count sources texts schema (omega arith) most few all in
+    let found = ArePrintedShards-all s count 0 count sources texts schema.schema (omega arith) most few all in
     let survivors = SurvivesAll-shards s count sources found.shards whole some found.survive in
     let parts : List (List Fact) = map joined found.shards in
     record {
@@ -205,13 +208,13 @@ IsMergedText-shards s count sources texts text schema whole some most few all me
           (omega (arith, some, found.as_many)) found.printable found.printed merged);
     }
 
-pub IsMergedText-shards_partial : (s : Layout) (count : ℕ) (sources texts : List (List ℕ)) (text : List ℕ) → IsSchema s
+pub IsMergedText-shards_partial : (s : Layout) (count : ℕ) (sources texts : List (List ℕ)) (text : List ℕ) → IsSchemaWithoutTexts s
     → s.shard ≡ whole_feed → 1 ≤ count → count ≤ 65536 → AreFewSources sources
     → AllZip (λ place part. IsPrintedOf (partial_form (of_shard count s place)) sources part) (places count) texts
     → IsMergedText (partial_form s) (partial_form s) texts text
     → IsPrintedOf (partial_form s) sources text
 IsMergedText-shards_partial s count sources texts text schema whole some most few all merged =
-    let found = ArePrintedShards-all s count 0 count sources texts schema (omega arith) most few all in
+    let found = ArePrintedShards-all s count 0 count sources texts schema.schema (omega arith) most few all in
     let survivors = SurvivesAll-shards (partial_form s) count sources found.shards whole some found.survive_partial in
     let parts : List (List Fact) = map joined found.shards in
     record {
@@ -223,7 +226,7 @@ IsMergedText-shards_partial s count sources texts text schema whole some most fe
     }
 
 -- so a merge of the printed partial cubes of all shards writes the printed cube of the sources
-pub IsMergeOf-shards : (s : Layout) (count : ℕ) (sources texts : List (List ℕ)) (old new : List ℕ) → IsSchema s
+pub IsMergeOf-shards : (s : Layout) (count : ℕ) (sources texts : List (List ℕ)) (old new : List ℕ) → IsSchemaWithoutTexts s
     → s.shard ≡ whole_feed → 1 ≤ count → count ≤ 65536 → AreFewSources sources
     → AllZip (λ place part. IsPrintedOf (partial_form (of_shard count s place)) sources part) (places count) texts
     → IsMergeOf (partial_form s) s (map Some texts) (Some old) (Some new) → PutsPrintedOf s sources old new
@@ -232,7 +235,7 @@ IsMergeOf-shards s count sources texts old new schema whole some most few all me
     (wrote.0, wrote.1, IsMergedText-shards s count sources texts wrote.0 schema whole some most few all wrote.2)
 
 pub IsMergeOf-shards_partial : (s : Layout) (count : ℕ) (sources texts : List (List ℕ)) (old new : List ℕ)
-    → IsSchema s → s.shard ≡ whole_feed → 1 ≤ count → count ≤ 65536 → AreFewSources sources
+    → IsSchemaWithoutTexts s → s.shard ≡ whole_feed → 1 ≤ count → count ≤ 65536 → AreFewSources sources
     → AllZip (λ place part. IsPrintedOf (partial_form (of_shard count s place)) sources part) (places count) texts
     → IsMergeOf (partial_form s) (partial_form s) (map Some texts) (Some old) (Some new)
     → PutsPrintedOf (partial_form s) sources old new

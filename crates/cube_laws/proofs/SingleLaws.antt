@@ -15,10 +15,10 @@ use Rattle.std.proofs.lemmas.Slice.Eq.{bytes_eq-Decides}
 use Rattle.cube_core.specs.Answer.{IsAnswer, IsSum, IsLeast, IsGreatest, IsMean, IsDistinctCount, IsPercentile}
 use Rattle.cube_core.specs.Answer.{AreAnswers, AreValues, IsSumOfSquares, IsVarianceAnswer}
 use Rattle.cube_core.specs.Covers.{covers, all_stand_for, stands_for}
-use Rattle.cube_core.specs.Cube.{AreRows, HasAnswers, key_of, is_cell, is_total}
+use Rattle.cube_core.specs.Cube.{HasAnswers, key_of, is_cell, is_total}
 use Rattle.cube_core.specs.Group.{value_of}
 use Rattle.cube_core.specs.GroupingSet.{all_sets, is_all_coord, is_among, mask_of}
-use Rattle.cube_core.specs.Layout.{Layout, keeps}
+use Rattle.cube_core.specs.Layout.{Layout, keeps, number_of_dimensions}
 use Rattle.cube_core.specs.Variance.{IsVariance, square}
 use Rattle.cube_core.specs.declared.aggregate.Agg.{Agg}
 use Rattle.cube_core.specs.declared.aggregate.Agg.TheVariants as agg
@@ -36,7 +36,7 @@ use Rattle.cube_core.proofs.LifeLaws.{bytes_eq-itself}
 use Rattle.cube_core.proofs.ListLaws.{AllByRecursion-Contains, Contains-AllByRecursion, Contains-cases, Contains-head}
 use Rattle.cube_core.proofs.ListLaws.{Contains-list_any, Contains-nil, filter-passed, map-Contains}
 use Rattle.cube_core.proofs.VarianceLaws.{deviations_are_spread}
-use Rattle.cube_laws.specs.Cells.{most_cells}
+use Rattle.cube_laws.specs.Cells.{AreCountedRows, most_cells}
 use Rattle.cube_laws.specs.Single.{HasValuesOrAll, coord_for, count_of_value, answer_of_value, mean_of_value}
 use Rattle.cube_laws.specs.Single.{answer_of_fact, answer_of_none, all_coords, total_of_none}
 use Rattle.cube_laws.specs.Single.{squares_of_value, values_of_value, variance_of_value}
@@ -93,11 +93,11 @@ all_stand_for-total (coord.Null ∷ coords) (value ∷ values) long all = cc
 all_stand_for-total (coord.Text name ∷ coords) (value ∷ values) long all = cc
 
 -- so the cells of one fact are the keys that cover it
-is_cell-covers : (s : Layout) (fact : Fact) (key : Key) → length fact.dims ≡ length s.dimensions
-    → is_cell s.grouping_sets (length s.dimensions) (fact ∷ []) key ≡ true
+is_cell-covers : (s : Layout) (fact : Fact) (key : Key) → length fact.dims ≡ number_of_dimensions s
+    → is_cell s.grouping_sets (number_of_dimensions s) (fact ∷ []) key ≡ true
     → (keeps s key ≡ true) × (covers key fact ≡ true)
 is_cell-covers s fact key wide cell =
-    let dimensions = length s.dimensions in
+    let dimensions = number_of_dimensions s in
     let parts = and_parts (keeps s key) (is_total dimensions key || list_any (covers key) (fact ∷ [])) cell in (
       parts.0,
       elim (or_cases (is_total dimensions key) (list_any (covers key) (fact ∷ [])) parts.1) [
@@ -109,14 +109,14 @@ is_cell-covers s fact key wide cell =
     )
 
 covers-is_cell : (s : Layout) (fact : Fact) (key : Key) → keeps s key ≡ true → covers key fact ≡ true
-    → is_cell s.grouping_sets (length s.dimensions) (fact ∷ []) key ≡ true
+    → is_cell s.grouping_sets (number_of_dimensions s) (fact ∷ []) key ≡ true
 covers-is_cell s fact key kept covered =
-    and_from (keeps s key) (is_total (length s.dimensions) key || list_any (covers key) (fact ∷ [])) kept
-    (or_right (is_total (length s.dimensions) key) (list_any (covers key) (fact ∷ []))
+    and_from (keeps s key) (is_total (number_of_dimensions s) key || list_any (covers key) (fact ∷ [])) kept
+    (or_right (is_total (number_of_dimensions s) key) (list_any (covers key) (fact ∷ []))
     (ap (λ b. b || false) covered))
 
 pub AreRows-HasValuesOrAll : (s : Layout) (fact : Fact) (rows : List Row) (key : Key)
-    → length fact.dims ≡ length s.dimensions → AreRows s (fact ∷ []) rows
+    → length fact.dims ≡ number_of_dimensions s → AreCountedRows s (fact ∷ []) rows
     → Contains (map key_of rows) key ↔ (IsTrue (keeps s key) × HasValuesOrAll fact key)
 AreRows-HasValuesOrAll s fact rows key wide are = (
   λ among.
@@ -141,21 +141,21 @@ unfolding singles
 singles-Contains [] = tt
 singles-Contains (value ∷ values) = (Contains-head value [], singles-Contains values)
 
-pub AreRows-count : (s : Layout) (fact : Fact) (rows : List Row) → length fact.dims ≡ length s.dimensions
-    → s.grouping_sets ≡ all_sets (length s.dimensions) → AreRows s (fact ∷ []) rows
-    → length rows ≡ 2 ^ length s.dimensions
+pub AreRows-count : (s : Layout) (fact : Fact) (rows : List Row) → length fact.dims ≡ number_of_dimensions s
+    → s.grouping_sets ≡ all_sets (number_of_dimensions s) → AreCountedRows s (fact ∷ []) rows
+    → length rows ≡ 2 ^ number_of_dimensions s
 unfolding singles
 AreRows-count s fact rows wide all are =
     let at_most : length rows ≤ most_cells (singles fact.dims)
     = AreRows-most_cells s (fact ∷ []) rows (singles fact.dims) are (length-map fact.dims (λ value. value ∷ []) ∙ wide)
     (singles-Contains fact.dims, tt) in
-    let product : most_cells (singles fact.dims) ≡ 2 ^ length s.dimensions
+    let product : most_cells (singles fact.dims) ≡ 2 ^ number_of_dimensions s
     = most_cells-singles fact.dims ∙ ap (λ n. 2 ^ n) wide in
     let masks : List ℕ = map mask_of (map key_of rows) in
-    let at_least : 2 ^ length s.dimensions ≤ length masks = le-length_from_below masks (2 ^ length s.dimensions) each in
+    let at_least : 2 ^ number_of_dimensions s ≤ length masks = le-length_from_below masks (2 ^ number_of_dimensions s) each in
     omega (arith, at_most, product, at_least, length-map (map key_of rows) mask_of, length-map rows key_of)
   where
-    each : (set : ℕ) → set < 2 ^ length s.dimensions
+    each : (set : ℕ) → set < 2 ^ number_of_dimensions s
         → list_any (λ other. set == other) (map mask_of (map key_of rows)) ≡ true
     each set below =
         let key = key_in_set set fact in
@@ -163,7 +163,7 @@ AreRows-count s fact rows wide all are =
         let mask : mask_of key ≡ set = mask_of_coords-ancestor_of fact.dims set within in
         let kept : keeps s key ≡ true =
         ap₂ (λ sets m. is_among m sets) all mask
-        ∙ list_any-all_sets set (length s.dimensions) (λ other. other == set) below (eq-eqb set set refl) in
+        ∙ list_any-all_sets set (number_of_dimensions s) (λ other. other == set) below (eq-eqb set set refl) in
         let among = (are.cells key).1 (covers-is_cell s fact key kept (all_stand_for-ancestor_of fact.dims set)) in
         Contains-list_any (λ other. set == other) (map mask_of (map key_of rows)) (mask_of key)
         (map-Contains mask_of (map key_of rows) key among) (eq-eqb set (mask_of key) (sym mask))
@@ -284,8 +284,8 @@ AreAnswers-one fact (aggregate ∷ aggregates) [] all = absurd all
 AreAnswers-one fact (aggregate ∷ aggregates) (a ∷ answers) all =
     ap₂ (λ x xs. x ∷ xs) (IsAnswer-one fact aggregate a all.0) (AreAnswers-one fact aggregates answers all.1)
 
-pub AreRows-answers : (s : Layout) (fact : Fact) (rows : List Row) → length fact.dims ≡ length s.dimensions
-    → AreRows s (fact ∷ []) rows → AllByRecursion (λ row. row.answers ≡ map (answer_of_fact fact) s.aggregates) rows
+pub AreRows-answers : (s : Layout) (fact : Fact) (rows : List Row) → length fact.dims ≡ number_of_dimensions s
+    → AreCountedRows s (fact ∷ []) rows → AllByRecursion (λ row. row.answers ≡ map (answer_of_fact fact) s.aggregates) rows
 AreRows-answers s fact rows wide are =
     Contains-AllByRecursion (λ row. row.answers ≡ map (answer_of_fact fact) s.aggregates) rows (λ row among.
     let found =
@@ -359,41 +359,41 @@ total_key-is_cell sets dimensions kept =
     (list_all is_all_coord (all_coords dimensions)) (eq-eqb _ _ (all_coords-length dimensions))
     (all_coords-all dimensions)))
 
-total_of_none-AreRows : (s : Layout) → is_among 0 s.grouping_sets ≡ true → AreRows s [] (total_of_none s ∷ [])
+total_of_none-AreRows : (s : Layout) → is_among 0 s.grouping_sets ≡ true → AreCountedRows s [] (total_of_none s ∷ [])
 unfolding IsStrictlySortedBy
 total_of_none-AreRows s kept = record {
   cells = λ key. (
-    λ among. elim (Contains-cases (total_key (length s.dimensions)) [] key among) [
-      | inl is ↦ subst (λ k. is_cell s.grouping_sets (length s.dimensions) [] k ≡ true) is
-          (total_key-is_cell s.grouping_sets (length s.dimensions) kept)
+    λ among. elim (Contains-cases (total_key (number_of_dimensions s)) [] key among) [
+      | inl is ↦ subst (λ k. is_cell s.grouping_sets (number_of_dimensions s) [] k ≡ true) is
+          (total_key-is_cell s.grouping_sets (number_of_dimensions s) kept)
       | inr none ↦ absurd (Contains-nil key none)
     ],
-    λ cell. subst (Contains (total_key (length s.dimensions) ∷ []))
-        (is_cell-none s.grouping_sets (length s.dimensions) key cell).1
-        (Contains-head (total_key (length s.dimensions)) []),
+    λ cell. subst (Contains (total_key (number_of_dimensions s) ∷ []))
+        (is_cell-none s.grouping_sets (number_of_dimensions s) key cell).1
+        (Contains-head (total_key (number_of_dimensions s)) []),
   );
   ordered = (tt, tt);
   answers = (AreAnswers-none s.aggregates, tt);
 }
 
-no_row-AreRows : (s : Layout) → is_among 0 s.grouping_sets ≡ false → AreRows s [] []
+no_row-AreRows : (s : Layout) → is_among 0 s.grouping_sets ≡ false → AreCountedRows s [] []
 unfolding IsStrictlySortedBy
 no_row-AreRows s none = record {
   cells = λ key. (
     λ among. absurd (Contains-nil key among),
-    λ cell. absurd (false≢true (sym none ∙ (is_cell-none s.grouping_sets (length s.dimensions) key cell).0)),
+    λ cell. absurd (false≢true (sym none ∙ (is_cell-none s.grouping_sets (number_of_dimensions s) key cell).0)),
   );
   ordered = tt;
   answers = tt;
 }
 
-pub AreRows-none : (s : Layout) (rows : List Row) → is_among 0 s.grouping_sets ≡ true → AreRows s [] rows
+pub AreRows-none : (s : Layout) (rows : List Row) → is_among 0 s.grouping_sets ≡ true → AreCountedRows s [] rows
     → rows ≡ total_of_none s ∷ []
 AreRows-none s rows kept are =
-    AreRowsOver-unique s.grouping_sets (length s.dimensions) s.aggregates [] rows (total_of_none s ∷ []) are
+    AreRowsOver-unique s.grouping_sets (number_of_dimensions s) s.aggregates [] rows (total_of_none s ∷ []) are
     (total_of_none-AreRows s kept)
 
-pub AreRows-no_row : (s : Layout) (rows : List Row) → is_among 0 s.grouping_sets ≡ false → AreRows s [] rows
+pub AreRows-no_row : (s : Layout) (rows : List Row) → is_among 0 s.grouping_sets ≡ false → AreCountedRows s [] rows
     → rows ≡ []
 AreRows-no_row s rows none are =
-    AreRowsOver-unique s.grouping_sets (length s.dimensions) s.aggregates [] rows [] are (no_row-AreRows s none)
+    AreRowsOver-unique s.grouping_sets (number_of_dimensions s) s.aggregates [] rows [] are (no_row-AreRows s none)

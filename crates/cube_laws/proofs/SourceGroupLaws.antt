@@ -23,7 +23,7 @@ use Rattle.cube_core.specs.declared.fact.Fact.{Fact}
 use Rattle.cube_core.specs.declared.feed_columns.FoundColumns.{FoundColumns}
 use Rattle.cube_core.specs.declared.feed_columns.FoundColumns.TheVariants.{InOrder, ByName}
 use Rattle.cube_core.proofs.ListLaws.{AllZip-append}
-use Rattle.cube_laws.specs.Merging.{joined, IsMergedText, PutsPrintedOf}
+use Rattle.cube_laws.specs.Merging.{joined, IsSchemaWithoutTexts, IsMergedText, PutsPrintedOf}
 use Rattle.cube_merge.specs.Merging.{IsMergeOf}
 use Rattle.cube_laws.specs.Told.{AreFewSources, CanBePrinted}
 use Rattle.cube_laws.proofs.MergedTextLaws.{IsMergeOf-IsMergedText, IsMergedText-IsPrinted, IsMergedText-partial}
@@ -157,11 +157,11 @@ AreGroups-AllZip s (sources ∷ groups) (text ∷ texts) schema few all =
 
 -- merging the printed partial cubes of groups of sources is printing the cube of all sources
 pub IsMergedText-IsPrintedOf : (s : Layout) (groups : List (List (List ℕ))) (texts : List (List ℕ)) (text : List ℕ)
-    → IsSchema s → 1 ≤ length groups
+    → IsSchemaWithoutTexts s → 1 ≤ length groups
     → AllByRecursion AreFewSources groups → AllZip (IsPrintedOf (partial_form s)) groups texts
     → IsMergedText (partial_form s) s texts text → IsPrintedOf s (joined groups) text
 IsMergedText-IsPrintedOf s groups texts text schema some few all merged =
-    let found = AreGroups-AllZip s groups texts schema few all in
+    let found = AreGroups-AllZip s groups texts schema.schema few all in
     record {
       facts = joined found.parts;
       survive = found.survive;
@@ -170,12 +170,12 @@ IsMergedText-IsPrintedOf s groups texts text schema some few all merged =
     }
 
 pub IsMergedText-IsPrintedOf_partial : (s : Layout) (groups : List (List (List ℕ))) (texts : List (List ℕ))
-    (text : List ℕ) → IsSchema s → 1 ≤ length groups
+    (text : List ℕ) → IsSchemaWithoutTexts s → 1 ≤ length groups
     → AllByRecursion AreFewSources groups → AllZip (IsPrintedOf (partial_form s)) groups texts
     → IsMergedText (partial_form s) (partial_form s) texts text
     → IsPrintedOf (partial_form s) (joined groups) text
 IsMergedText-IsPrintedOf_partial s groups texts text schema some few all merged =
-    let found = AreGroups-AllZip s groups texts schema few all in
+    let found = AreGroups-AllZip s groups texts schema.schema few all in
     record {
       facts = joined found.parts;
       survive = found.survive_partial;
@@ -185,7 +185,7 @@ IsMergedText-IsPrintedOf_partial s groups texts text schema some few all merged 
 
 -- so a merge of the printed partial cubes of groups of sources writes the printed cube of all sources
 pub IsMergeOf-PutsPrintedOf : (s : Layout) (groups : List (List (List ℕ))) (texts : List (List ℕ)) (old new : List ℕ)
-    → IsSchema s → 1 ≤ length groups
+    → IsSchemaWithoutTexts s → 1 ≤ length groups
     → AllByRecursion AreFewSources groups → AllZip (IsPrintedOf (partial_form s)) groups texts
     → IsMergeOf (partial_form s) s (map Some texts) (Some old) (Some new)
     → PutsPrintedOf s (joined groups) old new
@@ -194,7 +194,7 @@ IsMergeOf-PutsPrintedOf s groups texts old new schema some few all merge =
     (wrote.0, wrote.1, IsMergedText-IsPrintedOf s groups texts wrote.0 schema some few all wrote.2)
 
 pub IsMergeOf-PutsPrintedOf_partial : (s : Layout) (groups : List (List (List ℕ))) (texts : List (List ℕ))
-    (old new : List ℕ) → IsSchema s → 1 ≤ length groups
+    (old new : List ℕ) → IsSchemaWithoutTexts s → 1 ≤ length groups
     → AllByRecursion AreFewSources groups → AllZip (IsPrintedOf (partial_form s)) groups texts
     → IsMergeOf (partial_form s) (partial_form s) (map Some texts) (Some old) (Some new)
     → PutsPrintedOf (partial_form s) (joined groups) old new

@@ -1,17 +1,18 @@
 -- Printed lines, read back.
-use Rattle.std.specs.Prelude.{◌≡◌, ◌+◌, ◌≤◌, ℕ, zero, suc, List, [], ◌∷◌, ◌++◌, length, map}
+use Rattle.std.specs.Prelude.{◌≡◌, ◌+◌, ◌<◌, ◌≤◌, ℕ, zero, suc, List, [], ◌∷◌, ◌++◌, length, map}
 use Rattle.std.specs.List.{AllByRecursion, flat_map}
 use Rattle.std.proofs.Common.{refl, ap, ◌∙◌, arith}
-use Rattle.std.proofs.lemmas.List.{length-append, length-map}
+use Rattle.std.proofs.lemmas.List.{length-append, length-map, length-take-le}
 use Rattle.csv.specs.Machine.{next_record}
 use Rattle.csv.specs.Reading.{records, records_from, default_config}
 use Rattle.csv.specs.Writing.{read_back}
 use Rattle.csv.specs.declared.parser.State.TheVariants as st
 use Rattle.csv.proofs.RoundTrip.{read-write}
-use Rattle.cube_core.specs.Layout.{Layout, IsSchema}
+use Rattle.cube_core.specs.Layout.{Layout, IsSchema, number_of_dimensions}
 use Rattle.cube_core.specs.Answer.{IsAnswer}
 use Rattle.cube_core.specs.Group.{group_of}
 use Rattle.cube_core.specs.Cube.{HasAnswers, AreRows}
+use Rattle.cube_laws.specs.Cells.{all_counted}
 use Rattle.cube_core.specs.Text.{answer_texts, coord_text, digits_of, digits_of_answers, grouping_text, header_fields}
 use Rattle.cube_core.specs.Text.{line, row_fields, row_line, text_of_rows}
 use Rattle.cube_core.specs.declared.aggregate.Answer.{Answer}
@@ -87,11 +88,12 @@ row_fields-HasAnswers s facts (row ∷ rows) some all = (
 )
 
 -- the header has a field
-header_fields-length : (s : Layout) → 1 ≤ length s.dimensions → 1 ≤ length (header_fields s)
-header_fields-length s some = simp (length-append, length-map) (omega arith)
+header_fields-length : (s : Layout) → length s.text_places < length s.dimensions → 1 ≤ length (header_fields s)
+header_fields-length s some = simp (length-append, length-map)
+    (omega (arith, length-take-le (number_of_dimensions s) s.dimensions (omega arith), some))
 
 -- rows of fields, printed with the header and read back
-pub records-fields : (s : Layout) (rows : List Row) → 1 ≤ length s.dimensions
+pub records-fields : (s : Layout) (rows : List Row) → length s.text_places < length s.dimensions
     → AllByRecursion (λ fields. 1 ≤ length fields) (map (row_fields s) rows)
     → records default_config (text_of_rows s rows) ≡ header_fields s ∷ map (row_fields s) rows
 records-fields s rows some all =
@@ -103,4 +105,4 @@ pub records-text_of_rows : (s : Layout) (facts : List Fact) (rows : List Row) �
     → records default_config (text_of_rows s rows) ≡ header_fields s ∷ map (row_fields s) rows
 records-text_of_rows s facts rows schema are =
     records-fields s rows schema.some_dimension
-    (row_fields-HasAnswers s facts rows schema.some_aggregate are.answers)
+    (row_fields-HasAnswers s (all_counted s facts) rows schema.some_aggregate are.answers)

@@ -2,7 +2,7 @@
 use Rattle.std.proofs.Common.{◌≡◌, ℕ, zero, suc, pos, ◌+◌, ◌*◌, ◌^◌, ◌<◌, ◌≤◌, true, false, not, List, [], ◌∷◌, length}
 use Rattle.std.proofs.Common.{get_or, Some, None, option_map, option_and_then, unwrap_or, codes, ◌⊎◌, refl, sym, ap}
 use Rattle.std.proofs.Common.{◌∙◌, subst, inl, inr, arith, zero-add}
-use Rattle.std.specs.Prelude.{if◌then◌else◌}
+use Rattle.std.specs.Prelude.{All, if◌then◌else◌}
 use Rattle.std.specs.Str.{bytes_eq}
 use Rattle.std.specs.List.{AllByRecursion, list_all}
 use Rattle.std.specs.List.Sorted.{IsStrictlyIncreasing}
@@ -12,10 +12,14 @@ use Rattle.std.proofs.lemmas.Bool.{lt-ltb}
 use Rattle.std.proofs.lemmas.List.Elements.{recursion_from_All}
 use Rattle.std.proofs.lemmas.Slice.Eq.{bytes_eq-Decides}
 use Rattle.toml.specs.Data.{string, integer, array, Items, no_items, item, Members, no_members, member}
-use Rattle.cube_core.specs.Layout.{Layout, IsSchema, is_listed, are_distinct}
+use Rattle.cube_core.specs.Layout.{Layout, IsSchema, is_listed, are_distinct, number_of_dimensions}
+use Rattle.cube_core.specs.TextPlaces.{at_places, beside_places}
+use Rattle.cube_core.proofs.TextPlaceLaws.{at_places-none, beside_places-none}
+use Rattle.std.proofs.lemmas.List.{drop_all, take_all}
 use Rattle.cube_core.specs.FeedDocument.{texts_of}
 use Rattle.cube_core.specs.SchemaDocument.{mask_of_names, set_of_names, set_of_item, sets_of_items}
 use Rattle.cube_core.specs.SchemaDocument.{are_distinct_sets, are_lawful_sets, named_sets, kept_sets, sets_of_grouping}
+use Rattle.cube_core.proofs.TextSchemaLaws.{number_of_dimensions-none}
 use Rattle.cube_laws.specs.Written.{WritesSchema}
 use Rattle.cube_laws.proofs.GroupingLaws.{mask_of_names-other, are_distinct-front, Rise, is_among-Rise, filter-Rise}
 
@@ -169,11 +173,14 @@ document_of s sets =
     (member (codes "version") (integer (pos s.version)) no_members)))))
 
 pub IsSchema-WritesSchema : (s : Layout) → IsSchema s → s.columns ≡ None → s.decimals ≡ []
+    → s.text_places ≡ []
     → (document : Members) × WritesSchema document s
-IsSchema-WritesSchema s is none no_decimals =
+IsSchema-WritesSchema s is none no_decimals no_texts =
     let dimensions = length s.dimensions in
     let below : AllByRecursion (λ set. set < 2 ^ dimensions) s.grouping_sets =
-    recursion_from_All _ s.grouping_sets is.sets_are_of_dimensions in
+    recursion_from_All (λ set. set < 2 ^ dimensions) s.grouping_sets
+    (subst (λ n. All (λ set. set < 2 ^ n) s.grouping_sets) (number_of_dimensions-none s no_texts)
+    is.sets_are_of_dimensions) in
     let distinct : are_distinct s.dimensions ≡ true =
     are_distinct-front s.dimensions s.measures is.names_are_distinct in
     let sets = sets_of_items-below s.dimensions s.grouping_sets distinct below in
@@ -190,8 +197,13 @@ IsSchema-WritesSchema s is none no_decimals =
       document_of s sets.0,
       record {
         known_keys = refl;
-        dimensions = texts s.dimensions;
+        dimensions = texts s.dimensions
+            ∙ ap Some (sym (take_all (number_of_dimensions s) s.dimensions (rw no_texts (omega arith))));
+        all_measures = s.measures;
         measures = texts s.measures;
+        numbers = ap (λ places. beside_places places 0 s.measures) no_texts ∙ beside_places-none 0 s.measures;
+        texts = ap (λ places. at_places places 0 s.measures) no_texts ∙ at_places-none 0 s.measures
+            ∙ sym (drop_all (number_of_dimensions s) s.dimensions (rw no_texts (omega arith)));
         aggregates = texts s.aggregate_texts;
         max_records = ap (λ b. if b then Some s.max_records else None)
             (and_from _ _ (le-leb 1 s.max_records is.some_record) (lt-ltb s.max_records (2 ^ 32) is.records_at_most));
@@ -201,7 +213,12 @@ IsSchema-WritesSchema s is none no_decimals =
             ∙ ap Some kept;
         version = ap (λ b. if b then Some s.version else None)
             (and_from _ _ (le-leb 1 s.version is.version_at_least) (le-leb s.version 2 is.version_at_most));
-        columns = ap Some (sym none);
-        decimals = ap Some (sym no_decimals);
+        all_columns = None;
+        columns = refl;
+        columns_are = sym none;
+        all_decimals = [];
+        decimals = refl;
+        decimals_are = sym no_decimals;
+        text_places = ap Some (sym no_texts);
       },
     )

@@ -6,12 +6,23 @@ use Rattle.std.specs.List.{AllByRecursion, AllZip}
 use Rattle.cube_core.specs.Covers.{covers}
 use Rattle.cube_core.specs.Group.{group_of}
 use Rattle.cube_core.specs.Merged.{count_answered}
+use Rattle.cube_core.specs.Cube.{AreRowsOver}
 use Rattle.cube_core.specs.GroupingSet.{mask_of, all_sets}
+use Rattle.cube_core.specs.Layout.{Layout, number_of_dimensions}
+use Rattle.cube_core.specs.TextPlaces.{counted}
 use Rattle.cube_core.specs.declared.aggregate.Answer.{Answer}
 use Rattle.cube_core.specs.declared.aggregate.Answer.TheVariants as answer
 use Rattle.cube_core.specs.declared.fact.Fact.{Fact}
 use Rattle.cube_core.specs.declared.key.Key.{Key}
 use Rattle.cube_core.specs.declared.key.Row.{Row}
+
+-- facts as the cube of a schema counts them: a number stands for each text that is counted
+abbrev pub all_counted : Layout → List Fact → List Fact
+all_counted s facts = map (counted s) facts
+
+-- these are the rows of a schema's cube over facts as it counts them
+abbrev pub AreCountedRows : Layout → List Fact → List Row → Type 0
+AreCountedRows s facts rows = AreRowsOver s.grouping_sets (number_of_dimensions s) s.aggregates facts rows
 
 -- each fact has a value or null for each of so many dimensions
 abbrev pub HaveDimensions : ℕ → List Fact → Type 0

@@ -1,6 +1,6 @@
 -- The words of the laws on what a row shows of its key (SQL:1999: GROUPING tells ALL from null).
-use Rattle.std.specs.Prelude.{◌≡◌, ◌*◌, ℕ, List, length, map, take}
-use Rattle.cube_core.specs.Layout.{Layout}
+use Rattle.std.specs.Prelude.{◌≡◌, ◌*◌, ℕ, List, map, take}
+use Rattle.cube_core.specs.Layout.{Layout, number_of_dimensions}
 use Rattle.cube_core.specs.Text.{coord_text, grouping_text, row_fields}
 use Rattle.cube_core.specs.declared.key.Key.{Key}
 use Rattle.cube_core.specs.declared.key.Row.{Row}
@@ -12,4 +12,4 @@ pub record LookAlike (a b : Key) : Type 0 where
 
 -- the fields of a row's line that show its key: the dimensions, and their GROUPING columns
 abbrev pub key_columns : Layout → Row → List (List ℕ)
-key_columns s row = take (2 * length s.dimensions) (row_fields s row)
+key_columns s row = take (2 * number_of_dimensions s) (row_fields s row)

@@ -4,7 +4,7 @@
 -- choice).
 use Rattle.std.specs.Prelude.{◌≡◌, ◌<◌, ◌≤◌, ℕ, List, [], ◌∷◌, ◌++◌, length, get_or, slice_get, Some, IsPermutation}
 use Rattle.std.specs.List.{AllByRecursion, flat_map}
-use Rattle.cube_core.specs.Layout.{Layout}
+use Rattle.cube_core.specs.Layout.{IsSchema, Layout}
 use Rattle.cube_core.specs.Cube.{AreRows}
 use Rattle.cube_core.specs.Merged.{AreMerged}
 use Rattle.cube_core.specs.Printed.{IsPrinted}
@@ -20,6 +20,11 @@ use Rattle.cube_core.specs.declared.key.Row.{Row}
 -- lists, one after another
 abbrev pub joined : {X : Type 0} → List (List X) → List X
 joined lists = flat_map (λ list. list) lists
+
+-- a schema in which no text is counted
+pub record IsSchemaWithoutTexts (s : Layout) : Type 0 where
+  pub schema : IsSchema s
+  pub no_texts : s.text_places ≡ []
 
 -- these are the merged rows of the rows of cubes, which answer the given aggregates:
 -- the rows of all cubes, in any order, make them

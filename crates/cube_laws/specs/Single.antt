@@ -1,8 +1,8 @@
 -- The words of the laws on the cubes of one fact and of none (Gray et al. 1997; SQL:1999, aggregate functions:
 -- COUNT of no value is 0, the others of no value are null).
-use Rattle.std.specs.Prelude.{◌≡◌, ◌⊎◌, ℕ, ℤ, zero, suc, List, [], ◌∷◌, length, map, get_or, Option, Some, None}
+use Rattle.std.specs.Prelude.{◌≡◌, ◌⊎◌, ℕ, ℤ, zero, suc, List, [], ◌∷◌, map, get_or, Option, Some, None}
 use Rattle.std.specs.List.{AllZip}
-use Rattle.cube_core.specs.Layout.{Layout}
+use Rattle.cube_core.specs.Layout.{Layout, number_of_dimensions}
 use Rattle.cube_core.specs.Variance.{square}
 use Rattle.cube_core.specs.declared.aggregate.Agg.{Agg}
 use Rattle.cube_core.specs.declared.aggregate.Agg.TheVariants as agg
@@ -91,6 +91,6 @@ all_coords (suc dimensions) = coord.All ∷ all_coords dimensions
 -- the row of the grand total over no fact
 abbrev pub total_of_none : Layout → Row
 total_of_none s = record {
-  key = record { coords = all_coords (length s.dimensions) };
+  key = record { coords = all_coords (number_of_dimensions s) };
   answers = map answer_of_none s.aggregates;
 }

@@ -1,9 +1,9 @@
 //! How often a fact is counted, and how many cells there are.
 ghost use Rattle.std.specs.Prelude.{◌≡◌, ◌<◌, ◌≤◌, ◌^◌, ℕ, true, List, Option, Some, length, sum_by, slice_get, Contains};
-ghost use Rattle.cube_core.specs.Layout.{Layout};
+ghost use Rattle.cube_core.specs.Layout.{Layout, number_of_dimensions};
 ghost use Rattle.cube_core.specs.Cube.{AreRows, is_total};
 ghost use Rattle.cube_core.specs.GroupingSet.{is_among};
-ghost use Rattle.cube_laws.specs.Cells.{HaveDimensions, rows_in_set, group_size, answer_at, count_at, CoveringKeys, HaveValuesAmong, most_cells};
+ghost use Rattle.cube_laws.specs.Cells.{all_counted, HaveDimensions, rows_in_set, group_size, answer_at, count_at, CoveringKeys, HaveValuesAmong, most_cells};
 ghost use Rattle.cube_core.specs.declared.aggregate.Agg.TheVariants as agg;
 ghost use Rattle.cube_core.specs.declared.aggregate.Answer.TheVariants as answer;
 ghost use Rattle.cube_core.specs.declared.fact.Fact.{Fact};
@@ -14,8 +14,8 @@ ghost use Rattle.cube_core.specs.declared.key.Row.{Row};
 pub fn groups_part_facts()
     ensures { (s : Layout) (facts : List Fact) (rows : List Row) (set : ℕ) →
         AreRows s facts rows → HaveDimensions (length s.dimensions) facts →
-        set < 2 ^ length s.dimensions → is_among set s.grouping_sets ≡ true →
-        sum_by (group_size facts) (rows_in_set set rows) ≡ length facts }
+        set < 2 ^ number_of_dimensions s → is_among set s.grouping_sets ≡ true →
+        sum_by (group_size (all_counted s facts)) (rows_in_set set rows) ≡ length facts }
 {}
 
 /// The answers to `count(*)` of the rows of a grouping set that is kept add up to the number of facts (SQL:1999:
@@ -23,7 +23,7 @@ pub fn groups_part_facts()
 pub fn counts_add_up()
     ensures { (s : Layout) (facts : List Fact) (rows : List Row) (set place : ℕ) →
         AreRows s facts rows → HaveDimensions (length s.dimensions) facts →
-        set < 2 ^ length s.dimensions → is_among set s.grouping_sets ≡ true →
+        set < 2 ^ number_of_dimensions s → is_among set s.grouping_sets ≡ true →
         slice_get s.aggregates place ≡ Some agg.CountAll →
         sum_by (count_at place) (rows_in_set set rows) ≡ length facts }
 {}
@@ -32,7 +32,7 @@ pub fn counts_add_up()
 pub fn total_counts_all()
     ensures { (s : Layout) (facts : List Fact) (rows : List Row) (row : Row) (place : ℕ) →
         AreRows s facts rows → HaveDimensions (length s.dimensions) facts → Contains rows row →
-        is_total (length s.dimensions) row.key ≡ true →
+        is_total (number_of_dimensions s) row.key ≡ true →
         slice_get s.aggregates place ≡ Some agg.CountAll →
         answer_at place row ≡ answer.Count (length facts) }
 {}
@@ -48,6 +48,6 @@ pub fn one_key_in_each_set()
 pub fn cells_are_at_most()
     ensures { (s : Layout) (facts : List Fact) (rows : List Row)
         (values : List (List (Option (List ℕ)))) →
-        AreRows s facts rows → length values ≡ length s.dimensions → HaveValuesAmong values facts →
+        AreRows s facts rows → length values ≡ number_of_dimensions s → HaveValuesAmong values (all_counted s facts) →
         length rows ≤ most_cells values }
 {}

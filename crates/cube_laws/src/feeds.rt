@@ -2,7 +2,7 @@
 //! feed).
 ghost use Rattle.std.specs.Prelude.{◌≡◌, ◌≢◌, ◌↔◌, ◌≤◌, ℕ, true, false, List, [], ◌∷◌, length, map, None, Some, is_some, IfOk};
 ghost use Rattle.std.specs.List.{AllByRecursion, flat_map, list_all};
-ghost use Rattle.cube_core.specs.Items.{change_of, is_header};
+ghost use Rattle.cube_core.specs.Items.{arranged, change_of, is_header};
 ghost use Rattle.cube_core.specs.FeedRecords.{Good, IsGoodFeed, all_records, ends_in_quotes, feed_of, feed_records, found_columns, has_long_record, items_of};
 ghost use Rattle.cube_core.specs.FeedRecords.{names_read, stands_once};
 ghost use Rattle.cube_core.specs.Layout.{Layout};
@@ -14,13 +14,18 @@ ghost use Rattle.std.specs.Prelude.{Ok};
 ghost use Rattle.cube_core.specs.declared.change.Change.{Change};
 ghost use Rattle.cube_core.specs.declared.feed_columns.FeedColumns.{FeedColumns};
 
-/// A feed that writes changes which the schema takes, in the order of the schema, is read as these changes, in their order,
+/// A feed that writes changes which the schema takes, in the order of the schema, texts that are counted among the measures, is read as these changes, in their order,
 /// numbered from 1, and is good: no change that can be written is refused or taken for another. No measure takes a point in it,
 /// and no record exceeds the bound on its bytes, where there is one (this project's choice).
 pub fn written_feed_is_read()
     ensures change { (s : Layout) (change : Change) → CanBeSpelled s change → change_of s (record_for change) ≡ Ok change }
-    ensures feed { (s : Layout) (changes : List Change) →
+    ensures arranged { (s : Layout) (header : List (List ℕ)) (lines : List (List (List ℕ))) (changes : List Change) →
         s.columns ≡ None → s.decimals ≡ [] → s.shard ≡ whole_feed → length changes ≤ s.max_records →
+        arranged s header ≡ header_for s → map (arranged s) lines ≡ map record_for changes →
+        has_long_record s (flat_map line (header ∷ lines)) ≡ false → AllByRecursion (CanBeSpelled s) changes →
+        feed_of s (flat_map line (header ∷ lines)) ≡ record { items = numbered 1 changes; end = Good } }
+    ensures feed { (s : Layout) (changes : List Change) →
+        s.columns ≡ None → s.decimals ≡ [] → s.text_places ≡ [] → s.shard ≡ whole_feed → length changes ≤ s.max_records →
         has_long_record s (flat_map line (header_for s ∷ map record_for changes)) ≡ false →
         AllByRecursion (CanBeSpelled s) changes →
         feed_of s (flat_map line (header_for s ∷ map record_for changes))

@@ -14,6 +14,14 @@ pub fn distinct_count_is_at_most_the_count()
         IsAnswer group (agg.Count m) (answer.Count count) → distinct ≤ count }
 {}
 
+/// Where there is a value, there is one at least that differs from the others before it; so it is of texts that are counted too,
+/// for which numbers stand (SQL:1999, COUNT and COUNT(DISTINCT)).
+pub fn distinct_count_is_some_where_there_is_a_value()
+    ensures { (group : List Fact) (m distinct count : ℕ) →
+        IsAnswer group (agg.CountDistinct m) (answer.Count distinct) →
+        IsAnswer group (agg.Count m) (answer.Count count) → 1 ≤ count → 1 ≤ distinct }
+{}
+
 /// A percentile is one of the values (SQL:2003, PERCENTILE_DISC: it doesn't interpolate).
 pub fn percentile_is_one_of_the_values()
     ensures { (group : List Fact) (m units places : ℕ) (value : ℤ) →

@@ -25,4 +25,5 @@ pub mod single;
 pub mod statistics;
 pub mod survivors;
 pub mod text_back;
+pub mod texts;
 pub mod values;

@@ -1,13 +1,14 @@
 //! How the cubes of parts of the facts make the cube of them all.
+//! What is said here of printed texts is of schemas in which no text is counted: a partial form is made of no others.
 ghost use Rattle.std.specs.Prelude.{◌≡◌, ◌≤◌, ℕ, List, IsPermutation, Some, length, map, true};
 ghost use Rattle.std.specs.List.{AllByRecursion, AllZip, list_all};
 ghost use Rattle.cube_core.specs.Cube.{AreRows, AreRowsOver};
-ghost use Rattle.cube_core.specs.Layout.{IsSchema, Layout};
+ghost use Rattle.cube_core.specs.Layout.{Layout};
 ghost use Rattle.cube_core.specs.PartialForm.{partial_aggregates, partial_form};
 ghost use Rattle.cube_core.specs.Printed.{IsPrinted};
 ghost use Rattle.cube_core.specs.Sources.{IsPrintedOf};
 ghost use Rattle.cube_laws.specs.Told.{AreFewSources, CanBePrinted};
-ghost use Rattle.cube_laws.specs.Merging.{AreMergedOf, AreMergeTrees, IsMergedText, IsMergeTree, PutsPrinted, PutsPrintedOf, joined};
+ghost use Rattle.cube_laws.specs.Merging.{AreMergedOf, AreMergeTrees, IsMergedText, IsMergeTree, PutsPrinted, PutsPrintedOf, IsSchemaWithoutTexts, joined};
 ghost use Rattle.cube_merge.specs.Merging.{IsMergeOf};
 ghost use Rattle.cube_merge.specs.Source.{can_be_made};
 ghost use Rattle.cube_core.specs.declared.aggregate.Agg.{Agg};
@@ -98,11 +99,11 @@ pub fn merges_ignore_nesting()
 /// form itself; the facts of each part can be printed (this project's choice).
 pub fn merged_text_is_the_printed_cube()
     ensures whole { (s : Layout) (parts : List (List Fact)) (texts : List (List ℕ)) (text : List ℕ) →
-        IsSchema s → 1 ≤ length parts → AllByRecursion (CanBePrinted s) parts →
+        IsSchemaWithoutTexts s → 1 ≤ length parts → AllByRecursion (CanBePrinted s) parts →
         AllZip (IsPrinted (partial_form s)) parts texts →
         IsMergedText (partial_form s) s texts text → IsPrinted s (joined parts) text }
     ensures partial { (s : Layout) (parts : List (List Fact)) (texts : List (List ℕ)) (text : List ℕ) →
-        IsSchema s → 1 ≤ length parts → AllByRecursion (CanBePrinted s) parts →
+        IsSchemaWithoutTexts s → 1 ≤ length parts → AllByRecursion (CanBePrinted s) parts →
         AllZip (IsPrinted (partial_form s)) parts texts →
         IsMergedText (partial_form s) (partial_form s) texts text →
         IsPrinted (partial_form s) (joined parts) text }
@@ -112,12 +113,12 @@ pub fn merged_text_is_the_printed_cube()
 /// all their facts, and so under the partial form itself; the facts of each part can be printed (this project's choice).
 pub fn merge_writes_the_printed_cube()
     ensures whole { (s : Layout) (parts : List (List Fact)) (texts : List (List ℕ)) (old new : List ℕ) →
-        IsSchema s → 1 ≤ length parts → AllByRecursion (CanBePrinted s) parts →
+        IsSchemaWithoutTexts s → 1 ≤ length parts → AllByRecursion (CanBePrinted s) parts →
         AllZip (IsPrinted (partial_form s)) parts texts →
         IsMergeOf (partial_form s) s (map Some texts) (Some old) (Some new) →
         PutsPrinted s (joined parts) old new }
     ensures partial { (s : Layout) (parts : List (List Fact)) (texts : List (List ℕ)) (old new : List ℕ) →
-        IsSchema s → 1 ≤ length parts → AllByRecursion (CanBePrinted s) parts →
+        IsSchemaWithoutTexts s → 1 ≤ length parts → AllByRecursion (CanBePrinted s) parts →
         AllZip (IsPrinted (partial_form s)) parts texts →
         IsMergeOf (partial_form s) (partial_form s) (map Some texts) (Some old) (Some new) →
         PutsPrinted (partial_form s) (joined parts) old new }
@@ -127,12 +128,12 @@ pub fn merge_writes_the_printed_cube()
 /// an id belongs to its source).
 pub fn merge_writes_the_cube_of_all_sources()
     ensures whole { (s : Layout) (groups : List (List (List ℕ))) (texts : List (List ℕ)) (old new : List ℕ) →
-        IsSchema s → 1 ≤ length groups → AllByRecursion AreFewSources groups →
+        IsSchemaWithoutTexts s → 1 ≤ length groups → AllByRecursion AreFewSources groups →
         AllZip (IsPrintedOf (partial_form s)) groups texts →
         IsMergeOf (partial_form s) s (map Some texts) (Some old) (Some new) →
         PutsPrintedOf s (joined groups) old new }
     ensures partial { (s : Layout) (groups : List (List (List ℕ))) (texts : List (List ℕ)) (old new : List ℕ) →
-        IsSchema s → 1 ≤ length groups → AllByRecursion AreFewSources groups →
+        IsSchemaWithoutTexts s → 1 ≤ length groups → AllByRecursion AreFewSources groups →
         AllZip (IsPrintedOf (partial_form s)) groups texts →
         IsMergeOf (partial_form s) (partial_form s) (map Some texts) (Some old) (Some new) →
         PutsPrintedOf (partial_form s) (joined groups) old new }
@@ -143,7 +144,7 @@ pub fn merge_writes_the_cube_of_all_sources()
 pub fn merged_text_ignores_order()
     ensures { (s : Layout) (parts others : List (List Fact)) (texts other_texts : List (List ℕ))
         (text other_text : List ℕ) →
-        IsSchema s → 1 ≤ length parts → 1 ≤ length others →
+        IsSchemaWithoutTexts s → 1 ≤ length parts → 1 ≤ length others →
         AllByRecursion (CanBePrinted s) parts → AllByRecursion (CanBePrinted s) others →
         IsPermutation (joined parts) (joined others) →
         AllZip (IsPrinted (partial_form s)) parts texts →
@@ -157,11 +158,11 @@ pub fn merged_text_ignores_order()
 /// project's choice: an id belongs to its source).
 pub fn groups_of_sources_add_up()
     ensures whole { (s : Layout) (groups : List (List (List ℕ))) (texts : List (List ℕ)) (text : List ℕ) →
-        IsSchema s → 1 ≤ length groups → AllByRecursion AreFewSources groups →
+        IsSchemaWithoutTexts s → 1 ≤ length groups → AllByRecursion AreFewSources groups →
         AllZip (IsPrintedOf (partial_form s)) groups texts →
         IsMergedText (partial_form s) s texts text → IsPrintedOf s (joined groups) text }
     ensures partial { (s : Layout) (groups : List (List (List ℕ))) (texts : List (List ℕ)) (text : List ℕ) →
-        IsSchema s → 1 ≤ length groups → AllByRecursion AreFewSources groups →
+        IsSchemaWithoutTexts s → 1 ≤ length groups → AllByRecursion AreFewSources groups →
         AllZip (IsPrintedOf (partial_form s)) groups texts →
         IsMergedText (partial_form s) (partial_form s) texts text →
         IsPrintedOf (partial_form s) (joined groups) text }

@@ -1,5 +1,5 @@
 //! What feeds give whose columns are known by their names.
-ghost use Rattle.std.specs.Prelude.{◌≡◌, ℕ, true, List, ◌∷◌, length, map, Some, IsPermutation, false};
+ghost use Rattle.std.specs.Prelude.{◌≡◌, ℕ, true, List, [], ◌∷◌, length, map, Some, IsPermutation, false};
 ghost use Rattle.std.specs.List.{AllByRecursion, AllZip, list_all, range_with_len};
 ghost use Rattle.toml.specs.Data.{no_members, table};
 ghost use Rattle.cube_core.specs.FeedDocument.{columns_of_feed};
@@ -12,10 +12,10 @@ ghost use Rattle.cube_core.specs.declared.feed_columns.FeedColumns.{FeedColumns}
 
 /// A feed in the order of the schema, each record as wide as the header and none of them an upsert or a removal, gives the
 /// same where its columns are read by their names: `op`, `id`, and each dimension and measure under its own name, with `\N`
-/// alone for null, with commas, and with the point before decimals (this project's choice).
+/// alone for null, with commas, and with the point before decimals, where no text is counted (this project's choice).
 pub fn own_columns_give_what_the_order_gives()
     ensures { (s : Layout) (records : List (List (List ℕ))) →
-        IsSchema s → AllByRecursion (λ fields. length fields ≡ width_of s) records →
+        IsSchema s → s.text_places ≡ [] → AllByRecursion (λ fields. length fields ≡ width_of s) records →
         AllByRecursion (λ fields. puts_or_removes fields ≡ false) records →
         items_of (by_names (own_columns s) s) (header_for s ∷ records)
         ≡ items_of (in_order s) (header_for s ∷ records) }

@@ -4,8 +4,9 @@ ghost use Rattle.std.specs.Prelude.{◌≡◌, ◌≢◌, ◌↔◌, ◌<◌, �
 ghost use Rattle.std.specs.List.{AllByRecursion};
 ghost use Rattle.cube_core.specs.Cube.{AreRows};
 ghost use Rattle.cube_core.specs.GroupingSet.{is_all_at};
-ghost use Rattle.cube_core.specs.Layout.{Layout, keeps};
+ghost use Rattle.cube_core.specs.Layout.{Layout, number_of_dimensions, keeps};
 ghost use Rattle.cube_core.specs.Query.{AreRowsWhere, Wanted, cell_of, drills_down, matches, pattern_of, rolled_up};
+ghost use Rattle.cube_laws.specs.Cells.{all_counted};
 ghost use Rattle.cube_laws.specs.Asked.{CanBeWritten, Writes, pattern_for};
 ghost use Rattle.cube_core.specs.declared.fact.Fact.{Fact};
 ghost use Rattle.cube_core.specs.declared.key.Coord.{Coord};
@@ -19,7 +20,7 @@ pub fn slice_by_a_cell_is_its_row()
     ensures cell { (key : Key) → cell_of (pattern_for key) ≡ Ok key }
     ensures row { (s : Layout) (facts : List Fact) (rows sliced : List Row) (row : Row) →
         AreRows s facts rows → Contains rows row →
-        AreRowsWhere (matches (pattern_for row.key)) s.grouping_sets (length s.dimensions) s.aggregates facts sliced →
+        AreRowsWhere (matches (pattern_for row.key)) s.grouping_sets (number_of_dimensions s) s.aggregates (all_counted s facts) sliced →
         sliced ≡ row ∷ [] }
 {}
 
@@ -36,7 +37,7 @@ pub fn any_parts_by_the_coordinate()
 /// pattern, whatever the texts (this project's choice).
 pub fn written_pattern_is_read()
     ensures { (s : Layout) (pattern : Wanted) (word : List ℕ) →
-        1 ≤ length pattern → length pattern ≡ length s.dimensions → AllByRecursion CanBeWritten pattern →
+        1 ≤ length pattern → length pattern ≡ number_of_dimensions s → AllByRecursion CanBeWritten pattern →
         Writes word pattern → pattern_of s word ≡ Ok pattern }
 {}
 

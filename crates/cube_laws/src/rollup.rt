@@ -1,8 +1,8 @@
 //! How the answer of a cell follows from those one step below it.
-ghost use Rattle.std.specs.Prelude.{◌≡◌, ◌↔◌, ℕ, true, List, Some, length, sum_by, slice_get};
-ghost use Rattle.cube_core.specs.Layout.{Layout};
+ghost use Rattle.std.specs.Prelude.{◌≡◌, ◌↔◌, ℕ, true, List, Some, sum_by, slice_get};
+ghost use Rattle.cube_core.specs.Layout.{Layout, number_of_dimensions};
 ghost use Rattle.cube_core.specs.Answer.{IsSum, IsLeast, IsGreatest};
-ghost use Rattle.cube_laws.specs.Cells.{answer_at, count_at};
+ghost use Rattle.cube_laws.specs.Cells.{all_counted, answer_at, count_at};
 ghost use Rattle.cube_core.specs.Cube.{AreRows};
 ghost use Rattle.cube_core.specs.Query.{AreRowsWhere, drills_down, rows_below};
 ghost use Rattle.cube_laws.specs.Rollup.{IsRolledUp, numbers_at, AreNullAt, gives_numbers};
@@ -68,8 +68,8 @@ pub fn nulls_roll_up()
 pub fn drilled_rows_are_the_rows_below()
     ensures { (s : Layout) (facts : List Fact) (rows drilled : List Row) (above : Key)
         (dimension : ℕ) → AreRows s facts rows →
-        AreRowsWhere (drills_down dimension above) s.grouping_sets (length s.dimensions)
-        s.aggregates facts drilled →
+        AreRowsWhere (drills_down dimension above) s.grouping_sets (number_of_dimensions s)
+        s.aggregates (all_counted s facts) drilled →
         drilled ≡ rows_below dimension above rows }
 {}
 
@@ -79,17 +79,17 @@ pub fn drilled_rows_are_the_rows_below()
 pub fn drilled_answers_add_up()
     ensures counts_of_facts { (s : Layout) (facts : List Fact) (rows drilled : List Row) (row : Row)
         (dimension place : ℕ) → IsRolledUp s facts rows row dimension →
-        AreRowsWhere (drills_down dimension row.key) s.grouping_sets (length s.dimensions)
-        s.aggregates facts drilled → slice_get s.aggregates place ≡ Some agg.CountAll →
+        AreRowsWhere (drills_down dimension row.key) s.grouping_sets (number_of_dimensions s)
+        s.aggregates (all_counted s facts) drilled → slice_get s.aggregates place ≡ Some agg.CountAll →
         count_at place row ≡ sum_by (count_at place) drilled }
     ensures counts_of_values { (s : Layout) (facts : List Fact) (rows drilled : List Row)
         (row : Row) (dimension place m : ℕ) → IsRolledUp s facts rows row dimension →
-        AreRowsWhere (drills_down dimension row.key) s.grouping_sets (length s.dimensions)
-        s.aggregates facts drilled → slice_get s.aggregates place ≡ Some (agg.Count m) →
+        AreRowsWhere (drills_down dimension row.key) s.grouping_sets (number_of_dimensions s)
+        s.aggregates (all_counted s facts) drilled → slice_get s.aggregates place ≡ Some (agg.Count m) →
         count_at place row ≡ sum_by (count_at place) drilled }
     ensures sums { (s : Layout) (facts : List Fact) (rows drilled : List Row) (row : Row)
         (dimension place m : ℕ) → IsRolledUp s facts rows row dimension →
-        AreRowsWhere (drills_down dimension row.key) s.grouping_sets (length s.dimensions)
-        s.aggregates facts drilled → slice_get s.aggregates place ≡ Some (agg.Sum m) →
+        AreRowsWhere (drills_down dimension row.key) s.grouping_sets (number_of_dimensions s)
+        s.aggregates (all_counted s facts) drilled → slice_get s.aggregates place ≡ Some (agg.Sum m) →
         IsSum (numbers_at place drilled) (answer_at place row) }
 {}

@@ -4,10 +4,11 @@ ghost use Rattle.std.specs.List.{range_with_len};
 ghost use Rattle.toml.specs.Data.{Members, string, get_member};
 ghost use Rattle.cube_core.specs.Cube.{AreRows, AreRowsOver};
 ghost use Rattle.cube_core.specs.GroupingSet.{all_sets};
-ghost use Rattle.cube_core.specs.Layout.{Layout, IsSchema, spelling_of, is_aggregate_of};
+ghost use Rattle.cube_core.specs.Layout.{Layout, IsSchema, counted_names, number_of_dimensions, spelling_of, is_aggregate_of};
 ghost use Rattle.cube_core.specs.PartialForm.{partial_form};
 ghost use Rattle.cube_core.specs.Shard.{whole_feed};
 ghost use Rattle.cube_core.specs.SchemaDocument.{schema_of, schema_of_parts, named_parts, aggregate_spelled};
+ghost use Rattle.cube_laws.specs.Cells.{all_counted};
 ghost use Rattle.cube_laws.specs.Written.{GivesNames, IsFirstFault, WritesSchema, are_told_apart, is_told_apart};
 ghost use Rattle.cube_core.specs.declared.aggregate.Agg.{Agg};
 ghost use Rattle.cube_core.specs.declared.fact.Fact.{Fact};
@@ -33,19 +34,20 @@ pub fn told_fault_is_the_first()
         IsFirstFault document fault → schema_of document ≡ Err fault }
 {}
 
-/// Each schema without columns by name and without decimals is written by some document (of TOML's values; the text of a file
+/// Each schema without columns by name, decimals and texts that are counted is written by some document (of TOML's values; the text of a file
 /// isn't spoken of; that each with them is written too isn't proved).
 pub fn each_schema_can_be_written()
-    ensures { (s : Layout) → IsSchema s → s.columns ≡ None → s.decimals ≡ [] → (document : Members) × WritesSchema document s }
+    ensures { (s : Layout) → IsSchema s → s.columns ≡ None → s.decimals ≡ [] → s.text_places ≡ [] →
+        (document : Members) × WritesSchema document s }
 {}
 
 /// In a schema the spelling of an aggregate is read as that aggregate, so that no two share a spelling, whatever
-/// the names of the measures: but that of a distinct count where a measure is named `distinct ` and the name of its own.
+/// the names of the measures and of the texts that are counted: but that of a distinct count where a measure is named `distinct ` and the name of its own.
 pub fn spelling_is_of_one_aggregate()
     ensures { (s : Layout) (agg : Agg) →
-        IsSchema s → is_aggregate_of (length s.measures) agg ≡ true →
-        is_told_apart s.measures agg ≡ true →
-        aggregate_spelled s.measures (spelling_of s.measures agg) ≡ Some agg }
+        IsSchema s → is_aggregate_of (length (counted_names s)) agg ≡ true →
+        is_told_apart (counted_names s) agg ≡ true →
+        aggregate_spelled (counted_names s) (spelling_of (counted_names s) agg) ≡ Some agg }
 {}
 
 /// A schema of a document without a grouping keeps all grouping sets, so that its rows are those of CUBE (Gray et al.
@@ -53,11 +55,11 @@ pub fn spelling_is_of_one_aggregate()
 pub fn no_grouping_is_cube()
     ensures sets { (document : Members) (s : Layout) →
         schema_of document ≡ Ok s → get_member (codes "grouping") document ≡ None →
-        s.grouping_sets ≡ all_sets (length s.dimensions) }
+        s.grouping_sets ≡ all_sets (number_of_dimensions s) }
     ensures rows { (document : Members) (s : Layout) (facts : List Fact) (rows : List Row) →
         schema_of document ≡ Ok s → get_member (codes "grouping") document ≡ None →
         AreRows s facts rows →
-        AreRowsOver (all_sets (length s.dimensions)) (length s.dimensions) s.aggregates facts rows }
+        AreRowsOver (all_sets (number_of_dimensions s)) (number_of_dimensions s) s.aggregates (all_counted s facts) rows }
 {}
 
 /// A schema of a document whose grouping is `rollup` keeps the sets of the first dimensions, from none of them to
@@ -67,7 +69,7 @@ pub fn rollup_keeps_first_dimensions()
     ensures { (document : Members) (s : Layout) → IsSchema s → schema_of document ≡ Ok s →
         get_member (codes "grouping") document ≡ Some (string (codes "rollup")) →
         s.grouping_sets
-        ≡ map (λ first. 2 ^ first - 1) (range_with_len 0 (length s.dimensions + 1)) }
+        ≡ map (λ first. 2 ^ first - 1) (range_with_len 0 (number_of_dimensions s + 1)) }
 {}
 
 /// A document that has arrays of names and of spellings, and no other key, is read as what `Schema::new` makes of these:

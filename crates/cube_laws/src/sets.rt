@@ -1,8 +1,9 @@
 //! Limits to grouping sets, and their parts (SQL:1999, grouping sets; the parts are this project's choice).
-ghost use Rattle.std.specs.Prelude.{◌≡◌, ℕ, ◌≤◌, IsTrue, List, length};
-ghost use Rattle.cube_core.specs.Layout.{Layout, IsSchema};
+ghost use Rattle.std.specs.Prelude.{◌≡◌, ℕ, ◌≤◌, IsTrue, List};
+ghost use Rattle.cube_core.specs.Layout.{Layout, number_of_dimensions, IsSchema};
 ghost use Rattle.cube_core.specs.Cube.{AreRows, AreRowsOver, is_cell};
 ghost use Rattle.cube_core.specs.GroupingSet.{AreAmong, all_sets, is_among, sets_of_part};
+ghost use Rattle.cube_laws.specs.Cells.{all_counted};
 ghost use Rattle.cube_laws.specs.Sets.{rows_in, IsTrueOfOne};
 ghost use Rattle.cube_core.specs.declared.fact.Fact.{Fact};
 ghost use Rattle.cube_core.specs.declared.key.Key.{Key};
@@ -13,7 +14,7 @@ ghost use Rattle.cube_core.specs.declared.key.Row.{Row};
 pub fn limited_rows_are_those_in_the_sets()
     ensures { (s : Layout) (facts : List Fact) (rows : List Row) (sets : List ℕ) →
         AreAmong sets s.grouping_sets → AreRows s facts rows →
-        AreRowsOver sets (length s.dimensions) s.aggregates facts (rows_in sets rows) }
+        AreRowsOver sets (number_of_dimensions s) s.aggregates (all_counted s facts) (rows_in sets rows) }
 {}
 
 /// Rows of a cube limited to some of its grouping sets are no others than its rows in those sets (SQL:1999: a cube is
@@ -21,7 +22,7 @@ pub fn limited_rows_are_those_in_the_sets()
 pub fn no_others_are_the_limited_rows()
     ensures { (s : Layout) (facts : List Fact) (rows limited : List Row) (sets : List ℕ) →
         AreAmong sets s.grouping_sets → AreRows s facts rows →
-        AreRowsOver sets (length s.dimensions) s.aggregates facts limited →
+        AreRowsOver sets (number_of_dimensions s) s.aggregates (all_counted s facts) limited →
         limited ≡ rows_in sets rows }
 {}
 
@@ -29,8 +30,8 @@ pub fn no_others_are_the_limited_rows()
 /// is the union of all grouping sets).
 pub fn rows_are_those_of_the_whole_cube()
     ensures { (s : Layout) (facts : List Fact) (rows whole : List Row) →
-        IsSchema s → AreRows s facts rows → AreRowsOver (all_sets (length s.dimensions))
-        (length s.dimensions) s.aggregates facts whole →
+        IsSchema s → AreRows s facts rows → AreRowsOver (all_sets (number_of_dimensions s))
+        (number_of_dimensions s) s.aggregates (all_counted s facts) whole →
         rows ≡ rows_in s.grouping_sets whole }
 {}
 

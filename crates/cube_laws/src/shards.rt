@@ -1,15 +1,16 @@
 //! Shards part a feed, and their printed cubes add up.
+//! What is said here of printed texts is of schemas in which no text is counted: a partial form is made of no others.
 ghost use Rattle.std.specs.Prelude.{◌≡◌, ◌≤◌, ℕ, List, Some, codes, filter, map};
 ghost use Rattle.std.specs.List.{AllZip};
 ghost use Rattle.cube_core.specs.FeedRecords.{items_of};
-ghost use Rattle.cube_core.specs.Layout.{IsSchema, Layout};
+ghost use Rattle.cube_core.specs.Layout.{Layout};
 ghost use Rattle.cube_core.specs.PartialForm.{partial_form};
 ghost use Rattle.cube_core.specs.Refusals.{refusals_of};
 ghost use Rattle.cube_core.specs.Shard.{fnv_hash, whole_feed};
 ghost use Rattle.cube_core.specs.Sources.{IsPrintedOf};
 ghost use Rattle.cube_core.specs.Surviving.{AreSurviving};
 ghost use Rattle.cube_merge.specs.Merging.{IsMergeOf};
-ghost use Rattle.cube_laws.specs.Merging.{IsMergedText, PutsPrintedOf, joined};
+ghost use Rattle.cube_laws.specs.Merging.{IsMergedText, PutsPrintedOf, IsSchemaWithoutTexts, joined};
 ghost use Rattle.cube_laws.specs.Shards.{has_record, of_shard, places};
 ghost use Rattle.cube_laws.specs.Told.{AreFewSources};
 ghost use Rattle.cube_core.specs.declared.fact.Fact.{Fact};
@@ -54,11 +55,11 @@ pub fn shards_part_survivors()
 /// under the partial form itself (this project's choice).
 pub fn shards_of_sources_add_up()
     ensures whole { (s : Layout) (count : ℕ) (sources texts : List (List ℕ)) (text : List ℕ) →
-        IsSchema s → s.shard ≡ whole_feed → 1 ≤ count → count ≤ 65536 → AreFewSources sources →
+        IsSchemaWithoutTexts s → s.shard ≡ whole_feed → 1 ≤ count → count ≤ 65536 → AreFewSources sources →
         AllZip (λ place part. IsPrintedOf (partial_form (of_shard count s place)) sources part) (places count) texts →
         IsMergedText (partial_form s) s texts text → IsPrintedOf s sources text }
     ensures partial { (s : Layout) (count : ℕ) (sources texts : List (List ℕ)) (text : List ℕ) →
-        IsSchema s → s.shard ≡ whole_feed → 1 ≤ count → count ≤ 65536 → AreFewSources sources →
+        IsSchemaWithoutTexts s → s.shard ≡ whole_feed → 1 ≤ count → count ≤ 65536 → AreFewSources sources →
         AllZip (λ place part. IsPrintedOf (partial_form (of_shard count s place)) sources part) (places count) texts →
         IsMergedText (partial_form s) (partial_form s) texts text → IsPrintedOf (partial_form s) sources text }
 {}
@@ -67,11 +68,11 @@ pub fn shards_of_sources_add_up()
 /// of the feeds, and so under the partial form itself (this project's choice).
 pub fn merge_writes_the_cube_of_all_shards()
     ensures whole { (s : Layout) (count : ℕ) (sources texts : List (List ℕ)) (old new : List ℕ) →
-        IsSchema s → s.shard ≡ whole_feed → 1 ≤ count → count ≤ 65536 → AreFewSources sources →
+        IsSchemaWithoutTexts s → s.shard ≡ whole_feed → 1 ≤ count → count ≤ 65536 → AreFewSources sources →
         AllZip (λ place part. IsPrintedOf (partial_form (of_shard count s place)) sources part) (places count) texts →
         IsMergeOf (partial_form s) s (map Some texts) (Some old) (Some new) → PutsPrintedOf s sources old new }
     ensures partial { (s : Layout) (count : ℕ) (sources texts : List (List ℕ)) (old new : List ℕ) →
-        IsSchema s → s.shard ≡ whole_feed → 1 ≤ count → count ≤ 65536 → AreFewSources sources →
+        IsSchemaWithoutTexts s → s.shard ≡ whole_feed → 1 ≤ count → count ≤ 65536 → AreFewSources sources →
         AllZip (λ place part. IsPrintedOf (partial_form (of_shard count s place)) sources part) (places count) texts →
         IsMergeOf (partial_form s) (partial_form s) (map Some texts) (Some old) (Some new) →
         PutsPrintedOf (partial_form s) sources old new }

@@ -3,7 +3,8 @@ ghost use Rattle.std.specs.Prelude.{◌≡◌, ◌↔◌, ◌^◌, ℕ, false, t
 ghost use Rattle.std.specs.List.{AllByRecursion};
 ghost use Rattle.cube_core.specs.Cube.{AreRows, key_of};
 ghost use Rattle.cube_core.specs.GroupingSet.{all_sets, is_among};
-ghost use Rattle.cube_core.specs.Layout.{Layout, keeps};
+ghost use Rattle.cube_core.specs.Layout.{Layout, number_of_dimensions, keeps};
+ghost use Rattle.cube_core.specs.TextPlaces.{counted};
 ghost use Rattle.cube_laws.specs.Single.{HasValuesOrAll, answer_of_fact, total_of_none};
 ghost use Rattle.cube_core.specs.declared.fact.Fact.{Fact};
 ghost use Rattle.cube_core.specs.declared.key.Key.{Key};
@@ -17,13 +18,13 @@ ghost use Rattle.cube_core.specs.declared.key.Row.{Row};
 pub fn cube_of_one_fact_shows_the_fact()
     ensures keys { (s : Layout) (fact : Fact) (rows : List Row) (key : Key) →
         length fact.dims ≡ length s.dimensions → AreRows s (fact ∷ []) rows →
-        Contains (map key_of rows) key ↔ (IsTrue (keeps s key) × HasValuesOrAll fact key) }
+        Contains (map key_of rows) key ↔ (IsTrue (keeps s key) × HasValuesOrAll (counted s fact) key) }
     ensures count { (s : Layout) (fact : Fact) (rows : List Row) →
-        length fact.dims ≡ length s.dimensions → s.grouping_sets ≡ all_sets (length s.dimensions) →
-        AreRows s (fact ∷ []) rows → length rows ≡ 2 ^ length s.dimensions }
+        length fact.dims ≡ length s.dimensions → s.grouping_sets ≡ all_sets (number_of_dimensions s) →
+        AreRows s (fact ∷ []) rows → length rows ≡ 2 ^ number_of_dimensions s }
     ensures answers { (s : Layout) (fact : Fact) (rows : List Row) →
         length fact.dims ≡ length s.dimensions → AreRows s (fact ∷ []) rows →
-        AllByRecursion (λ row. row.answers ≡ map (answer_of_fact fact) s.aggregates) rows }
+        AllByRecursion (λ row. row.answers ≡ map (answer_of_fact (counted s fact)) s.aggregates) rows }
 {}
 
 /// The cube of no fact has the grand total alone, where its set is kept, else no row: its counts are 0, it has no values,

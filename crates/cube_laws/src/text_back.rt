@@ -34,10 +34,11 @@ pub fn cube_reads_back()
 /// the schema keeps, and answers of the kinds of their aggregates, in their ranges, each mean and each variance in
 /// lowest terms, values ascending, no least value above the greatest, those of a measure null, or no values, together,
 /// where its count is 0, but for the variance of a sample, which may be null where the others aren't; and it counts a
-/// fact, if it isn't the grand total; where the facts fit and can be counted (this project's choice).
+/// fact, if it isn't the grand total; where the facts fit and can be counted, and no text is
+/// counted (this project's choice).
 pub fn rows_of_a_cube_are_of_its_schema()
     ensures { (s : Layout) (facts : List Fact) (rows : List Row) →
-        CanBePrinted s facts → AreRows s facts rows →
+        CanBePrinted s facts → s.text_places ≡ [] → AreRows s facts rows →
         AllByRecursion (IsLawfulRow s) rows }
 {}
 

@@ -44,7 +44,7 @@ pub fn parse_row(
     let Row { key, answers } = spare;
     let mut coords = key.coords.into_vec();
     let mut answers = answers.into_vec();
-    let width = schema.dimensions().len();
+    let width = schema.number_of_dimensions();
     let Some(flags) = parse_coords(alloc, text, width, &mut coords)? else {
         return Ok(None);
     };

@@ -37,8 +37,8 @@ pub fn push_line(
 pub fn push_header(alloc: Global, text: &mut Vec<u8>, schema: &Schema) -> Result<(), AllocError>
     ensures { OnOk result (text.new.items ≡ text.old.items ++ line (header_fields schema.now)) }
 {
-    push_texts(text, schema.dimensions())?;
-    push_grouping_names(alloc, text, schema.dimensions())?;
+    push_texts(text, schema.cube_dimensions())?;
+    push_grouping_names(alloc, text, schema.cube_dimensions())?;
     push_texts(text, schema.aggregate_texts())?;
     end_line(text)
 }

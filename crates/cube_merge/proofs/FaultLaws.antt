@@ -14,7 +14,7 @@ use Rattle.std.proofs.lemmas.List.{append-nil, length-map, map-append}
 use Rattle.std.proofs.lemmas.List.Elements.{Contains-append_left, Contains-append_right}
 use Rattle.std.proofs.lemmas.Option.{IfSome_then}
 use Rattle.cube_core.specs.Cube.{is_total, key_of}
-use Rattle.cube_core.specs.Layout.{Layout}
+use Rattle.cube_core.specs.Layout.{Layout, number_of_dimensions}
 use Rattle.cube_core.specs.Order.{key_cmp}
 use Rattle.cube_core.specs.Text.{header_fields, line, row_line, text_of_rows}
 use Rattle.cube_core.specs.declared.aggregate.Agg.{Agg}
@@ -92,18 +92,19 @@ module _ (s : Layout) (input : InputView) (rows : List Row) where
         }
 
   -- the last row isn't the grand total
-  ends-without : IfSome input.row (λ row. is_total (length s.dimensions) row.key ≡ false)
+  ends-without : IfSome input.row (λ row. is_total (number_of_dimensions s) row.key ≡ false)
       → (input.row ≡ None → rows ≡ [])
       → (before : List Row) (last : Row) → rows ++ option_to_list input.row ≡ before ++ last ∷ []
-      → is_total (length s.dimensions) last.key ≡ false
+      → is_total (number_of_dimensions s) last.key ≡ false
   ends-without other first before last is = by_row input.row refl other is where
-    by_row : (o : Option Row) → input.row ≡ o → IfSome o (λ (row : Row). is_total (length s.dimensions) row.key ≡ false)
-        → rows ++ option_to_list o ≡ before ++ last ∷ [] → is_total (length s.dimensions) last.key ≡ false
+    by_row : (o : Option Row) → input.row ≡ o
+        → IfSome o (λ (row : Row). is_total (number_of_dimensions s) row.key ≡ false)
+        → rows ++ option_to_list o ≡ before ++ last ∷ [] → is_total (number_of_dimensions s) last.key ≡ false
     by_row None e other is =
         let none : rows ++ [] ≡ before ++ last ∷ [] = is in
         absurd (omega (arith, ap length none, length-append before (last ∷ []), ap length (append-nil rows ∙ first e)))
     by_row (Some row) e other is =
-        ap (λ (r : Row). is_total (length s.dimensions) r.key) (sym (last-same rows before row last is)) ∙ other
+        ap (λ (r : Row). is_total (number_of_dimensions s) r.key) (sym (last-same rows before row last is)) ∙ other
 
   module _ (text start : Option (List ℕ)) (head : Consumes text start (line (header_fields s)))
       (gave : Gave s start input rows) (are : AreOfSchema s input rows) (sorted : AreInKeyOrder input rows) where

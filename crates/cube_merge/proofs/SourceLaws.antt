@@ -5,7 +5,7 @@ use Rattle.std.specs.Prelude.{All, nat_lt}
 use Rattle.std.proofs.lemmas.Bool.{and_from, and_parts, eq-eqb, or_left, or_right}
 use Rattle.std.proofs.lemmas.List.Elements.{All-get_or}
 use Rattle.std.proofs.lemmas.List.Sums.{AllPass-from_list_all}
-use Rattle.cube_core.specs.Layout.{IsSchema, Layout, is_aggregate_of, is_level}
+use Rattle.cube_core.specs.Layout.{IsSchema, Layout, counted_names, is_aggregate_of, is_level}
 use Rattle.cube_core.specs.PartialForm.{has_aggregate, is_aggregate}
 use Rattle.cube_core.specs.declared.aggregate.Agg.{Agg}
 use Rattle.cube_core.specs.declared.aggregate.Agg.TheVariants.{CountAll, Count, Sum, Min, Max, Avg}
@@ -125,7 +125,7 @@ HasLevel-of measures (Values m) is = tt
 
 pub HasLevel-all : (s : Layout) → IsSchema s → All HasLevel s.aggregates
 HasLevel-all s schema k d inside =
-    let of_measures : Agg → Bool = is_aggregate_of (length s.measures) in
-    HasLevel-of (length s.measures) (get_or s.aggregates k d)
+    let of_measures : Agg → Bool = is_aggregate_of (length (counted_names s)) in
+    HasLevel-of (length (counted_names s)) (get_or s.aggregates k d)
     (All-get_or (λ (agg : Agg). of_measures agg ≡ true) s.aggregates k d inside
     (AllPass-from_list_all of_measures s.aggregates schema.aggregates_are_of_measures))

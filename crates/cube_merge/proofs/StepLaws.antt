@@ -17,7 +17,7 @@ use Rattle.std.proofs.lemmas.List.Sorted.{IsPermutation-refl, IsPermutation-tran
 use Rattle.std.proofs.lemmas.List.Sorted.{IsPermutation-append_right, IsPermutation-append_comm}
 use Rattle.cube_core.specs.Cube.{is_total, key_of}
 use Rattle.cube_core.specs.GroupingSet.{is_all_coord}
-use Rattle.cube_core.specs.Layout.{Layout}
+use Rattle.cube_core.specs.Layout.{Layout, number_of_dimensions}
 use Rattle.cube_core.specs.Merged.{AreMerged, IsMerged}
 use Rattle.cube_core.specs.Order.{key_cmp}
 use Rattle.cube_core.specs.Text.{row_line}
@@ -292,7 +292,7 @@ AreWhole-end s rows (Some row) are may kept = (
   rows,
   row,
   refl,
-  is_total-all (length s.dimensions) row (AllByRecursion-Contains (IsRightRow s) (rows ++ row ∷ []) row are
+  is_total-all (number_of_dimensions s) row (AllByRecursion-Contains (IsRightRow s) (rows ++ row ∷ []) row are
       (Contains-append_right rows (row ∷ []) row (Contains-head row []))).lawful.coords (may kept),
 )
 

@@ -6,7 +6,7 @@ use Rattle.std.specs.List.{AllByRecursion}
 use Rattle.std.specs.List.Sorted.{IsStrictlySortedBy}
 use Rattle.std.specs.Io.KnownBytes.{Appends, Consumes, IsAtEnd}
 use Rattle.cube_core.specs.Cube.{is_total, key_of}
-use Rattle.cube_core.specs.Layout.{Layout}
+use Rattle.cube_core.specs.Layout.{Layout, number_of_dimensions}
 use Rattle.cube_core.specs.Merged.{rows_at}
 use Rattle.cube_core.specs.Order.{key_cmp}
 use Rattle.cube_core.specs.Text.{header_fields, line, row_line, text_of_rows}
@@ -50,7 +50,7 @@ pub record HasRowBelow (s : Layout) (input : InputView) : Type 0 where
 pub record LacksTotal (s : Layout) (input : InputView) : Type 0 where
   pub at_end : IsAtEnd input.left
   pub kept : Contains s.grouping_sets 0
-  pub last : IfSome input.row (λ row. is_total (length s.dimensions) row.key ≡ false)
+  pub last : IfSome input.row (λ row. is_total (number_of_dimensions s) row.key ≡ false)
 
 -- an input has something left
 abbrev pub HasMore : InputView → Type 0
@@ -202,7 +202,7 @@ pub record HasRowAt (s : Layout) (number : ℕ) (text : List ℕ) : Type 0 where
 -- the last of rows isn't the grand total
 abbrev pub EndsWithoutTotal : Layout → List Row → Type 0
 EndsWithoutTotal s rows =
-    (before : List Row) (last : Row) → rows ≡ before ++ last ∷ [] → is_total (length s.dimensions) last.key ≡ false
+    (before : List Row) (last : Row) → rows ≡ before ++ last ∷ [] → is_total (number_of_dimensions s) last.key ≡ false
 
 -- nothing follows the lines of rows, of which the last isn't the grand total, which the schema keeps
 pub record IsIncomplete (s : Layout) (number : ℕ) (text : List ℕ) : Type 0 where

@@ -8,7 +8,7 @@ use Rattle.std.specs.Str.{bytes_eq}
 use Rattle.cube_core.specs.Answer.{AreHeld, IsAnswer, values_held}
 use Rattle.cube_core.specs.Group.{values_of}
 use Rattle.cube_core.specs.GroupingSet.{is_all_coord}
-use Rattle.cube_core.specs.Layout.{Layout, keeps}
+use Rattle.cube_core.specs.Layout.{Layout, keeps, number_of_dimensions}
 use Rattle.cube_core.specs.Merged.{IsMeanOf, IsVarianceOf, count_answered}
 use Rattle.cube_core.specs.Takes.{null_text}
 use Rattle.cube_core.specs.declared.aggregate.Agg.{Agg}
@@ -213,13 +213,13 @@ IsNoneAmong aggregates answers agg a =
 abbrev pub AreNoneTogether : List Agg → List Answer → Type 0
 AreNoneTogether aggregates answers = AllZip (IsNoneAmong aggregates answers) aggregates answers
 
--- a cube of a schema may have this row, as far as said here: it has a coordinate for each dimension,
+-- a cube of a schema may have this row, as far as said here: it has a coordinate for each dimension of the cube,
 -- none of them the text that stands for null, the schema keeps its grouping set, it has an answer of its kind
 -- to each aggregate, it counts a fact, if it isn't the grand total, no least value is above the greatest one,
 -- and the answers of a measure are null together, where its count is 0, but for the variance of a sample,
 -- which may be null where the others aren't
 pub record IsLawfulRow (s : Layout) (row : Row) : Type 0 where
-  pub coords : length row.key.coords ≡ length s.dimensions
+  pub coords : length row.key.coords ≡ number_of_dimensions s
   pub told : IsTrue (has_no_null_text row.key)
   pub kept : IsTrue (keeps s row.key)
   pub answers : AllZip IsOfKind s.aggregates row.answers

@@ -5,7 +5,7 @@ use Rattle.std.specs.List.{flat_map, list_all, AllByRecursion, AllZip}
 use Rattle.std.specs.List.Sorted.{IsStrictlySortedBy}
 use Rattle.std.specs.declared.cmp.Ordering.TheVariants.{Less}
 use Rattle.std.specs.Io.KnownBytes.{Appends, Consumes, IsAtEnd}
-use Rattle.cube_core.specs.Layout.{Layout}
+use Rattle.cube_core.specs.Layout.{Layout, number_of_dimensions}
 use Rattle.cube_core.specs.Cube.{is_total, key_of}
 use Rattle.cube_core.specs.GroupingSet.{is_all_coord}
 use Rattle.cube_core.specs.Merged.{AreMerged, IsMerged, rows_at}
@@ -128,7 +128,7 @@ IsEnded start input = input.row ≡ None → IfSome start (λ _. IsAtEnd input.l
 abbrev pub EndsWithTotal : Layout → List Row → Type 0
 EndsWithTotal s rows =
     (before : List Row) × (last : Row) × (rows ≡ before ++ last ∷ [])
-    × (is_total (length s.dimensions) last.key ≡ true)
+    × (is_total (number_of_dimensions s) last.key ≡ true)
 
 -- rows are a whole cube's, as far as their last tells: it is the grand total, where the schema keeps that
 abbrev pub AreWhole : Layout → List Row → Type 0

@@ -2,6 +2,7 @@
 ghost use Rattle.std.specs.Prelude.{◌≡◌, length, true};
 ghost use Rattle.std.specs.List.{AllZip, list_all};
 ghost use Rattle.cube_core.specs.GroupingSet.{is_all_coord};
+ghost use Rattle.cube_core.specs.Layout.{number_of_dimensions};
 ghost use Rattle.cube_merge.specs.Lawful.{AreInOrder, AreNoneTogether, CountsFacts, IsAtLeast, IsInOrder, IsLawfulRow, IsNoneAmong, IsOfKind, IsRightRow};
 ghost use Rattle.cube_merge.specs.Lawful.{IsWithin, TellsNone, has_no_null_text, is_no_null_text, measure_of, tells_no_value, tells_none};
 
@@ -30,11 +31,11 @@ fn is_lawful(schema: &Schema, row: &Row) -> bool
 }
 
 fn is_row_of(schema: &Schema, row: &Row) -> bool
-    ensures coords { result ≡ true → length row.now.key.coords ≡ length schema.now.dimensions }
+    ensures coords { result ≡ true → length row.now.key.coords ≡ number_of_dimensions schema.now }
     ensures told { result ≡ true → has_no_null_text row.now.key ≡ true }
     ensures answers { result ≡ true → AllZip IsOfKind schema.now.aggregates row.now.answers }
 {
-    row.key.coords.len() == schema.dimensions().len()
+    row.key.coords.len() == schema.number_of_dimensions()
         && has_no_null_text(&row.key)
         && are_of_kind(schema.aggregates(), row.answers.as_slice())
 }

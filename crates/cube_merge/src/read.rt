@@ -32,7 +32,7 @@ pub(crate) fn read_row(
     ensures key { IfOk result (λ found. IfSome found (λ read.
         take read.1 line.new.items ≡ key_parts read.0.key)) }
 {
-    let _ = schema.dimensions();
+    let _ = schema.number_of_dimensions();
     if !end_by_comma(line)? {
         return Ok(None);
     }

@@ -20,7 +20,7 @@ pub fn advice_on(table: &[Advice], code: &str) -> &'static [&'static str] {
 }
 
 /// Schemas: what was wanted at each code.
-pub const SCHEMA_ADVICE: [Advice; 13] = [
+pub const SCHEMA_ADVICE: [Advice; 14] = [
     Advice {
         code: "S1",
         lines: &["There wasn't enough memory for the schema."],
@@ -35,7 +35,7 @@ pub const SCHEMA_ADVICE: [Advice; 13] = [
     Advice {
         code: "S3",
         lines: &[
-            "wanted: no key but dimensions, measures, aggregates, max_records, grouping, version, feed, decimals",
+            "wanted: no key but dimensions, measures, aggregates, max_records, grouping, version, feed, decimals, texts",
             "Take the other key out, or spell it so. The keys of [feed] stand under it.",
         ],
     },
@@ -64,7 +64,7 @@ pub const SCHEMA_ADVICE: [Advice; 13] = [
             "wanted: 1 to 16 aggregates, as aggregates = [\"count(*)\", \"sum(cents)\"]",
             "Each is count(*), or count, sum, min, max, avg, sum_of_squares, var_pop, var_samp or values of a measure, without",
             "spaces and in small letters, or as count(distinct cents) or percentile_disc(0.5,cents), of a level from 0 to 1 with",
-            "up to 4 digits behind the point.",
+            "up to 4 digits behind the point. Of a measure that is a text there are count and count(distinct ..) alone.",
         ],
     },
     Advice {
@@ -93,6 +93,13 @@ pub const SCHEMA_ADVICE: [Advice; 13] = [
         code: "S12",
         lines: &[
             "wanted under [decimals]: measures of the schema, each with a whole number from 0 to 18, as price = 2",
+        ],
+    },
+    Advice {
+        code: "S13",
+        lines: &[
+            "wanted: the measures that are texts, each once and none under [decimals], as texts = [\"customer\"]",
+            "Cubes that are to be merged have no texts: neither `datacube print --partial` nor `datacube merge` takes them.",
         ],
     },
     Advice {

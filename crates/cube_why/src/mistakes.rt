@@ -96,7 +96,7 @@ pub fn put_word(
     report: &mut Report,
 ) -> Result<(), AllocError> {
     let value = quoted(alloc, word.as_bytes())?;
-    let dimensions = names_of(alloc, schema.dimensions())?;
+    let dimensions = names_of(alloc, schema.cube_dimensions())?;
     report.line(&[
         name.as_bytes(),
         b" is ",

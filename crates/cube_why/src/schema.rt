@@ -1,8 +1,8 @@
 //! A schema that is refused: the line on which the key at fault stands, and what is wrong with it.
 use crate::report::{Report, decimal, shown};
 use crate::schema_keys::{
-    aggregate_words, array_words, grouping_words, is_between, is_listed, is_wrong_in_feed,
-    name_words, texts_at, with_value,
+    aggregate_words, array_words, counted_words, grouping_words, is_between, is_listed,
+    is_wrong_in_feed, name_words, texts_at, with_value,
 };
 use crate::statements::{Statement, statements_of};
 use std::alloc::{AllocError, Global};
@@ -11,7 +11,7 @@ use toml::de::Error;
 use toml::{Table, Value};
 
 /// The keys of a schema.
-const KEYS: [&str; 8] = [
+const KEYS: [&str; 9] = [
     "dimensions",
     "measures",
     "aggregates",
@@ -20,6 +20,7 @@ const KEYS: [&str; 8] = [
     "version",
     "feed",
     "decimals",
+    "texts",
 ];
 
 /// What is wrong with a schema: the key at fault, its line where one is known, and words where more is to be said.
@@ -117,6 +118,7 @@ fn fault_of<'t>(
         "S8" => ("max_records", none),
         "S9" => ("grouping", grouping_words(alloc, document)?),
         "S10" => ("version", none),
+        "S13" => ("texts", counted_words(alloc, document)?),
         _ => return fault_in_table(alloc, document, statements, code),
     };
     Ok(Fault {

@@ -17,6 +17,9 @@ const AGGREGATES: [&str; 10] = [
     "values(",
 ];
 
+/// Those of them that may be of a text too.
+const COUNTS: [&str; 2] = ["count(", "count(distinct "];
+
 /// The names that no dimension and no measure has.
 const TAKEN: [&str; 3] = ["op", "id", "*"];
 
@@ -118,16 +121,67 @@ pub(crate) fn with_value(alloc: Global, value: &str, said: &[u8]) -> Result<Vec<
     Ok(words)
 }
 
+/// What is wrong with the measures that are said to be texts, where it is more than can be seen: nothing, or in words. The only
+/// error is that memory ran out.
+pub(crate) fn counted_words(alloc: Global, document: &Table) -> Result<Vec<u8>, AllocError> {
+    let measures = texts_at(alloc, document, "measures")?;
+    let names = texts_at(alloc, document, "texts")?;
+    let mut count = 0usize;
+    for name in &names {
+        if !is_listed(&measures, name) {
+            return with_value(alloc, name, b" is no measure");
+        }
+        if stands_before(&names, count, name) {
+            return with_value(alloc, name, b" stands twice");
+        }
+        if has_digits(document, name) {
+            return with_value(alloc, name, b" stands under [decimals] too");
+        }
+        count = count.saturating_add(1);
+    }
+    array_words(alloc, document, "texts", 4)
+}
+
+// Whether the table of decimals has a measure.
+fn has_digits(document: &Table, name: &str) -> bool {
+    match document.get("decimals") {
+        Some(Value::Table(decimals)) => decimals.get(name).is_some(),
+        _ => false,
+    }
+}
+
+// The measures that are texts, where what is said of them is right; else none.
+fn counted_at(alloc: Global, document: &Table) -> Result<Vec<&str>, AllocError> {
+    if counted_words(alloc, document)?.is_empty() {
+        texts_at(alloc, document, "texts")
+    } else {
+        Ok(Vec::new(alloc))
+    }
+}
+
 /// What is wrong with the aggregates, where it is more than can be seen. The only error is that memory ran out.
 pub(crate) fn aggregate_words(alloc: Global, document: &Table) -> Result<Vec<u8>, AllocError> {
     let measures = texts_at(alloc, document, "measures")?;
+    let counted = counted_at(alloc, document)?;
     let texts = texts_at(alloc, document, "aggregates")?;
     for text in &texts {
         if !is_aggregate(text, &measures) {
             return no_aggregate(alloc, text, &measures);
         }
+        if !suits(text, &counted) {
+            return with_value(alloc, text, b" is no aggregate of a text");
+        }
     }
     array_words(alloc, document, "aggregates", 16)
+}
+
+// Whether an aggregate isn't of one of these measures, which are texts, or is a count.
+fn suits(text: &str, counted: &[&str]) -> bool {
+    !is_aggregate(text, counted)
+        || text == "count(*)"
+        || COUNTS
+            .iter()
+            .any(|opening| is_of_measure(text, opening, counted))
 }
 
 // What is said of a text that is no aggregate of measures; of the median, the variance or the standard deviation of one also

@@ -14,7 +14,8 @@ pub(crate) enum Role {
     Measure,
 }
 
-/// A column that a schema reads: what it is called in a feed, and what it is to the schema.
+/// A column that a schema reads: what it is called in a feed, and what it is to the schema. A text that is counted is read as a
+/// dimension is.
 #[derive(Clone, Copy, Debug)]
 pub(crate) struct Used<'s> {
     pub(crate) name: &'s str,
@@ -38,8 +39,38 @@ pub(crate) fn used_columns(alloc: Global, schema: &Schema) -> Result<Vec<Used<'_
 fn put_in_order<'s>(all: &mut Vec<Used<'s>>, schema: &'s Schema) -> Result<(), AllocError> {
     put(all, "op", Role::Op, 0)?;
     put(all, "id", Role::Id, 0)?;
-    put_texts(all, schema.dimensions(), Role::Dimension)?;
-    put_texts(all, schema.measures(), Role::Measure)
+    put_texts(all, schema.cube_dimensions(), Role::Dimension)?;
+    put_counted(all, schema)
+}
+
+// Adds the columns of what is counted: the texts at their places, and the measures that are numbers at the others.
+fn put_counted<'s>(all: &mut Vec<Used<'s>>, schema: &'s Schema) -> Result<(), AllocError> {
+    let places = schema.text_places();
+    let mut text = schema.number_of_dimensions();
+    let mut number = 0usize;
+    for place in 0..schema.measures().len().saturating_add(places.len()) {
+        if places.contains(&place) {
+            put_at(all, schema.dimensions(), Role::Dimension, text)?;
+            text = text.saturating_add(1);
+        } else {
+            put_at(all, schema.measures(), Role::Measure, number)?;
+            number = number.saturating_add(1);
+        }
+    }
+    Ok(())
+}
+
+// Adds the column of the name at a place, if there is one.
+fn put_at<'s>(
+    all: &mut Vec<Used<'s>>,
+    names: &'s [Text],
+    role: Role,
+    place: usize,
+) -> Result<(), AllocError> {
+    match names.get(place) {
+        Some(name) => put(all, name.as_str(), role, place),
+        None => Ok(()),
+    }
 }
 
 // Adds the columns that are named.

@@ -13,9 +13,9 @@ from ._schema import Schema
 
 Keep = Literal[Mark.KEEP]
 Texts = Named[Union[str, None, Keep]]
-# (a measure with decimals takes whole numbers and decimal ones, any other whole numbers alone)
-Measure = Union[int, Decimal, None]
-Numbers = Named[Union[int, Decimal, None, Keep]]
+# (a measure with decimals takes whole numbers and decimal ones, one that is a text takes texts, any other whole numbers alone)
+Measure = Union[int, Decimal, str, None]
+Numbers = Named[Union[int, Decimal, str, None, Keep]]
 SOURCES = 64
 
 
@@ -40,17 +40,18 @@ def change_record(schema: Schema, source: int, op: str, id: str, dims: Texts = (
 
 def texts_of(schema: Schema, values: Sequence[Union[str, None, Keep]], can_keep: bool) -> List[str]:
     """The fields of the dimensions, in their order."""
-    return [dimension_text(schema, name, it, can_keep) for name, it in zip(schema.dimensions, values)]
+    return [text_field(schema, f"dimension {name}", it, can_keep) for name, it in zip(schema.dimensions, values)]
 
 
-def dimension_text(schema: Schema, name: str, value: Union[str, None, Keep], can_keep: bool) -> str:
+def text_field(schema: Schema, what: str, value: object, can_keep: bool) -> str:
+    """The field of a dimension, or of a measure that is a text."""
     if value is None or isinstance(value, Mark):
-        return mark(f"dimension {name}", value, can_keep)
-    text = text_of(value, f"dimension {name}")
+        return mark(what, value, can_keep)
+    text = text_of(value, what)
     if text == "\\=" and schema.version == 2:
-        raise Unsayable(f"dimension {name}: a feed can't say the text {text}, which means KEEP")
+        raise Unsayable(f"{what}: a feed can't say the text {text}, which means KEEP")
     if text in schema.nulls():
-        raise Unsayable(f"dimension {name}: a feed can't say the text {text}, which means null")
+        raise Unsayable(f"{what}: a feed can't say the text {text}, which means null")
     return text
 
 
@@ -60,6 +61,8 @@ def numbers_of(schema: Schema, values: Sequence[Union[Measure, Keep]], can_keep:
 
 
 def measure_field(schema: Schema, name: str, value: Union[Measure, Keep], can_keep: bool) -> str:
+    if name in schema.texts:
+        return text_field(schema, f"measure {name}", value, can_keep)
     text = number(name, value, can_keep, schema.decimals.get(name, 0))
     if not isinstance(value, (Mark, type(None))) and text in schema.nulls():
         raise Unsayable(f"measure {name}: a feed of this schema can't say the number {text}, which means null")
@@ -81,4 +84,6 @@ def number(name: str, value: Union[Measure, Keep], can_keep: bool, places: int =
     """The field of a measure with so many decimals."""
     if value is None or isinstance(value, Mark):
         return mark(f"measure {name}", value, can_keep)
+    if isinstance(value, str):
+        raise TypeError(f"measure {name}: {value!r} is {'neither whole nor a Decimal' if places else 'no whole number'}")
     return measure_text(name, value, places)

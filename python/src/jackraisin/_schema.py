@@ -14,15 +14,15 @@ from ._program import Path, run, words_of
 from ._records import NULL
 
 Grouping = Union[str, Sequence[Sequence[str]]]
-NAMES = "dimensions", "measures", "aggregates", "grouping", "version", "max_records", "feed", "decimals"
+NAMES = "dimensions", "measures", "aggregates", "grouping", "version", "max_records", "feed", "decimals", "texts"
 
 
 @dataclass(frozen=True, init=False)
 class Schema:
     """The names of dimensions and measures, the aggregates as `sum(amount)` or `percentile_disc(0.5,amount)`, and as the schema
     file has them the kept grouping sets, the version of feeds, the most records of a feed, the table `feed`, by which feeds are
-    read by the names of their columns, and the table `decimals`, which says how many decimals a measure has. The program checks
-    it where it is used, or `check`."""
+    read by the names of their columns, the table `decimals`, which says how many decimals a measure has, and those measures that
+    are texts, which are counted. The program checks it where it is used, or `check`."""
 
     dimensions: Tuple[str, ...]
     measures: Tuple[str, ...]
@@ -32,6 +32,7 @@ class Schema:
     max_records: Optional[int]
     feed: Optional[Mapping[str, Any]] = field(hash=False)
     decimals: Mapping[str, int] = field(hash=False)
+    texts: Tuple[str, ...]
     # (the text of the file that it was read from, which a store notes)
     _text: Optional[str] = field(compare=False, repr=False, default=None)
 
@@ -46,10 +47,11 @@ class Schema:
         max_records: Optional[int] = None,
         feed: Optional[Mapping[str, Any]] = None,
         decimals: Mapping[str, int] = {},
+        texts: Sequence[str] = (),
     ) -> None:
         sets = grouping if isinstance(grouping, str) else tuple(tuple(it) for it in grouping)
-        values = (tuple(dimensions), tuple(measures), tuple(aggregates), sets, version, max_records, copied(feed), copied(decimals))
-        for name, value in zip(NAMES, values):
+        names = tuple(dimensions), tuple(measures), tuple(aggregates)
+        for name, value in zip(NAMES, (*names, sets, version, max_records, copied(feed), copied(decimals), tuple(texts))):
             object.__setattr__(self, name, value)
 
     def nulls(self) -> List[str]:
@@ -83,6 +85,8 @@ class Schema:
             lines.append(f"feed = {quoted(self.feed)}")
         if self.decimals:
             lines.append(f"decimals = {quoted(self.decimals)}")
+        if self.texts:
+            lines.append(f"texts = {quoted(self.texts)}")
         return "\n".join(lines) + "\n"
 
     def remarked(self, remark: str) -> "Schema":

@@ -20,6 +20,7 @@ use Rattle.cube_cells.specs.Cube.{Cells, HoldsFact, AddsFact, TakesFact, SameCel
 use Rattle.cube_cells.specs.Tally.{Tally}
 use Rattle.cube_cells.specs.Walk.{key_in, codes_in, is_in, AddsIn, TakesIn, SameCoded}
 use Rattle.cube_cells.specs.declared.cube.codes.Codes.{Codes}
+use Rattle.cube_cells.proofs.Cells.SchemaLaws.{few_dimensions, its_schema}
 use Rattle.cube_cells.proofs.Codes.GrowthLaws.{AreGrown, IsCodedCell-AreGrown, AreGrown-length, All-is_among}
 use Rattle.cube_cells.proofs.Codes.KeyLaws.{HasCodes, HasFactCodes, covering_key, HasCodes-covering_key}
 use Rattle.cube_cells.proofs.Codes.KeyLaws.{HasCodes-is_kept_for}
@@ -48,7 +49,7 @@ IsCodedFact-IsCoded schema sets facts old new cells fact codes is fit lengths al
   all = all;
   has = has;
   width = fits-length schema fact fit ∙ sym is.lattice.dictionaries ∙ sym lengths;
-  room = omega (arith, is.lattice.dictionaries, is.lattice.schema.dimensions_at_most, lengths);
+  room = omega (arith, is.lattice.dictionaries, few_dimensions (its_schema is.lattice), lengths);
   below = λ set among. subst (λ (n : ℕ). set < 2 ^ n) (sym (fits-length schema fact fit))
       (All-is_among (λ s. s < 2 ^ length schema.dimensions) sets set is.lattice.sets among);
 }
@@ -128,7 +129,7 @@ pub IsCoded-width : (schema : Layout) (sets : List ℕ) (facts : ℕ) (dictionar
 IsCoded-width schema sets facts dictionaries cells is key = elim (cases_eq (length key.coords) (length dictionaries)) [
   | inl same ↦
       let found = key-HasCodes dictionaries key is.texts same
-      (omega (arith, is.lattice.dictionaries, is.lattice.schema.dimensions_at_most)) in
+      (omega (arith, is.lattice.dictionaries, few_dimensions (its_schema is.lattice))) in
       rw (look_up-coded dictionaries (length schema.measures) cells key found.0 found.1 is.each)
       (coded_at-width dictionaries (length schema.measures) cells found.0 is.each)
   | inr other ↦ rw (no_cell-width dictionaries cells key other) tt
@@ -253,7 +254,7 @@ SameCells-SameCoded schema sets facts old new cells others keys is grown all sam
               arith,
               AreGrown-length old new grown,
               is.lattice.dictionaries,
-              is.lattice.schema.dimensions_at_most,
+              few_dimensions (its_schema is.lattice),
             )) in
             let before = ap (λ (cs : Cells). cell_at cs key) (sym grown_cells.1)
             ∙ look_up-coded new (length schema.measures) cells key found.0 found.1 grown_cells.0 in

@@ -1,22 +1,23 @@
 -- Laws of the cube: cells that are the cube of facts stay so under a fact more, a fact less, and a refusal.
-use Rattle.std.proofs.Common.{◌≡◌, ℕ, suc, ◌<◌, ◌==◌, List, [], ◌∷◌, Bool, true, false, ◌&&◌, ◌||◌, refl, sym, ap, ◌∙◌}
+use Rattle.std.proofs.Common.{◌≡◌, ℕ, suc, ◌<◌, List, [], ◌∷◌, Bool, true, false, ◌&&◌, ◌||◌, refl, sym, ap, ◌∙◌}
 use Rattle.std.proofs.Common.{arith, inl, inr, length, Option, Some, None, if◌then◌else◌, nat_lt}
 use Rattle.std.specs.Prelude.{IfSome, is_some}
-use Rattle.std.specs.List.{list_any, list_all}
+use Rattle.std.specs.List.{list_any}
 use Rattle.std.specs.List.Sorted.{IsPermutation}
 use Rattle.std.proofs.lemmas.Bool.{cases_Bool, cases_lt, or_left, or_right, or_parts, and_parts, and_from, both_ways}
-use Rattle.std.proofs.lemmas.Bool.{lt-ltb, eqb-true}
+use Rattle.std.proofs.lemmas.Bool.{lt-ltb}
 use Rattle.std.proofs.lemmas.List.{length-replicate, get_or-replicate, get_or_past}
 use Rattle.std.proofs.lemmas.List.Sorted.{list_any-IsPermutation}
 use Rattle.cube_core.specs.Covers.{covers}
 use Rattle.cube_core.specs.Cube.{is_cell, is_total}
 use Rattle.cube_core.specs.Group.{group_of}
 use Rattle.cube_core.specs.GroupingSet.{mask_of, is_among}
-use Rattle.cube_core.specs.Takes.{fits, is_dimension_value}
+use Rattle.cube_core.specs.Takes.{fits}
 use Rattle.cube_core.specs.Layout.{Layout}
 use Rattle.cube_core.specs.declared.fact.Fact.{Fact}
 use Rattle.cube_core.specs.declared.key.Key.{Key}
 use Rattle.cube_core.proofs.ListLaws.{filter-passed, filter-failed}
+use Rattle.cube_core.proofs.TextRowLaws.{fits-measures}
 use Rattle.cube_values.specs.Bag.{Bag, SameHeld}
 use Rattle.cube_cells.specs.Cube.{Lattice, IsCubeOf, HoldsFact, AddsFact, TakesFact, SameCell, SameCells, SameSets}
 use Rattle.cube_cells.specs.Cube.{cell_at, cell_holds, is_kept_for, empty_tally, tally_or_empty}
@@ -60,14 +61,6 @@ IsTallyOf-empty_tally n = record {
 }
 
 -- ---- measures and bags
--- the measures of a fact that fits are as many as the schema's
-pub fits-measures : (s : Layout) (fact : Fact) → fits s fact ≡ true → length fact.measures ≡ length s.measures
-fits-measures s fact fit =
-    let parts = and_parts ((length fact.dims == length s.dimensions) && (length fact.measures == length s.measures))
-    (list_all is_dimension_value fact.dims) fit in
-    eqb-true (length fact.measures) (length s.measures)
-    (and_parts (length fact.dims == length s.dimensions) (length fact.measures == length s.measures) parts.0).1
-
 -- where there is a cell it has a bag for each measure
 abbrev pub HasWidth : Layout → Option Tally → Type 0
 HasWidth s cell = IfSome cell (λ t. length t.bags ≡ length s.measures)

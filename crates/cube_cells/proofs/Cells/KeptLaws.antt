@@ -289,6 +289,7 @@ IsLattice-AreGrown : (schema : Layout) (sets : List ℕ) (facts more : ℕ) (old
     → IsLattice (lattice_of schema sets more new others)
 IsLattice-AreGrown schema sets facts more old new cells others grown is = record {
   schema = is.schema;
+  no_texts = is.no_texts;
   sets = is.sets;
   ascending = is.ascending;
   dictionaries = AreGrown-length old new grown ∙ is.dictionaries;
@@ -318,6 +319,7 @@ pub IsCoded-TakesIn : (schema : Layout) (sets : List ℕ) (facts less : ℕ) (di
 IsCoded-TakesIn schema sets facts less dictionaries cells left fact codes is fewer of valid apart takes = record {
   lattice = record {
     schema = is.lattice.schema;
+    no_texts = is.lattice.no_texts;
     sets = is.lattice.sets;
     ascending = is.lattice.ascending;
     dictionaries = is.lattice.dictionaries;

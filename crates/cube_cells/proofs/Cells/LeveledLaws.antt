@@ -6,7 +6,7 @@ use Rattle.std.specs.List.{AllZip, list_all}
 use Rattle.std.specs.List.Sorted.{IsStrictlySortedBy}
 use Rattle.std.proofs.lemmas.List.{append-nil}
 use Rattle.std.proofs.lemmas.List.Elements.{All-nil}
-use Rattle.cube_core.specs.Layout.{IsSchema, Layout}
+use Rattle.cube_core.specs.Layout.{Layout}
 use Rattle.cube_core.specs.Takes.{fits}
 use Rattle.cube_core.specs.declared.fact.Fact.{Fact}
 use Rattle.cube_core.proofs.CellKeyLaws.{fits-length}
@@ -21,6 +21,7 @@ use Rattle.cube_cells.specs.declared.cube.codes.Codes.{Codes}
 use Rattle.cube_cells.specs.declared.cube.levels.Level.{Level}
 use Rattle.cube_cells.proofs.Codes.GrowthLaws.{AreGrown}
 use Rattle.cube_cells.proofs.Codes.KeyLaws.{HasFactCodes}
+use Rattle.cube_cells.proofs.Cells.SchemaLaws.{IsCubeSchema}
 use Rattle.cube_cells.proofs.Cells.StepLaws.{HasNewCodes, codes_in-HasRoom, codes_in-cell_holds, IsCoded-AddsFact}
 use Rattle.cube_cells.proofs.Cells.StepLaws.{IsCoded-SameCells, IsCoded-SameCells_from_AreGrown, IsCoded-TakesFact}
 use Rattle.cube_cells.proofs.Cells.TableLaws.{AddsIn-AddsInLevel, All-key_of_level, HasKeysIn, SameCoded-SameInLevel}
@@ -150,13 +151,14 @@ sole_level {N} levels first set is one there =
 -- ---- no level
 -- a cube over no grouping set, of no fact
 pub IsLeveled-none : {N : Type 0} (schema : Layout) (sets : List ℕ) (dictionaries : Dictionaries)
-    (levels : List (Level N)) → IsSchema schema → length dictionaries ≡ length schema.dimensions
+    (levels : List (Level N)) → IsCubeSchema schema → length dictionaries ≡ length schema.dimensions
     → All IsDictionary dictionaries → sets ≡ [] → levels ≡ [] → IsLeveled schema sets 0 dictionaries levels
 unfolding IsStrictlySortedBy
 IsLeveled-none {N} schema sets dictionaries levels is long texts none empty = rw (none, empty) (record {
   coded = record {
     lattice = record {
-      schema = is;
+      schema = is.is;
+      no_texts = is.no_texts;
       sets = All-nil (λ set. set < 2 ^ length schema.dimensions);
       ascending = tt;
       dictionaries = long;

@@ -16,10 +16,11 @@ use Rattle.std.proofs.lemmas.List.Sums.{sum_by-cons}
 use Rattle.std.proofs.lemmas.Bool.{cases_lt}
 use Rattle.cube_core.specs.Cube.{is_cell, is_total}
 use Rattle.cube_core.specs.GroupingSet.{mask_of, is_among, is_all_coord, part_of, sets_of_part}
-use Rattle.cube_core.specs.Layout.{Layout, IsSchema}
+use Rattle.cube_core.specs.Layout.{Layout, IsSchema, cube_schema, number_of_dimensions}
 use Rattle.cube_core.specs.Order.{key_cmp}
 use Rattle.cube_core.specs.declared.key.Key.{Key}
 use Rattle.cube_core.proofs.CellKeyLaws.{key_cmp-is_total}
+use Rattle.cube_core.proofs.CubeSchemaLaws.{cube_schema-dimensions, cube_schema-text_places}
 use Rattle.cube_core.proofs.KeyOrderLaws.{key_cmp-IsTotalOrder}
 use Rattle.cube_core.proofs.SetLaws.{part_of-below}
 use Rattle.cube_cells.specs.Codes.{Dictionaries, IsDictionary, are_codes, coords_at, key_at, all_code}
@@ -28,6 +29,7 @@ use Rattle.cube_cells.specs.Coded.{lattice_of, total_codes}
 use Rattle.cube_cells.specs.Cube.{IsLattice, IsCubeOf, IsNewLattice, cell_at}
 use Rattle.cube_cells.specs.Tally.{Tally, IsTallyOf}
 use Rattle.cube_cells.specs.declared.cube.codes.Codes.{Codes}
+use Rattle.cube_cells.proofs.Cells.SchemaLaws.{IsCubeSchema, few_dimensions}
 use Rattle.cube_cells.proofs.Cells.WalkLaws.{same_codes-exact}
 use Rattle.cube_cells.proofs.Codes.KeyLaws.{all_code-replicate}
 use Rattle.cube_core.proofs.AncestorLaws.{mask_of_coords-All}
@@ -126,7 +128,7 @@ unfolding IsDistinct
 AreApart-nil = tt
 
 -- it is a cube
-pub IsCoded-AreNewCells : (schema : Layout) (sets : List ℕ) (cells : CodedCells) → IsSchema schema
+pub IsCoded-AreNewCells : (schema : Layout) (sets : List ℕ) (cells : CodedCells) → IsCubeSchema schema
     → All (λ set. set < 2 ^ length schema.dimensions) sets → IsStrictlySortedBy nat_cmp sets
     → AreNewCells (is_among 0 sets) (length schema.measures) cells
     → IsCoded schema sets 0 (replicate (length schema.dimensions) []) cells
@@ -141,7 +143,8 @@ IsCoded-AreNewCells schema sets cells is within ascending new = elim (cases_Bool
 
   lattice : (others : CodedCells) → IsLattice (lattice_of schema sets 0 (replicate n []) others)
   lattice others = record {
-    schema = is;
+    schema = is.is;
+    no_texts = is.no_texts;
     sets = within;
     ascending = ascending;
     dictionaries = length-replicate {A = List (List ℕ)} n [];
@@ -158,7 +161,7 @@ IsCoded-AreNewCells schema sets cells is within ascending new = elim (cases_Bool
     distinct = AreApart-one t;
     each = All-cons (IsCodedCell (replicate n []) (length schema.measures)) (total_codes, t) []
         (record {
-          codes = are_codes-replicate n 8 is.dimensions_at_most;
+          codes = are_codes-replicate n 8 (few_dimensions is);
           eight = refl;
           width = width;
           some = refl;
@@ -187,17 +190,19 @@ IsCoded-AreNewCells schema sets cells is within ascending new = elim (cases_Bool
 
 -- and new
 pub IsNewLattice-lattice_of : (schema : Layout) (sets : List ℕ) (cells : CodedCells)
-    → IsNewLattice schema sets (lattice_of schema sets 0 (replicate (length schema.dimensions) []) cells)
+    → IsNewLattice schema sets
+    (lattice_of (cube_schema schema) sets 0 (replicate (length (cube_schema schema).dimensions) []) cells)
 IsNewLattice-lattice_of schema sets cells = record {
   schema_is = refl;
   sets_are = refl;
   no_facts = refl;
-  no_texts = λ d. elim (cases_lt d (length schema.dimensions)) [
-    | inl inside ↦ get_or-replicate {A = List (List ℕ)} (length schema.dimensions) d [] [] inside
-    | inr past ↦ get_or_past (replicate (length schema.dimensions) []) d []
-        (omega (arith, past, length-replicate {A = List (List ℕ)} (length schema.dimensions) []))
+  no_texts = λ d. elim (cases_lt d n) [
+    | inl inside ↦ get_or-replicate {A = List (List ℕ)} n d [] [] inside
+    | inr past ↦ get_or_past (replicate n []) d [] (omega (arith, past, length-replicate {A = List (List ℕ)} n []))
   ];
-}
+} where
+  n : ℕ
+  n = length (cube_schema schema).dimensions
 
 -- ---- the new cells
 -- none where the grand total isn't kept
@@ -228,27 +233,31 @@ AreNewCells-one measures cells codes t total one found empty width = record {
 -- ---- the whole
 -- what is kept is a new cube of no fact
 pub record IsNewCube (schema : Layout) (sets : List ℕ) (dictionaries : Dictionaries) (cells : CodedCells) : Type 0 where
-  pub coded : IsCoded schema sets 0 dictionaries cells
-  pub cube : IsCubeOf (lattice_of schema sets 0 dictionaries cells) []
-  pub new : IsNewLattice schema sets (lattice_of schema sets 0 dictionaries cells)
+  pub coded : IsCoded (cube_schema schema) sets 0 dictionaries cells
+  pub cube : IsCubeOf (lattice_of (cube_schema schema) sets 0 dictionaries cells) []
+  pub new : IsNewLattice schema sets (lattice_of (cube_schema schema) sets 0 dictionaries cells)
 
 pub IsNewCube-AreNewCells : (schema : Layout) (sets : List ℕ) (dictionaries : Dictionaries) (total : Bool)
-    (cells : CodedCells) → IsSchema schema → All (λ set. set < 2 ^ length schema.dimensions) sets
-    → IsStrictlySortedBy nat_cmp sets → dictionaries ≡ replicate (length schema.dimensions) [] → total ≡ is_among 0 sets
-    → AreNewCells total (length schema.measures) cells → IsNewCube schema sets dictionaries cells
+    (cells : CodedCells) → IsSchema (cube_schema schema) → All (λ set. set < 2 ^ number_of_dimensions schema) sets
+    → IsStrictlySortedBy nat_cmp sets → dictionaries ≡ replicate (length (cube_schema schema).dimensions) []
+    → total ≡ is_among 0 sets → AreNewCells total (length (cube_schema schema).measures) cells
+    → IsNewCube schema sets dictionaries cells
 IsNewCube-AreNewCells schema sets dictionaries total cells is within ascending texts_are total_is new =
-    let as_kept = subst (λ (b : Bool). AreNewCells b (length schema.measures) cells) total_is new in
+    let of : IsCubeSchema (cube_schema schema) =
+    record { is = is; no_texts = cube_schema-text_places schema } in
+    let below = subst (λ (n : ℕ). All (λ set. set < 2 ^ n) sets) (sym (cube_schema-dimensions schema)) within in
+    let as_kept = subst (λ (b : Bool). AreNewCells b (length (cube_schema schema).measures) cells) total_is new in
     record {
-      coded = rw texts_are (IsCoded-AreNewCells schema sets cells is within ascending as_kept);
-      cube = rw texts_are (IsCubeOf-AreNewCells schema sets cells is.dimensions_at_most as_kept);
+      coded = rw texts_are (IsCoded-AreNewCells (cube_schema schema) sets cells of below ascending as_kept);
+      cube = rw texts_are (IsCubeOf-AreNewCells (cube_schema schema) sets cells (few_dimensions of) as_kept);
       new = rw texts_are (IsNewLattice-lattice_of schema sets cells);
     }
 
 -- the sets of a part are grouping sets of the dimensions, in ascending order
 pub sets_of_part-below : (schema : Layout) (part of : ℕ) → IsSchema schema
-    → All (λ set. set < 2 ^ length schema.dimensions) (sets_of_part part of schema.grouping_sets)
+    → All (λ set. set < 2 ^ number_of_dimensions schema) (sets_of_part part of schema.grouping_sets)
 sets_of_part-below schema part of is = All-filter (λ set. part_of of set == part)
-    (λ set. set < 2 ^ length schema.dimensions) schema.grouping_sets is.sets_are_of_dimensions
+    (λ set. set < 2 ^ number_of_dimensions schema) schema.grouping_sets is.sets_are_of_dimensions
 
 pub sets_of_part-IsStrictlySortedBy : (schema : Layout) (part of : ℕ) → IsSchema schema
     → IsStrictlySortedBy nat_cmp (sets_of_part part of schema.grouping_sets)

@@ -6,6 +6,7 @@ use Rattle.cube_core.specs.Layout.{Layout}
 use Rattle.cube_core.specs.Takes.{fits}
 use Rattle.cube_core.specs.declared.fact.Fact.{Fact}
 use Rattle.cube_core.proofs.CellKeyLaws.{fits-length}
+use Rattle.cube_core.proofs.TextRowLaws.{fits-measures}
 use Rattle.cube_cells.specs.Codes.{Dictionaries, IsDictionary, are_codes}
 use Rattle.cube_cells.specs.Coded.{CodedCells, IsCoded, same_codes, coded_at, lattice_of}
 use Rattle.cube_cells.specs.Cube.{HoldsFact, AddsFact, TakesFact, SameCells, cell_holds}
@@ -13,7 +14,6 @@ use Rattle.cube_cells.specs.Walk.{codes_in, is_in, HasRoom, AddsIn, TakesIn, Sam
 use Rattle.cube_cells.specs.declared.cube.codes.Codes.{Codes}
 use Rattle.cube_cells.proofs.Cells.CodedLaws.{AreValidIn, IsCodedFact, IsCodedFact-IsCoded, AreValidIn-HoldsFact}
 use Rattle.cube_cells.proofs.Cells.CodedLaws.{cell_holds-is_in, AddsFact-AddsIn, TakesFact-TakesIn, SameCells-SameCoded}
-use Rattle.cube_cells.proofs.Cells.CubeLaws.{fits-measures}
 use Rattle.cube_cells.proofs.Codes.GrowthLaws.{AreGrown, AreGrown-length, codes_in-IsDistinct}
 use Rattle.cube_cells.proofs.Cells.KeptLaws.{HasRoom-IsCoded, IsCoded-AddsIn, IsCoded-TakesIn, IsCoded-SameCoded}
 use Rattle.cube_cells.proofs.Codes.KeyLaws.{HasFactCodes, are_codes-kept_codes}

@@ -174,7 +174,7 @@ code_of_null texts is = record {
 }
 
 -- a code that stands for a text is a place of it
-StandsAt-coord_at : (texts : List (List ℕ)) (text : List ℕ) (other : ℕ) → IsDictionary texts
+pub StandsAt-coord_at : (texts : List (List ℕ)) (text : List ℕ) (other : ℕ) → IsDictionary texts
     → is_code texts other ≡ true → coord_at texts other ≡ coord.Text text → StandsAt text texts other
 StandsAt-coord_at texts text other is valid same = elim (is_code-cases texts other valid) [
   | inl all ↦ cc (ap (coord_at texts) (sym all) ∙ same)

@@ -10,6 +10,7 @@ use Rattle.std.specs.Cmp.Lexicographic.{slice_cmp}
 use Rattle.std.specs.Ordering.{is_lt, nat_cmp}
 use Rattle.cube_cells.specs.BottomUp.{cells_of_items}
 use Rattle.cube_cells.specs.declared.cube.bottom_up.Item.{Item}
+use Rattle.cube_cells.proofs.Cells.SchemaLaws.{few_dimensions, its_schema, some_dimension}
 use Rattle.cube_cells.proofs.Rows.RowLaws.{IsSortedBy-map}
 use Rattle.std.specs.declared.cmp.Ordering.TheVariants.{Less}
 use Rattle.std.proofs.lemmas.Cmp.{nat_list_cmp_total, on_total}
@@ -185,7 +186,7 @@ pub AreFinest-IsCoded : (schema : Layout) (dictionaries : Dictionaries) (facts :
     → AreFinest schema dictionaries facts items
 AreFinest-IsCoded schema dictionaries facts items coded of = record {
   base = record {
-    is_schema = coded.lattice.schema;
+    is_schema = its_schema coded.lattice;
     width = coded.lattice.dictionaries;
     texts = coded.texts;
     fit = of.fit;
@@ -203,7 +204,7 @@ AreFinest-IsCoded schema dictionaries facts items coded of = record {
 pub some_finest : (schema : Layout) (dictionaries : Dictionaries) (facts : List Fact) (items : CodedCells)
     → AreFinest schema dictionaries facts items → 0 < finest_set (length schema.dimensions)
 some_finest schema dictionaries facts items are =
-    at (length schema.dimensions) are.base.is_schema.some_dimension
+    at (length schema.dimensions) (some_dimension are.base.is_schema)
   where
     at : (n : ℕ) → 1 ≤ n → 0 < 2 ^ n - 1
     at zero some = absurd (omega (arith, some))
@@ -392,7 +393,7 @@ part_at-group_of schema dictionaries facts sets items cells key part of are walk
       arith,
       part_at-IsWalkOf (is_kept_in sets) (length schema.measures) n items cells key part walk
           (All-IsItem schema dictionaries facts items are) (All-IsFree schema dictionaries facts items are)
-          (All-IsAllPast schema dictionaries facts items are) are.base.is_schema.dimensions_at_most kept eight
+          (All-IsAllPast schema dictionaries facts items are) (few_dimensions are.base.is_schema) kept eight
           (λ i past small. past-are_codes dictionaries key.codes i valid (omega (arith, past, are.base.width))
           (omega (arith, small, eight))) is.is_part,
       sum-gathered schema dictionaries facts items key part of [] are.base valid eight is groups,
@@ -579,7 +580,7 @@ IsCubeOf-IsWalkOf schema dictionaries facts sets items cells are some within wal
   codes_of : (key : Key) (t : Tally) → cell_at (decoded dictionaries cells) key ≡ Some t
       → (codes : Codes) × (coded_at cells codes ≡ Some t) × (key ≡ key_at dictionaries codes.codes)
   codes_of key t found = coded_from_decoded dictionaries (length schema.measures) cells key t are.base.texts
-      (omega (arith, are.base.width, are.base.is_schema.dimensions_at_most)) each found
+      (omega (arith, are.base.width, few_dimensions are.base.is_schema)) each found
 
   parts : (codes : Codes) (t : Tally) → coded_at cells codes ≡ Some t → (part : Tally → ℕ) (of : Fact → ℕ)
       → IsPartOf (length schema.measures) part of
@@ -707,7 +708,7 @@ CanWalk-AreFinest schema dictionaries facts items are in_order =
         under = λ k d inside. refl;
         each = All-IsItem schema dictionaries facts items are;
         free = All-IsFree schema dictionaries facts items are;
-        within = omega (arith, are.base.is_schema.dimensions_at_most);
+        within = omega (arith, few_dimensions are.base.is_schema);
       }),
     )
 

@@ -19,7 +19,7 @@ use Rattle.cube_core.specs.Covers.{covers}
 use Rattle.cube_core.specs.Cube.{is_cell, is_total}
 use Rattle.cube_core.specs.Group.{group_of}
 use Rattle.cube_core.specs.GroupingSet.{mask_of, is_among}
-use Rattle.cube_core.specs.Layout.{Layout, IsSchema}
+use Rattle.cube_core.specs.Layout.{Layout}
 use Rattle.cube_core.specs.Order.{key_cmp}
 use Rattle.cube_core.specs.Takes.{fits}
 use Rattle.cube_core.specs.declared.fact.Fact.{Fact}
@@ -36,6 +36,7 @@ use Rattle.cube_cells.specs.Fill.{AreMadeFrom, FillsSet, IsCubeOfAll, IsFiner, M
 use Rattle.cube_cells.specs.Tally.{Tally, IsTallyOf}
 use Rattle.cube_cells.specs.Walk.{AreApart, key_in}
 use Rattle.cube_cells.specs.declared.cube.codes.Codes.{Codes}
+use Rattle.cube_cells.proofs.Cells.SchemaLaws.{IsCubeSchema, few_dimensions}
 use Rattle.cube_cells.proofs.Cells.CodedLaws.{AreValidIn, IsCodedFact, cell_at-key_in, IsCoded-width, cell_at-other}
 use Rattle.cube_cells.proofs.Cells.CubeLaws.{IsCubeOf-permutation, IsCubeOf-SameCells, IsTallyOf-empty_tally}
 use Rattle.cube_cells.proofs.Cells.CubeLaws.{group_of-is_cell}
@@ -92,7 +93,7 @@ group_of-none key first (fact ∷ group) alike apart =
 -- ---- cells that are filled
 -- what the cells of a schema stand under
 pub record IsFrame (schema : Layout) (sets : List ℕ) (dictionaries : Dictionaries) : Type 0 where
-  pub is_schema : IsSchema schema
+  pub is_schema : IsCubeSchema schema
   pub within : All (λ set. set < 2 ^ length schema.dimensions) sets
   pub width : length dictionaries ≡ length schema.dimensions
   pub texts : All IsDictionary dictionaries
@@ -130,7 +131,7 @@ IsCodedFact-IsMerge schema sets dictionaries set cell group old new m = record {
   all = m.frame.texts;
   has = m.has.has;
   width = width ∙ sym m.frame.width;
-  room = omega (arith, m.frame.width, m.frame.is_schema.dimensions_at_most);
+  room = omega (arith, m.frame.width, few_dimensions m.frame.is_schema);
   below = λ other among. elim (or_cases (set == other) false among) [
     | inl same ↦ subst (λ (s : ℕ). s < 2 ^ length m.has.first.dims) (eqb-true set other same) small
     | inr never ↦ cc never
@@ -444,7 +445,7 @@ IsFilled-AreNewCells schema sets dictionaries start frame ascending new =
     let moved = IsCoded-SameCells_from_AreGrown dictionaries coded grown frame.texts in
     let cube : IsCubeOf (lattice_of schema sets 0 dictionaries start) [] =
     IsCubeOf-SameCells (lattice_of schema sets 0 (replicate n []) start) (lattice_of schema sets 0 dictionaries start)
-    [] moved.1 (IsCubeOf-AreNewCells schema sets start frame.is_schema.dimensions_at_most new) in
+    [] moved.1 (IsCubeOf-AreNewCells schema sets start (few_dimensions frame.is_schema) new) in
     record {
       distinct = moved.0.distinct;
       each = moved.0.each;
@@ -457,7 +458,7 @@ IsFilled-AreNewCells schema sets dictionaries start frame ascending new =
 -- ---- facts that fit
 -- the schema and the texts of facts that fit
 pub record IsBase (schema : Layout) (dictionaries : Dictionaries) (facts : List Fact) : Type 0 where
-  pub is_schema : IsSchema schema
+  pub is_schema : IsCubeSchema schema
   pub width : length dictionaries ≡ length schema.dimensions
   pub texts : All IsDictionary dictionaries
   pub fit : All (λ fact. fits schema fact ≡ true) facts
@@ -620,7 +621,7 @@ HasFinerGroup-IsSetCell schema dictionaries facts finer set cell base some withi
         length-map found.0.dims coord_of_value,
         fits-length schema found.0 first_fits,
         base.width,
-      )) (omega (arith, base.width, base.is_schema.dimensions_at_most)) in
+      )) (omega (arith, base.width, few_dimensions base.is_schema)) in
       (some.0, record { are = some.1.are; eight = some.1.eight })
 
   here : HasCodes dictionaries (covering_key found.0 finer) (key_in codes.0 finer)
@@ -719,7 +720,8 @@ IsCubeOfAll-HaveAll schema dictionaries facts set cells base below all = (
   coded : IsCoded schema (set ∷ []) (length facts) dictionaries cells
   coded = record {
     lattice = record {
-      schema = base.is_schema;
+      schema = base.is_schema.is;
+      no_texts = base.is_schema.no_texts;
       sets = All-cons (λ (s : ℕ). s < 2 ^ length schema.dimensions) set [] below
           (All-nil (λ (s : ℕ). s < 2 ^ length schema.dimensions));
       ascending = sorted_from_strictly_increasing (set ∷ []) (λ k inside. absurd (omega (arith, inside)));

@@ -15,8 +15,9 @@ use Rattle.std.proofs.lemmas.List.Sorted.{All-permutation, IsPermutation-append_
 use Rattle.std.proofs.lemmas.List.Sorted.{IsPermutation-middle, IsPermutation-refl, IsPermutation-trans}
 use Rattle.std.proofs.lemmas.List.Sorted.{length_permutation}
 use Rattle.cube_core.proofs.CellKeyLaws.{fits-length}
+use Rattle.cube_core.proofs.CubeSchemaLaws.{cube_schema-dimensions}
 use Rattle.cube_core.proofs.ListLaws.{filter-failed, filter-passed}
-use Rattle.cube_core.specs.Layout.{Layout}
+use Rattle.cube_core.specs.Layout.{Layout, cube_schema, number_of_dimensions}
 use Rattle.cube_core.specs.Takes.{fits}
 use Rattle.cube_core.specs.declared.fact.Fact.{Fact}
 use Rattle.cube_cells.specs.Codes.{Dictionaries, IsDictionary, coord_of_value}
@@ -34,11 +35,11 @@ use Rattle.cube_cells.proofs.Codes.GrowthLaws.{AreCodesOf-AreGrown, AreGrown, Is
 
 -- nothing was gathered
 pub HasGathered-none : (schema : Layout) (cube : Lattice)
-    → IsNewLattice schema (finest_set (length schema.dimensions) ∷ []) cube → IsCubeOf cube []
-    → HasGathered schema [] cube
+    → IsNewLattice schema (finest_set (number_of_dimensions schema) ∷ []) cube → IsCubeOf cube []
+    → HasGathered (cube_schema schema) [] cube
 HasGathered-none schema cube new of = record {
   schema_is = new.schema_is;
-  sets_are = new.sets_are;
+  sets_are = rw (cube_schema-dimensions schema) new.sets_are;
   all = record { fit = All-nil (λ fact. fits cube.schema fact ≡ true); cells = of; facts_are = new.no_facts };
 }
 

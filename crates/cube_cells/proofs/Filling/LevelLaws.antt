@@ -39,6 +39,7 @@ use Rattle.cube_cells.proofs.Cells.JoinLaws.{AreApart-append, AreApart-nil, cell
 use Rattle.cube_cells.proofs.Cells.JoinLaws.{is_some-either}
 use Rattle.cube_cells.proofs.Cells.KeptLaws.{All-coded_at}
 use Rattle.cube_cells.proofs.Codes.KeyLaws.{IsCodedCell-coded_at}
+use Rattle.cube_cells.proofs.Cells.SchemaLaws.{its_schema}
 use Rattle.cube_cells.proofs.Cells.TableLaws.{mask_of_coords-mask_of_codes}
 
 -- ---- cells of other sets
@@ -326,7 +327,13 @@ IsCubeOf-AreFilled {N} schema sets number dictionaries finest levels facts withi
 
   coded : IsCoded schema sets number dictionaries (cells_of levels)
   coded = record {
-    lattice = record { schema = base.is_schema; sets = within; ascending = ascending; dictionaries = base.width };
+    lattice = record {
+      schema = base.is_schema.is;
+      no_texts = base.is_schema.no_texts;
+      sets = within;
+      ascending = ascending;
+      dictionaries = base.width;
+    };
     texts = base.texts;
     distinct = all.distinct;
     each = all.each;
@@ -364,7 +371,7 @@ pub IsCubeOfAll-AreFilled : {N : Type 0} (schema : Layout) (sets : List ℕ) (ow
     × IsCubeOfAll facts (lattice_of schema sets number dictionaries (cells_of levels))
 IsCubeOfAll-AreFilled schema sets own number texts dictionaries old finest levels facts mine is_finest is all filled =
     let base : IsBase schema dictionaries facts =
-    record { is_schema = is.lattice.schema; width = is.lattice.dictionaries; texts = is.texts; fit = all.fit } in
+    record { is_schema = its_schema is.lattice; width = is.lattice.dictionaries; texts = is.texts; fit = all.fit } in
     let first : IsLevel schema dictionaries facts finest =
     IsLevel-IsCubeOfAll schema number dictionaries finest facts is all in
     let whole = IsCubeOf-AreFilled schema sets number dictionaries finest levels facts mine.lattice.sets
@@ -379,7 +386,7 @@ pub IsLeveled-alone : {N : Type 0} (schema : Layout) (number : ℕ) (dictionarie
     → IsLeveled schema (level.set ∷ []) number dictionaries (level ∷ [])
 IsLeveled-alone schema number dictionaries level facts is all =
     let base : IsBase schema dictionaries facts =
-    record { is_schema = is.lattice.schema; width = is.lattice.dictionaries; texts = is.texts; fit = all.fit } in
+    record { is_schema = its_schema is.lattice; width = is.lattice.dictionaries; texts = is.texts; fit = all.fit } in
     let own : IsLevel schema dictionaries facts level =
     IsLevel-IsCubeOfAll schema number dictionaries level facts is all in
     record {

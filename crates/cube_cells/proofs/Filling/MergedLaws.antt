@@ -36,6 +36,7 @@ use Rattle.cube_cells.specs.Walk.{AreApart, key_in}
 use Rattle.cube_cells.specs.declared.cube.codes.Codes.{Codes}
 use Rattle.cube_cells.specs.declared.cube.levels.Level.{Level}
 use Rattle.cube_cells.specs.declared.cube.merged.Column.{Column}
+use Rattle.cube_cells.proofs.Cells.SchemaLaws.{its_schema, some_dimension}
 use Rattle.cube_cells.proofs.Cells.JoinLaws.{AreApart-nil}
 use Rattle.cube_cells.proofs.Cells.LeveledLaws.{sole_level}
 use Rattle.cube_cells.proofs.Cells.WalkLaws.{same_codes-IsEquivalence, same_codes-exact}
@@ -403,7 +404,7 @@ IsFinest-merged schema number others_number old more facts others columns cells 
     let finest : ℕ = finest_set (length schema.dimensions) in
     let dictionaries : Dictionaries = dictionaries_of columns in
     let texts : All IsDictionary dictionaries = All-recoded old more columns are in
-    let below = finest_set-below (length schema.dimensions) is.coded.lattice.schema.some_dimension in
+    let below = finest_set-below (length schema.dimensions) (some_dimension (its_schema is.coded.lattice)) in
     let grown = IsCodedCell-AreGrown old dictionaries (length schema.measures) cells
     (AreGrown-recoded old columns are.long (λ d unused inside. (are.each d unused inside).grown)) texts
     is.coded.each in
@@ -422,7 +423,7 @@ IsFinest-merged schema number others_number old more facts others columns cells 
     is_more.coded.texts below.0 (HaveAll-IsFinest schema others_number more others more_cells is_more) in
     let base : (fs : List Fact) → All (λ fact. fits schema fact ≡ true) fs → IsBase schema dictionaries fs =
     λ fs fit. record {
-      is_schema = is.coded.lattice.schema;
+      is_schema = its_schema is.coded.lattice;
       width = length-map columns (λ (column : Column). column.dictionary) ∙ are.long ∙ is.coded.lattice.dictionaries;
       texts = texts;
       fit = fit;

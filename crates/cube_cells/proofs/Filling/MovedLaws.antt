@@ -23,6 +23,7 @@ use Rattle.cube_cells.specs.Tally.{Tally}
 use Rattle.cube_cells.specs.Walk.{AreApart, SameCoded}
 use Rattle.cube_cells.specs.declared.cube.codes.Codes.{Codes}
 use Rattle.cube_cells.specs.declared.cube.levels.Level.{Level}
+use Rattle.cube_cells.proofs.Cells.SchemaLaws.{few_dimensions}
 use Rattle.cube_cells.proofs.Filling.FilledLaws.{HaveAll, IsBase}
 use Rattle.cube_cells.proofs.Codes.GrowthLaws.{AreGrown-refl, count_in-weight_of_cells, set_weight}
 use Rattle.cube_cells.proofs.Codes.KeyLaws.{key-HasCodes, look_up-coded, no_cell-width}
@@ -57,7 +58,7 @@ cell_at-IsPermutation schema dictionaries facts a b key base moved apart each =
     elim (cases_eq (length key.coords) (length dictionaries)) [
       | inl same ↦
           let found = key-HasCodes dictionaries key base.texts same
-          (omega (arith, base.width, base.is_schema.dimensions_at_most)) in
+          (omega (arith, base.width, few_dimensions base.is_schema)) in
           look_up-coded dictionaries (length schema.measures) b key found.0 found.1
           (All-permutation (IsCodedCell dictionaries (length schema.measures)) a b moved each)
           ∙ coded_at-IsPermutation a b found.0 moved apart

@@ -27,6 +27,7 @@ use Rattle.cube_cells.specs.Tally.{Tally, IsTallyOf}
 use Rattle.cube_cells.specs.declared.cube.bottom_up.Item.{Item}
 use Rattle.cube_cells.specs.declared.cube.codes.Codes.{Codes}
 use Rattle.cube_cells.specs.declared.cube.ranks.RankedTexts.{RankedTexts}
+use Rattle.cube_cells.proofs.Cells.SchemaLaws.{few_dimensions}
 use Rattle.cube_cells.proofs.Cells.CodedLaws.{IsCoded-width}
 use Rattle.cube_cells.proofs.Cells.NewLaws.{IsStrictlySortedBy-one}
 use Rattle.cube_cells.proofs.Cells.WalkLaws.{same_codes-exact}
@@ -145,7 +146,7 @@ AreFinest-ranked schema old ranked facts cells are finest = record {
 
   keys_differ : IsDistinct same_key_as (keys_of (decoded old cells))
   keys_differ = IsDistinct-decoded old measures cells finest.base.texts
-      (omega (arith, finest.base.width, finest.base.is_schema.dimensions_at_most)) finest.all.each finest.all.distinct
+      (omega (arith, finest.base.width, few_dimensions finest.base.is_schema)) finest.all.each finest.all.distinct
 
   none : is_among 0 (finest_set n ∷ []) ≡ false
   none = rw (ne_eqb (finest_set n) 0 (λ is. absurd (omega (arith, is, some_finest schema old facts cells finest)))) refl
@@ -156,7 +157,8 @@ IsCoded-AreFinest : (schema : Layout) (dictionaries : Dictionaries) (facts : Lis
     → IsCoded schema (finest_set (length schema.dimensions) ∷ []) (length facts) dictionaries items
 IsCoded-AreFinest schema dictionaries facts items are = record {
   lattice = record {
-    schema = are.base.is_schema;
+    schema = are.base.is_schema.is;
+    no_texts = are.base.is_schema.no_texts;
     sets = All-cons (λ set. set < 2 ^ n) (finest_set n) []
         (omega (arith, pow-positive n)) (All-nil (λ set. set < 2 ^ n));
     ascending = IsStrictlySortedBy-one (finest_set n);

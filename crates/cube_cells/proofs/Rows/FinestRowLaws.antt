@@ -43,6 +43,7 @@ use Rattle.cube_cells.specs.declared.cube.codes.Codes.{Codes}
 use Rattle.cube_cells.specs.declared.cube.finest_rows.WantedRows.{WantedRows}
 use Rattle.cube_cells.specs.declared.cube.rows.Want.{Want}
 use Rattle.cube_cells.specs.declared.cube.rows.Want.TheVariants as want
+use Rattle.cube_cells.proofs.Cells.SchemaLaws.{few_dimensions}
 use Rattle.cube_cells.proofs.Filling.BottomUpCubeLaws.{AreFinest, HasKeyCodes, HasKeyCodes-list_any, pow-positive}
 use Rattle.cube_cells.proofs.Rows.RowLaws.{decoded-filter, same_key_as-IsEquivalence}
 use Rattle.cube_cells.proofs.Rows.WalkedLaws.{AreFinest-AreToWalk, are_codes-total}
@@ -140,7 +141,7 @@ HasKeyCodes-is_cell schema dictionaries facts items sets key are cell =
         record {
           codes = total_codes;
           valid = are_codes-total dictionaries 8
-              (omega (arith, are.base.width, are.base.is_schema.dimensions_at_most));
+              (omega (arith, are.base.width, few_dimensions are.base.is_schema));
           eight = refl;
           is = Key-coords key (key_at dictionaries total_codes.codes) (total_coords dictionaries key.coords 8 parts.1 wide);
           mask = sym (mask_of_coords-All key.coords parts.1);

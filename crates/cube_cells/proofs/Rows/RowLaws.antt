@@ -38,6 +38,7 @@ use Rattle.cube_cells.specs.Rows.{AreRowsOf, IsRowOf, AreAnswersOf, AreWantsOf, 
 use Rattle.cube_cells.specs.Tally.{Tally, IsTallyOf}
 use Rattle.cube_cells.specs.declared.cube.codes.Codes.{Codes}
 use Rattle.cube_cells.specs.declared.cube.rows.Want.{Want}
+use Rattle.cube_cells.proofs.Cells.SchemaLaws.{aggregates_of_measures, few_dimensions, its_schema}
 use Rattle.cube_cells.proofs.Codes.KeyLaws.{AreCodesOf-alone, length-coords_at, key-HasCodes}
 use Rattle.cube_cells.proofs.Codes.RankLaws.{Less-from_is_lt, ranks_of-coord_cmp}
 use Rattle.cube_cells.proofs.Cells.WalkLaws.{same_codes-IsEquivalence}
@@ -208,7 +209,7 @@ pub IsDistinct-IsCoded : {schema : Layout} {sets : List ℕ} {facts : ℕ} {dict
     → IsCoded schema sets facts dictionaries cells → IsDistinct same_key_as (keys_of (decoded dictionaries cells))
 IsDistinct-IsCoded {schema = schema} {dictionaries = dictionaries} {cells = cells} is =
     IsDistinct-decoded dictionaries (length schema.measures) cells is.texts
-    (omega (arith, is.lattice.dictionaries, is.lattice.schema.dimensions_at_most)) is.each is.distinct
+    (omega (arith, is.lattice.dictionaries, few_dimensions (its_schema is.lattice))) is.each is.distinct
 
 -- the cells whose codes are wanted are those whose keys pass the test
 pub decoded-filter : (dictionaries : Dictionaries) (measures : ℕ) (test : Key → Bool) (wants : List Want)
@@ -273,7 +274,7 @@ pub is_aggregate_of-IsPermutation : {schema : Layout} {sets : List ℕ} {facts :
     → All (λ place. list_all (is_aggregate_of (length (f place).1.bags)) schema.aggregates ≡ true) places
 is_aggregate_of-IsPermutation {schema = schema} {dictionaries = dictionaries} {cells = cells} wants f places is moved =
     let placed = IsCodedCell-IsPermutation dictionaries (length schema.measures) wants cells f places is.each moved in
-    λ k d inside. rw ((placed k d inside).width) is.lattice.schema.aggregates_are_of_measures
+    λ k d inside. rw ((placed k d inside).width) (aggregates_of_measures (its_schema is.lattice))
 
 -- a cell by its key
 abbrev pub decode : Dictionaries → Codes × Tally → Key × Tally

@@ -10,6 +10,7 @@ use Rattle.cube_core.specs.Group.{group_of}
 use Rattle.cube_core.specs.GroupingSet.{is_among}
 use Rattle.cube_core.specs.Layout.{Layout}
 use Rattle.cube_core.specs.declared.fact.Fact.{Fact}
+use Rattle.cube_core.proofs.TextRowLaws.{are_rows-plain}
 use Rattle.cube_core.specs.declared.key.Coord.{Coord}
 use Rattle.cube_core.specs.declared.key.Coord.TheVariants as coord
 use Rattle.cube_cells.specs.BottomUp.{AreCellsOfCube, AreCellsOver, AreToWalk, CanWalk, IsWalkOf, TakesAll, TakesCube}
@@ -22,6 +23,7 @@ use Rattle.cube_cells.specs.Fill.{IsCubeOfAll, finest_set}
 use Rattle.cube_cells.specs.Levels.{mask_of_codes}
 use Rattle.cube_cells.specs.Tally.{Tally, IsTallyOf}
 use Rattle.cube_cells.specs.declared.cube.codes.Codes.{Codes}
+use Rattle.cube_cells.proofs.Cells.SchemaLaws.{few_dimensions, its_schema, sets_below}
 use Rattle.cube_cells.proofs.Cells.NewLaws.{IsCubeOf-AreNewCells}
 use Rattle.cube_cells.proofs.Codes.KeyLaws.{all_code-replicate}
 use Rattle.cube_cells.proofs.Filling.BottomUpCellLaws.{AreApart-sorted}
@@ -53,7 +55,7 @@ AreCellsOver-IsCubeOf : (schema : Layout) (number : ℕ) (dictionaries : Diction
     → AreCellsOver (lattice_of schema (finest_set (length schema.dimensions) ∷ []) number dictionaries items) sets cells
 AreCellsOver-IsCubeOf schema number dictionaries items sets cells are each sorted cube =
     let room : length dictionaries ≤ 8 =
-    omega (arith, are.coded.lattice.dictionaries, are.coded.lattice.schema.dimensions_at_most) in
+    omega (arith, are.coded.lattice.dictionaries, few_dimensions (its_schema are.coded.lattice)) in
     record {
       each = each;
       rows = λ test facts of rows zipped. AreRowsWhere-codes_cmp test schema dictionaries facts sets cells rows room
@@ -64,22 +66,23 @@ AreCellsOver-IsCubeOf schema number dictionaries items sets cells are each sorte
     }
 
 -- ---- over all grouping sets
-pub AreCellsOfCube-AreCellsOver : (finest : Lattice) (cells : CodedCells)
+pub AreCellsOfCube-AreCellsOver : (finest : Lattice) (cells : CodedCells) → finest.schema.text_places ≡ []
     → AreCellsOver finest finest.schema.grouping_sets cells → AreCellsOfCube finest cells
-AreCellsOfCube-AreCellsOver finest cells are = record {
+AreCellsOfCube-AreCellsOver finest cells none are = record {
   each = are.each;
-  rows = λ facts of rows zipped. AreRowsOver-AreRowsWhere finest.schema.grouping_sets
-      (length finest.schema.dimensions) finest.schema.aggregates facts rows
-      (are.rows (λ key. true) facts of rows (rw (filter-true (decoded finest.dictionaries cells)) zipped));
+  rows = λ facts of rows zipped. (are_rows-plain finest.schema facts rows none).0
+      (AreRowsOver-AreRowsWhere finest.schema.grouping_sets (length finest.schema.dimensions) finest.schema.aggregates
+      facts rows (are.rows (λ key. true) facts of rows (rw (filter-true (decoded finest.dictionaries cells)) zipped)));
   keys = are.keys;
 }
 
 pub TakesCube-TakesSets : {S : Type 0} (takes : S → Codes → Tally → S → Type 0) (finest : Lattice) (old new : S)
-    → TakesSets takes finest finest.schema.grouping_sets old new → TakesCube takes finest old new
-TakesCube-TakesSets takes finest old new walk = record {
+    → finest.schema.text_places ≡ [] → TakesSets takes finest finest.schema.grouping_sets old new
+    → TakesCube takes finest old new
+TakesCube-TakesSets takes finest old new none walk = record {
   cells = walk.cells;
   taken = walk.taken;
-  are = AreCellsOfCube-AreCellsOver finest walk.cells walk.are;
+  are = AreCellsOfCube-AreCellsOver finest walk.cells none walk.are;
 }
 
 -- ---- over some facts
@@ -136,8 +139,9 @@ WalkGivesCube-AreToWalk schema number dictionaries items kept are some masks = r
   can = CanWalk-AreToWalk schema number dictionaries items are;
   gives = λ cells walk. AreCellsOfCube-AreCellsOver
       (lattice_of schema (finest_set (length schema.dimensions) ∷ []) number dictionaries items) cells
+      are.coded.lattice.no_texts
       (AreCellsOver-IsWalkOf schema number dictionaries items schema.grouping_sets kept cells are
-      (λ none. absurd (omega (arith, none, some))) are.coded.lattice.schema.sets_are_of_dimensions masks walk);
+      (λ none. absurd (omega (arith, none, some))) (sets_below (its_schema are.coded.lattice)) masks walk);
 }
 
 -- ---- over no facts
@@ -203,7 +207,7 @@ TakesSets-total {S} takes schema number dictionaries items sets kept t old new a
     long = are.coded.lattice.dictionaries
 
     room : length schema.dimensions ≤ 8
-    room = are.coded.lattice.schema.dimensions_at_most
+    room = few_dimensions (its_schema are.coded.lattice)
 
     all : (cells : CodedCells) → TakesAll takes old cells new
         → All (IsCodedCell dictionaries (length schema.measures)) cells → IsStrictlySortedBy codes_cmp cells

@@ -3,6 +3,7 @@
 ghost use Rattle.std.specs.Prelude.{◌≡◌, ◌+◌, ◌-◌, ◌≤◌, ◌^◌, ◌↔◌, ◌∷◌, [], None, ◌<◌, List, length, reverse, bit_and, All, Contains, IsTrue, IfOk, IfSome, OnOk, OnErr};
 ghost use Rattle.std.specs.List.Sorted.{IsStrictlySortedBy};
 ghost use Rattle.std.specs.Ordering.{nat_cmp};
+ghost use Rattle.cube_core.specs.Layout.{number_of_dimensions};
 ghost use Rattle.cube_core.specs.declared.fact.Fact.{Fact};
 ghost use Rattle.cube_cells.specs.Coded.{coded_at};
 ghost use Rattle.cube_cells.specs.Cube.{IsCubeOf, IsNewLattice, SameSets};
@@ -19,20 +20,20 @@ use cube_values::Numbers;
 use std::alloc::{AllocError, Global};
 
 impl<N: Numbers> Cube<N> {
-    /// The cube of no fact over the finest grouping set alone of a schema, that of all dimensions. The only error is that
-    /// memory ran out.
+    /// The cube of no fact over the finest grouping set alone of a schema, that of all dimensions of the cube. Its own
+    /// schema is the one that [`Schema::cube_schema`] makes of this. The only error is that memory ran out.
     pub fn finest_over(alloc: Global, schema: &Schema) -> Result<Cube<N>, AllocError>
         ensures new { IfOk result (IsNewLattice schema.now
-            (finest_set (length schema.now.dimensions) ∷ [])) }
+            (finest_set (number_of_dimensions schema.now) ∷ [])) }
         ensures cube { IfOk result (λ cube. IsCubeOf cube []) }
     {
-        let sets = vec![in alloc; finest_of(schema.dimensions().len())]?;
-        let schema = schema.copy(alloc)?;
+        let sets = vec![in alloc; finest_of(schema.number_of_dimensions())]?;
         Cube::over(alloc, schema, sets)
     }
 
     /// The same with the schema of this cube.
     pub fn finest(&self) -> Result<Cube<N>, AllocError>
+        ensures schema { IfOk result (λ cube. cube.schema ≡ self.now.schema) }
         ensures new { IfOk result (IsNewLattice self.now.schema
             (finest_set (length self.now.schema.dimensions) ∷ [])) }
         ensures cube { IfOk result (λ cube. IsCubeOf cube []) }

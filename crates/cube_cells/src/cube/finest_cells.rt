@@ -95,10 +95,12 @@ impl<N: Numbers> FinestCells<N> {
         })
     }
 
-    /// The schema of the facts, of which each aggregate can be answered by what the cells keep.
+    /// The schema of the facts, of which each aggregate can be answered by what the cells keep. No text of it is
+    /// counted: the facts have a number for each.
     pub fn schema(&self) -> &Schema
         ensures schema { result.now ≡ self.now.schema }
         ensures numbers { all_suffice N.keeps result.now ≡ true }
+        ensures no_texts { result.now.text_places ≡ [] }
     {
         &self.schema
     }

@@ -1,7 +1,7 @@
 //! The finest cells of many facts at once: each thread gathers a share of the facts, and what the shares have is merged.
 ghost use Rattle.std.specs.Prelude.{◌≡◌, ◌<◌, ◌≤◌, ◌==◌, ◌∷◌, ◌++◌, [], true, filter, get_or, length, map, option_map, All, IfOk, OnOk, List, ℕ, if◌then◌else◌};
 ghost use Rattle.std.specs.List.{AllZip};
-ghost use Rattle.cube_core.specs.Layout.{Layout};
+ghost use Rattle.cube_core.specs.Layout.{Layout, cube_schema};
 ghost use Rattle.cube_core.specs.Takes.{fits};
 ghost use Rattle.cube_core.specs.declared.fact.Fact.{Fact};
 ghost use Rattle.cube_cells.specs.Cube.{SameCells};
@@ -62,10 +62,10 @@ fn gathered_in_shares<T: Threads + Sync, N: Numbers + Send + Sync>(
 ) -> Result<Cube<N>, AllocError>
     requires some { 0 < shares }
     requires few { shares ≤ 8 }
-    requires fit { All (λ fact. fits schema.now fact ≡ true) (map (λ fact. fact.now) facts.now) }
-    ensures { IfOk result (HasGathered schema.now (map (λ fact. fact.now) facts.now)) }
+    requires fit { All (λ fact. fits (cube_schema schema.now) fact ≡ true) (map (λ fact. fact.now) facts.now) }
+    ensures { IfOk result (HasGathered (cube_schema schema.now) (map (λ fact. fact.now) facts.now)) }
 {
-    let marks = shares_of(rt, alloc, schema.dimensions().len(), facts, shares)?;
+    let marks = shares_of(rt, alloc, schema.number_of_dimensions(), facts, shares)?;
     let made = gathered_shares(rt, alloc, schema, facts, &marks, shares)?;
     merged_shares(alloc, schema, all_made(alloc, made)?)
 }
@@ -139,10 +139,10 @@ fn gathered_shares<T: Threads + Sync, N: Numbers + Send + Sync>(
     shares: u32,
 ) -> Result<Vec<Result<Cube<N>, AllocError>>, AllocError>
     requires some { 0 < shares }
-    requires fit { All (λ fact. fits schema.now fact ≡ true) (map (λ fact. fact.now) facts.now) }
+    requires fit { All (λ fact. fits (cube_schema schema.now) fact ≡ true) (map (λ fact. fact.now) facts.now) }
     requires marks { AreMarks shares (map (λ fact. fact.now) facts.now) marks.now }
-    ensures { IfOk result (λ made. AreMade (HasGatheredShare schema.now (map (λ fact. fact.now) facts.now) shares)
-        shares made.items) }
+    ensures { IfOk result (λ made. AreMade
+        (HasGatheredShare (cube_schema schema.now) (map (λ fact. fact.now) facts.now) shares) shares made.items) }
 {
     map_indices(
         rt,
@@ -159,9 +159,9 @@ fn merged_shares<N: Numbers>(
     cubes: Vec<Cube<N>>,
 ) -> Result<Cube<N>, AllocError>
     requires some { 0 < length cubes.items }
-    requires shares { (facts : List Fact) × AreShares schema.now facts cubes.items }
-    ensures { IfOk result (λ cube. (facts : List Fact) → AreShares schema.now facts cubes.items →
-        HasGathered schema.now facts cube) }
+    requires shares { (facts : List Fact) × AreShares (cube_schema schema.now) facts cubes.items }
+    ensures { IfOk result (λ cube. (facts : List Fact) → AreShares (cube_schema schema.now) facts cubes.items →
+        HasGathered (cube_schema schema.now) facts cube) }
 {
     let mut whole = Cube::finest_over(alloc, schema)?;
     for cube in cubes {
@@ -192,10 +192,10 @@ fn gathered_share<N: Numbers>(
     marks: &[u8],
     share: u32,
 ) -> Result<Cube<N>, AllocError>
-    requires fit { All (λ fact. fits schema.now fact ≡ true) (map (λ fact. fact.now) facts.now) }
+    requires fit { All (λ fact. fits (cube_schema schema.now) fact ≡ true) (map (λ fact. fact.now) facts.now) }
     requires marks { (shares : ℕ) × AreMarks shares (map (λ fact. fact.now) facts.now) marks.now }
     ensures { IfOk result (λ cube. (shares : ℕ) → AreMarks shares (map (λ fact. fact.now) facts.now) marks.now →
-        HasGatheredShare schema.now (map (λ fact. fact.now) facts.now) shares share cube) }
+        HasGatheredShare (cube_schema schema.now) (map (λ fact. fact.now) facts.now) shares share cube) }
 {
     let mut cube = Cube::finest_over(alloc, schema)?;
     let mut picked = Vec::new(alloc);

@@ -196,7 +196,7 @@ fn nulls_in(alloc: Global, feed: &Table) -> Result<Option<Vec<Text>>, AllocError
     }
 }
 
-fn texts_value(alloc: Global, value: &Value) -> Result<Option<Vec<Text>>, AllocError>
+pub(super) fn texts_value(alloc: Global, value: &Value) -> Result<Option<Vec<Text>>, AllocError>
     ensures { IfOk result (λ found.
         option_map (λ texts. texts.items) found ≡ texts_value (view value.now)) }
 {
@@ -235,7 +235,7 @@ fn is_name(key: &str, dimensions: &[Text], measures: &[Text]) -> bool
     is_text_in(key, dimensions) || is_text_in(key, measures)
 }
 
-fn is_text_in(key: &str, names: &[Text]) -> bool
+pub(super) fn is_text_in(key: &str, names: &[Text]) -> bool
     ensures { result ≡ is_listed key.now names.now }
 {
     names.iter().any(|name| key == name.as_str())

@@ -1,6 +1,6 @@
 use Rattle.std.proofs.Common.{◌+◌, ◌∷◌, [], drop, rules}
 use Rattle.std.proofs.lemmas.List.{drop_all}
-use Rattle.cube_build.proofs.FillLaws.{GainsFacts-all, IsFilling-more}
+use Rattle.cube_build.proofs.FillLaws.{GainsCounted-all, IsFilling-more}
 use Rattle.cube_build.proofs.PartedLaws.{next-fact}
 use Rattle.cube_build.proofs.parted.add_all.Goals as goal
 
@@ -16,5 +16,5 @@ loop-fact-preserved c =
 pub returns : goal.returns
 returns c =
     let facts = c.args.facts.now in
-    GainsFacts-all facts (drop c.loop-fact.fact-index facts) c.args.cube.now c.loop-fact.cube
+    GainsCounted-all facts (drop c.loop-fact.fact-index facts) c.args.cube.now c.loop-fact.cube
     (drop_all c.loop-fact.fact-index facts (search rules)) c.loop-fact.invariant

@@ -1,12 +1,10 @@
-use Rattle.std.proofs.Common.{sym, subst}
-use Rattle.cube_core.specs.Layout.{Layout}
-use Rattle.cube_ledger.specs.Ledger.{AllFit}
-use Rattle.cube_build.proofs.PartedLaws.{Settles-both, has-gone}
+use Rattle.cube_build.proofs.PartedLaws.{AllFitCounted-same, Settles-both, has-gone}
 use Rattle.cube_build.proofs.parted.settle_cube.Goals as goal
 
 pub take_all-requires-clause-fit : goal.take_all-requires-clause-fit
 take_all-requires-clause-fit c =
-    subst (λ (s : Layout). AllFit s c.args.gone.now) (sym c.in_ok-add_all.ensures.same.schema) c.requires.gone_fit
+    AllFitCounted-same c.args.cube.now c.add_all.new.cube c.args.gone.now c.in_ok-add_all.ensures.same
+    c.requires.gone_fit
 
 pub take_all-requires-clause-has : goal.take_all-requires-clause-has
 take_all-requires-clause-has c = (

@@ -1,8 +1,8 @@
 use Rattle.std.proofs.Common.{◌≡◌, ◌∙◌, ap, subst, sym}
-use Rattle.cube_core.specs.Layout.{Layout}
-use Rattle.cube_cells.specs.Fill.{IsCubeOfAll}
+use Rattle.cube_core.specs.Layout.{Layout, cube_schema}
 use Rattle.cube_ledger.specs.Interest.{ledger_of_interest}
 use Rattle.cube_ledger.specs.Ledger.{LedgerView, all_facts}
+use Rattle.cube_build.specs.Builder.{HasFacts}
 use Rattle.cube_build.specs.Sharded.{HasRefusals, united}
 use Rattle.cube_build.proofs.UnitedLaws.{united-are, united-counts}
 use Rattle.cube_build.proofs.united.unite.Given.{Over}
@@ -14,16 +14,17 @@ has : (g : Over) (c : In_ok-cube-2 g) → HasRefusals c.args.apart.schema c.in_o
 has g c = subst (λ (s : Layout). HasRefusals s c.in_ok-refused.ensures.0 c.in_ok-refused.refused) (sym c.requires.schema)
     c.in_ok-refused.ensures.2
 
-schema : (g : Over) (c : In_ok-cube-2 g) → c.in_ok-cube-2.cube.schema ≡ c.args.apart.schema
+schema : (g : Over) (c : In_ok-cube-2 g) → c.in_ok-cube-2.cube.schema ≡ cube_schema c.args.apart.schema
 schema g c =
-    c.in_ok-cube-2.ensures.schema ∙ c.in_ok-cube.ensures.new.schema_is ∙ c.schema.ensures.value
-    ∙ ap (λ (l : LedgerView). l.schema) c.keep.ensures
+    c.in_ok-cube-2.ensures.schema ∙ c.in_ok-cube.ensures.new.schema_is ∙ ap cube_schema c.schema.ensures.value
+    ∙ ap (λ (l : LedgerView). cube_schema l.schema) c.keep.ensures
 
 -- the cube has the facts of interest
 facts : (g : Over) (c : In_ok-cube-2 g) →
-    IsCubeOfAll (all_facts (ledger_of_interest c.args.conditions.now c.args.apart).accounts) c.in_ok-cube-2.cube
-facts g c = subst (λ (l : LedgerView). IsCubeOfAll (all_facts l.accounts) c.in_ok-cube-2.cube) c.keep.ensures
-    c.in_ok-cube-2.ensures.facts
+    HasFacts c.args.apart.schema (all_facts (ledger_of_interest c.args.conditions.now c.args.apart).accounts)
+    c.in_ok-cube-2.cube
+facts g c = subst (λ (l : LedgerView). HasFacts l.schema (all_facts l.accounts) c.in_ok-cube-2.cube) c.keep.ensures
+    c.in_ok-cube-2.ensures.has
 
 pub new-requires : goal.new-requires
 new-requires g c =

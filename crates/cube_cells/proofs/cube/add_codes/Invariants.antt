@@ -7,8 +7,8 @@ use Rattle.cube_cells.proofs.cube.add_codes.Given as goal
 abbrev pub invariant-loop-place : goal.invariant-loop-place
 invariant-loop-place l = record {
   eight : length l.codes ≡ 8;
-  codes : AreCodesOf (take l.place l.dictionaries) (take l.place (map coord_of_value l.fact.dims)) l.codes;
+  codes : AreCodesOf (take l.place l.dictionaries) (take l.place (map coord_of_value (take (length l.initial.dictionaries) l.values))) l.codes;
   valid : are_codes (take l.place l.dictionaries) l.codes ≡ true;
-  texts : AddsTextsBelow l.place l.fact.dims l.initial.dictionaries l.dictionaries;
+  texts : AddsTextsBelow l.place (take (length l.initial.dictionaries) l.values) l.initial.dictionaries l.dictionaries;
   dictionaries : All IsDictionary l.initial.dictionaries → All IsDictionary l.dictionaries;
 }

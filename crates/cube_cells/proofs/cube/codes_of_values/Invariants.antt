@@ -5,5 +5,5 @@ use Rattle.cube_cells.proofs.cube.codes_of_values.Given as goal
 abbrev pub invariant-loop-place : goal.invariant-loop-place
 invariant-loop-place l = record {
   eight : length l.codes ≡ 8;
-  codes : AreCodesOf (take l.place l.dictionaries) (take l.place (map coord_of_value l.values)) l.codes;
+  codes : AreCodesOf (take l.place l.dictionaries) (take l.place (map coord_of_value (take (length l.dictionaries) l.values))) l.codes;
 }

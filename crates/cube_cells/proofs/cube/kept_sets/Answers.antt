@@ -8,7 +8,7 @@ use Rattle.cube_cells.proofs.cube.kept_sets.Goals as goal
 pub loop-set-preserved : goal.loop-set-preserved
 loop-set-preserved c =
     let i = c.loop-set.set-index in
-    let chosen = c.grouping_sets-chosen.result.now in
+    let chosen = c.args.chosen.now in
     let is_kept : ℕ → Bool = λ set. part_of c.args.of set == c.args.part in
     let inside : i < length chosen = omega (arith, c.loop-set-test.true) in
     (rw (c.part_of.ensures, c.loop-set.invariant) at c.in_ok-push_kept.ensures)

@@ -11,6 +11,6 @@ returns-clause-line c =
     let ended = (c.in_ok-end_by_comma.ensures {u = tt}) on in
     let of_schema : IsRightRow c.args.schema.now row = search rules in
     let some : 1 ≤ length row.key.coords =
-    omega (arith, of_schema.lawful.coords, c.dimensions.ensures.schema.some_dimension) in
+    omega (arith, of_schema.lawful.coords, c.number_of_dimensions.ensures.schema.some_dimension) in
     let told : 1 ≤ length row.key.coords → EndsLine c.end_by_comma.new.line.items (row_line c.args.schema.now row) = search rules in
     told some ended.0 ended.2 ∙ sym ended.1

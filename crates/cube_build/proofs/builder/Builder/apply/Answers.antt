@@ -1,6 +1,6 @@
 use Rattle.std.proofs.Common.{◌≡◌, ◌≤◌, ◌∙◌, Some, None, length, refl, sym}
 use Rattle.std.proofs.lemmas.Result.{on_ok_weaker, on_err_weaker}
-use Rattle.cube_build.proofs.BuilderLaws.{IsBuilder-refuse, StandsAt-Enters}
+use Rattle.cube_build.proofs.BuilderLaws.{IsBuilder-has, IsBuilder-refuse, StandsAt-Enters}
 use Rattle.cube_ledger.proofs.RulingLaws.{AtSource-Obeys, AtSource-length, AtSource-put, AtSource-take}
 use Rattle.cube_ledger.proofs.RulingLaws.{IsRemoval-refused, IsRemoval-puts}
 use Rattle.cube_ledger.specs.Ledger.{account_of}
@@ -22,10 +22,10 @@ returns-in-Refuse-clause-stands c =
     let ruling = rw c.in-Refuse.is at c.in_ok-code.ensures.ruling in
     rw (← c.self.view_is)
     (on_ok_weaker c.refuse.result
-    (λ at. StandsAt-Enters (record { ledger = old; cube = c.self.inside.cube })
-    (record { ledger = c.refuse.new.self; cube = c.self.inside.cube }) c.args.source c.args.item c.requires.first last
+    (λ at. StandsAt-Enters (record { ledger = old; cube = c.self.inside.cube.cube })
+    (record { ledger = c.refuse.new.self; cube = c.self.inside.cube.cube }) c.args.source c.args.item c.requires.first last
     (AtSource-Obeys c.args.item c.args.source old c.refuse.new.self (Refuse c.in-Refuse.code) ruling at)
-    (invariant_of-self c).has)
+    (IsBuilder-has c.refuse.new.self c.self.inside.cube (invariant_of-self c)))
     c.refuse.ensures.ok)
 
 pub returns-in-Put-clause-stands : goal.returns-in-Put-clause-stands
@@ -35,7 +35,7 @@ returns-in-Put-clause-stands c =
     let ruling = rw c.in-Put.is at c.in_ok-code.ensures.ruling in
     rw (← c.self.view_is)
     (OnOk-both c.put.result
-    (λ put has. StandsAt-Enters (record { ledger = old; cube = c.self.inside.cube })
+    (λ put has. StandsAt-Enters (record { ledger = old; cube = c.self.inside.cube.cube })
     c.put.new.self c.args.source c.args.item c.requires.first last
     (AtSource-Obeys c.args.item c.args.source old c.put.new.self.ledger (Put c.in-Put.id c.in-Put.fact) ruling
     (AtSource-put c.args.item.number c.in-Put.id put.0 c.in-Put.fact c.args.source old c.put.new.self.ledger put.1))
@@ -49,7 +49,7 @@ returns-in-Take-clause-stands c =
     let ruling = rw c.in-Take.is at c.in_ok-code.ensures.ruling in
     let taken = rw (← c.self.view_is) at c.take.ensures.take in
     rw (← c.self.view_is)
-    (StandsAt-Enters (record { ledger = old; cube = c.self.inside.cube })
+    (StandsAt-Enters (record { ledger = old; cube = c.self.inside.cube.cube })
     c.take.new.self c.args.source c.args.item c.requires.first last
     (AtSource-Obeys c.args.item c.args.source old c.take.new.self.ledger (Take c.in-Take.id) ruling
     (AtSource-take c.args.item.number c.in-Take.id taken.0 c.args.source old c.take.new.self.ledger taken.1))

@@ -1,6 +1,7 @@
 use Rattle.std.proofs.Common.{rules, ◌≡◌, ◌<◌, ◌∙◌, length, sym}
 use Rattle.std.specs.Prelude.{None}
 use Rattle.cube_core.specs.Query.{drill_fault}
+use Rattle.cube_core.proofs.CubeSchemaLaws.{cube_schema-dimensions}
 use Rattle.cube_build.specs.Parts.{schema_of_run}
 use Rattle.cube_build.proofs.PartLaws.{each-schema, of-one}
 use Rattle.cube_build.proofs.built.Built.drill_down.Goals as goal
@@ -11,7 +12,9 @@ rows_of_parts-requires-clause-parts c = of-one c.builders.ensures.parts
 pub rows_of_parts-requires-clause-can_ask : goal.rows_of_parts-requires-clause-can_ask
 rows_of_parts-requires-clause-can_ask c =
     each-schema (λ s. (c.args.dim < length s.dimensions) × (length c.args.key.now.coords ≡ length s.dimensions))
-    c.builders.ensures.parts (rw c.builders.ensures.builders (c.requires.dim, c.requires.width))
+    c.builders.ensures.parts
+    (rw (c.builders.ensures.builders, cube_schema-dimensions (schema_of_run c.args.self.now))
+    (c.requires.dim, c.requires.width))
 
 pub returns : goal.returns
 returns c =

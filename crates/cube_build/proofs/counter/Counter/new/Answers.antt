@@ -7,8 +7,8 @@ pub invariant_of-result : goal.invariant_of-result
 invariant_of-result g c =
     counter-new c.args.conditions.now c.in_ok-refused.refused c.of-trace.result.ledger c.args.sources
     c.in_ok-weights.weights.items c.args.schema.now c.in_ok-cube.cube c.of-trace.ensures
-    c.in_ok-refused.ensures.accounts (search rules) (sym c.in_ok-refused.ensures.schema) c.in_ok-cube.ensures.new
-    c.in_ok-cube.ensures.cube
+    c.in_ok-refused.ensures.accounts (search rules) (sym c.in_ok-refused.ensures.schema)
+    c.requires.plain c.in_ok-cube.ensures.new c.in_ok-cube.ensures.cube
 
 pub returns : goal.returns
 returns g c = record {

@@ -9,7 +9,7 @@ use Rattle.cube_build.proofs.draft.Draft.finest.Goals as goal
 has : (g : Over) (c : In_ok-cube g) → HaveFactsOf c.self.inside.ledger c.in_ok-cube.cube
 has g c = record {
   schema = c.in_ok-cube.ensures.schema ∙ c.self.invariant.schema;
-  facts = c.in_ok-cube.ensures.facts;
+  has = c.in_ok-cube.ensures.has;
 }
 
 pub new-requires : goal.new-requires

@@ -2,8 +2,16 @@ use Rattle.std.proofs.Common.{◌≡◌, ◌<◌, ◌++◌, ◌∙◌, ℕ, fals
 use Rattle.cube_cells.proofs.Tallies.ValueLaws.{take-append-drop}
 use Rattle.cube_build.specs.Parted.{AllSettle}
 use Rattle.cube_build.specs.declared.parted.Part.{Part}
-use Rattle.cube_build.proofs.PartedLaws.{AreBehind-settled}
+use Rattle.cube_build.proofs.PartedLaws.{AreBehind-settled, MaySettle-behind}
 use Rattle.cube_build.proofs.parted.Parted.settle.Goals as goal
+
+pub settle_parts-requires-clause-each : goal.settle_parts-requires-clause-each
+settle_parts-requires-clause-each g c = λ lifetimes live part d below.
+    let fresh : c.self.inside.is_out_of_date ≡ false = search rules in
+    let inside : part < length c.self.inside.parts.items = rw c.as_mut_slice.ensures.value at below in
+    rw (c.as_slice.ensures.value, c.as_slice-2.ensures.value, c.as_mut_slice.ensures.value)
+    (MaySettle-behind c.self.inside.ledger c.self.inside.parts.items c.self.inside.come.items c.self.inside.gone.items
+    part d inside (c.self.invariant fresh))
 
 pub invariant_of-self-else-is_any_spent : goal.invariant_of-self-else-is_any_spent
 invariant_of-self-else-is_any_spent g c = λ fresh.

@@ -1,5 +1,4 @@
 use Rattle.cube_core.proofs.SufficesLaws.{all_suffice_kept}
-use Rattle.cube_ledger.specs.Ledger.{all_facts}
 use Rattle.cube_build.specs.Counting.{HaveFactsOf}
 use Rattle.cube_build.proofs.TakenLaws.{counts-all, finest-has, finest-taken}
 use Rattle.cube_build.proofs.taken.Taken.of_numbers.Given.{Over}
@@ -11,7 +10,7 @@ of-requires-clause-sets g c = λ lifetimes live. rw c.into_parts-refused.ensures
 
 pub of-requires-clause-facts : goal.of-requires-clause-facts
 of-requires-clause-facts g c = λ lifetimes live. (
-  all_facts c.into_parts-refused.result.2.ledger.accounts,
+  _,
   counts-all c.into_parts-refused.result.0 c.into_parts-refused.result.2.ledger c.into_parts-refused.result.1 c.into_parts-refused.ensures.are,
 )
 

@@ -1,6 +1,8 @@
 use Rattle.std.proofs.Common.{◌∙◌, ap, false}
-use Rattle.cube_core.specs.Layout.{Layout, all_suffice}
-use Rattle.cube_ledger.specs.Ledger.{LedgerView, all_facts}
+use Rattle.std.specs.List.{list_all}
+use Rattle.cube_core.specs.Layout.{Layout, all_suffice, cube_schema, suffices}
+use Rattle.cube_core.proofs.CubeSchemaLaws.{cube_schema-aggregates}
+use Rattle.cube_ledger.specs.Ledger.{LedgerView}
 use Rattle.cube_build.specs.Counting.{HaveFactsOf}
 use Rattle.cube_build.proofs.TakenLaws.{counts-all, finest-has, finest-taken}
 use Rattle.cube_build.proofs.taken.Taken.of_summaries.Given.{Over}
@@ -12,14 +14,16 @@ of-requires-clause-sets g c = λ lifetimes live. rw c.into_parts-refused.ensures
 
 pub of-requires-clause-facts : goal.of-requires-clause-facts
 of-requires-clause-facts g c = λ lifetimes live. (
-  all_facts c.into_parts-refused.result.2.ledger.accounts,
+  _,
   counts-all c.into_parts-refused.result.0 c.into_parts-refused.result.2.ledger c.into_parts-refused.result.1 c.into_parts-refused.ensures.are,
 )
 
 pub of-requires-clause-numbers : goal.of-requires-clause-numbers
 of-requires-clause-numbers g c = λ lifetimes live.
     ap (λ (s : Layout). all_suffice false s)
-    (c.into_parts-refused.ensures.are.schema ∙ ap (λ (l : LedgerView). l.schema) c.into_parts-refused.ensures.ledger)
+    (c.into_parts-refused.ensures.are.cells.schema
+    ∙ ap (λ (l : LedgerView). cube_schema l.schema) c.into_parts-refused.ensures.ledger)
+    ∙ ap (list_all (suffices false)) (cube_schema-aggregates c.args.part.builder.ledger.schema)
     ∙ c.requires.numbers
 
 -- the finest cells have the facts of the ledger

@@ -1,6 +1,8 @@
 use Rattle.std.proofs.Common.{List, ◌≡◌, ◌++◌, ap, arith, drop, length, map, rules, take, true, ℕ}
 use Rattle.std.specs.Prelude.{All, Err, IfOk, OnErr, OnOk, Ok, Option, Result}
+use Rattle.std.proofs.lemmas.List.{take_all}
 use Rattle.cube_core.specs.declared.fact.Fact.{Fact}
+use Rattle.cube_core.proofs.CellKeyLaws.{fits-length}
 use Rattle.cube_cells.specs.Codes.{AreCodesOf, Dictionaries, IsDictionary, are_codes, coord_of_value}
 use Rattle.cube_cells.specs.Cube.{AddsTexts, MayAddTexts}
 use Rattle.cube_cells.specs.Gathered.{AreCodesOfFact}
@@ -28,11 +30,20 @@ AreGrown-either : {E : Type 0} (result : Result Codes E) (values : List (Option 
 AreGrown-either (Ok codes) values old new lengths adds may = AreGrown-AddsTexts values old new lengths adds
 AreGrown-either (Err fault) values old new lengths adds may = AreGrown-MayAddTexts values old new lengths may
 
+-- the values of the fact are as many as the dictionaries
+values : (g : Over) (c : After-add_codes g)
+    → take (length c.self.inside.dictionaries.items) c.args.fact.now.dims ≡ c.args.fact.now.dims
+values g c = take_all (length c.self.inside.dictionaries.items) c.args.fact.now.dims (omega (
+  arith,
+  fits-length c.self.inside.schema c.args.fact.now (rw (← c.self.view_is) at c.requires.fits),
+  c.self.invariant.coded.lattice.dictionaries,
+))
+
 grown : (g : Over) (c : After-add_codes g) → AreGrown c.self.inside.dictionaries.items c.add_codes.new.dictionaries
 grown g c = AreGrown-either c.add_codes.result c.args.fact.now.dims c.self.inside.dictionaries.items
     c.add_codes.new.dictionaries (omega (arith, ap length c.deref_mut.ensures.value))
-    (rw c.deref_mut.ensures.value at c.add_codes.ensures.texts)
-    (rw c.deref_mut.ensures.value at c.add_codes.ensures.err)
+    (rw (c.deref_mut.ensures.value, values g c) at c.add_codes.ensures.texts)
+    (rw (c.deref_mut.ensures.value, values g c) at c.add_codes.ensures.err)
 
 all : (g : Over) (c : After-add_codes g) → All IsDictionary c.add_codes.new.dictionaries
 all g c = (rw c.deref_mut.ensures.value at c.add_codes.ensures.dictionaries) c.self.invariant.coded.texts
@@ -61,4 +72,4 @@ pub returns-clause-codes : goal.returns-clause-codes
 returns-clause-codes g c =
     let after = (goal.at.returns-clause-codes g c).After-add_codes in
     rw (back g after) (IfOk-AreCodesOfFact c.add_codes.result c.add_codes.new.dictionaries c.args.fact.now
-    c.add_codes.ensures.codes c.add_codes.ensures.valid c.add_codes.ensures.eight)
+    (rw (c.deref_mut.ensures.value, values g after) at c.add_codes.ensures.codes) c.add_codes.ensures.valid c.add_codes.ensures.eight)

@@ -4,6 +4,7 @@ use Rattle.cube_cells.specs.Cube.{AddsFact}
 use Rattle.cube_cells.specs.Levels.{IsLeveled, cells_of}
 use Rattle.cube_cells.specs.declared.cube.levels.Level.{Level}
 use Rattle.cube_cells.proofs.Cells.LeveledLaws.{All-HasRoomInLevel, IsLeveled-AddsFact, IsLeveled-none}
+use Rattle.cube_cells.proofs.Cells.SchemaLaws.{its_schema}
 use Rattle.cube_cells.proofs.Cells.StepLaws.{HasNewCodes}
 use Rattle.cube_cells.proofs.Codes.GrowthLaws.{AreGrown-refl}
 use Rattle.cube_cells.proofs.Tallies.ValueLaws.{take-append-drop}
@@ -40,7 +41,7 @@ gather_in_sets-requires g c =
 -- ---- no room for a cell
 pub invariant_of-self : goal.invariant_of-self
 invariant_of-self g c =
-    IsLeveled-none c.self.inside.schema _ c.self.inside.dictionaries.items _ c.self.invariant.coded.lattice.schema
+    IsLeveled-none c.self.inside.schema _ c.self.inside.dictionaries.items _ (its_schema c.self.invariant.coded.lattice)
     c.self.invariant.coded.lattice.dictionaries c.self.invariant.coded.texts (search rules) (search rules)
 
 -- ---- the fact is added

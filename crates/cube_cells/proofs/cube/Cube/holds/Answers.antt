@@ -1,5 +1,7 @@
-use Rattle.std.proofs.Common.{arith, refl, sym, ◌≡◌, true}
+use Rattle.std.proofs.Common.{arith, length, refl, sym, take, ◌≡◌, true}
+use Rattle.std.proofs.lemmas.List.{take_all}
 use Rattle.cube_core.specs.Takes.{fits}
+use Rattle.cube_core.proofs.CellKeyLaws.{fits-length}
 use Rattle.cube_cells.proofs.Cells.CubeLaws.{HoldsFact-IsCubeOf}
 use Rattle.cube_cells.proofs.Codes.KeyLaws.{HasFactCodes}
 use Rattle.cube_cells.proofs.Cells.LeveledLaws.{list_all-level_holds}
@@ -16,8 +18,11 @@ returns-clause-held c =
     let cells = (cells_of c.self.inside.levels.items) in
     let codes = c.codes_of_values-codes.result in
     let fit : fits schema c.args.fact.now ≡ true = sym c.if-not-fits.ensures in
+    let values : take (length dictionaries) c.args.fact.now.dims ≡ c.args.fact.now.dims =
+    take_all (length dictionaries) c.args.fact.now.dims
+    (omega (arith, fits-length schema c.args.fact.now fit, c.self.invariant.coded.lattice.dictionaries)) in
     let has : HasFactCodes dictionaries c.args.fact.now codes = record {
-      are = rw c.deref.ensures.value at c.codes_of_values-codes.ensures.codes;
+      are = rw (c.deref.ensures.value, values) at c.codes_of_values-codes.ensures.codes;
       eight = c.codes_of_values-codes.ensures.eight;
     } in
     let of = IsCodedFact-IsCoded schema sets facts dictionaries dictionaries cells c.args.fact.now codes

@@ -1,6 +1,7 @@
 use Rattle.std.proofs.Common.{arith, ◌≡◌, ◌==◌, ◌+◌, Bool, List, map, take, true}
 use Rattle.std.proofs.lemmas.List.{length-map, take_all}
 use Rattle.std.proofs.lemmas.List.Elements.{All-filter}
+use Rattle.cube_core.specs.Layout.{cube_schema}
 use Rattle.cube_core.specs.Takes.{fits}
 use Rattle.cube_core.specs.declared.fact.Fact.{Fact}
 use Rattle.cube_cells.specs.Gathered.{share_of_fact}
@@ -23,16 +24,17 @@ pick-requires g c =
 
 pub gather_lot-requires : goal.gather_lot-requires
 gather_lot-requires g c =
+    let schema = cube_schema c.args.schema.now in
     let shares = c.requires.marks.0 in
     let end = c.loop-done.done + c.min.result in
     let p : Fact → Bool = λ fact. share_of_fact shares fact == c.args.share in
-    let fit = All-range (λ f. fits c.args.schema.now f ≡ true) c.args.facts.now c.loop-done.done end c.requires.fit in
+    let fit = All-range (λ f. fits schema f ≡ true) c.args.facts.now c.loop-done.done end c.requires.fit in
     let are = AreMarks-range shares c.args.facts.now c.args.marks.now c.loop-done.done end c.requires.marks.1 in
     rw (
       (c.loop-done.invariant.has shares c.requires.marks.1).schema_is,
       c.deref.ensures.value,
       c.in_ok-pick.ensures shares are,
-    ) (All-filter p (λ f. fits c.args.schema.now f ≡ true) _ fit)
+    ) (All-filter p (λ f. fits schema f ≡ true) _ fit)
 
 pub loop-done-preserved : goal.loop-done-preserved
 loop-done-preserved g c = record {
@@ -40,7 +42,7 @@ loop-done-preserved g c = record {
   has = λ shares marks.
       let end = c.loop-done.done + c.min.result in
       let are = AreMarks-range shares c.args.facts.now c.args.marks.now c.loop-done.done end marks in
-      HasGathered-range c.args.schema.now (λ fact. share_of_fact shares fact == c.args.share)
+      HasGathered-range (cube_schema c.args.schema.now) (λ fact. share_of_fact shares fact == c.args.share)
       c.args.facts.now c.loop-done.done end c.loop-done.cube c.gather_lot.new.cube
       (omega arith) (c.loop-done.invariant.has shares marks)
       (rw (c.deref.ensures.value, c.in_ok-pick.ensures shares are) at c.in_ok-gather_lot.ensures);

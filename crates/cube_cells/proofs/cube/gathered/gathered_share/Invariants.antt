@@ -1,4 +1,5 @@
 use Rattle.std.proofs.Common.{◌≤◌, ◌-◌, ℕ, length, map, take}
+use Rattle.cube_core.specs.Layout.{cube_schema}
 use Rattle.cube_cells.specs.Gathered.{AreMarks, HasGatheredShare}
 use Rattle.cube_cells.proofs.cube.gathered.gathered_share.Given as goal
 
@@ -6,7 +7,7 @@ abbrev pub invariant-loop-done : goal.invariant-loop-done
 invariant-loop-done g l = record {
   within : l.done ≤ length l.facts;
   has : (shares : ℕ) → AreMarks shares (map (λ fact. fact.now) l.facts) l.marks
-      → HasGatheredShare l.schema (take l.done (map (λ fact. fact.now) l.facts)) shares l.share l.cube;
+      → HasGatheredShare (cube_schema l.schema) (take l.done (map (λ fact. fact.now) l.facts)) shares l.share l.cube;
 }
 
 abbrev pub decreases-loop-done : goal.decreases-loop-done

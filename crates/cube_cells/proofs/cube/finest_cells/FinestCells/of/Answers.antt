@@ -3,6 +3,7 @@ use Rattle.std.proofs.lemmas.Slice.Zip.{AllZip-long}
 use Rattle.cube_cells.specs.Coded.{IsCoded, lattice_of}
 use Rattle.cube_cells.specs.Fill.{IsCubeOfAll, finest_set}
 use Rattle.cube_cells.specs.Ranking.{IsRanking}
+use Rattle.cube_cells.proofs.Cells.SchemaLaws.{few_dimensions, its_schema}
 use Rattle.cube_cells.proofs.Cells.LeveledLaws.{sole_level}
 use Rattle.cube_cells.proofs.Filling.RankedLaws.{AreToWalk-ranked, IsCubeOfAll-ranked}
 use Rattle.cube_cells.proofs.cube.finest_cells.FinestCells.of.Goals as goal
@@ -12,7 +13,7 @@ items_in_order-requires-clause-few g c = rw c.deref.ensures.value (omega (
   arith,
   AllZip-long IsRanking c.finest.inside.dictionaries.items c.in_ok-ranked.ranked.items c.in_ok-ranked.ensures,
   c.finest.invariant.coded.lattice.dictionaries,
-  c.finest.invariant.coded.lattice.schema.dimensions_at_most,
+  few_dimensions (its_schema c.finest.invariant.coded.lattice),
 ))
 
 pub invariant_of-result : goal.invariant_of-result

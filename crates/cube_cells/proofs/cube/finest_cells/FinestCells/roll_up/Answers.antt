@@ -4,6 +4,7 @@ use Rattle.cube_core.specs.declared.key.Coord.TheVariants as coord
 use Rattle.cube_core.specs.declared.key.Key.{Key}
 use Rattle.cube_cells.specs.Cube.{Lattice}
 use Rattle.cube_cells.specs.Rows.{AreWantsBelow}
+use Rattle.cube_cells.proofs.Cells.SchemaLaws.{few_dimensions, its_schema}
 use Rattle.cube_cells.proofs.Rows.DrillLaws.{AreWantsOf-itself}
 use Rattle.cube_cells.proofs.Rows.FinestRowLaws.{IsRowOver-last}
 use Rattle.cube_cells.proofs.cube.finest_cells.FinestCells.roll_up.Goals as goal
@@ -22,7 +23,7 @@ rows_where-requires g c = rw c.deref.ensures.value (omega (
   c.in_ok-wants.ensures.long,
   ap (λ (l : Lattice). length l.dictionaries) c.self.view_is,
   c.self.invariant.0.coded.lattice.dictionaries,
-  c.self.invariant.0.coded.lattice.schema.dimensions_at_most,
+  few_dimensions (its_schema c.self.invariant.0.coded.lattice),
 ))
 
 pub returns : goal.returns

@@ -3,6 +3,7 @@ use Rattle.std.proofs.lemmas.Result.{IfOk-weaker}
 use Rattle.cube_core.specs.Query.{drills_down}
 use Rattle.cube_cells.specs.Cube.{Lattice}
 use Rattle.cube_cells.specs.Rows.{AreWantsBelow, AreWantsOf}
+use Rattle.cube_cells.proofs.Cells.SchemaLaws.{few_dimensions, its_schema}
 use Rattle.cube_cells.proofs.Rows.DrillLaws.{AreWantsOf-drills_down}
 use Rattle.cube_cells.proofs.cube.finest_cells.FinestCells.rows_under.Goals as goal
 
@@ -18,7 +19,7 @@ rows_where-requires g c = rw c.deref.ensures.value (omega (
   c.in_ok-wants.ensures.long,
   ap (λ (l : Lattice). length l.dictionaries) c.self.view_is,
   c.self.invariant.0.coded.lattice.dictionaries,
-  c.self.invariant.0.coded.lattice.schema.dimensions_at_most,
+  few_dimensions (its_schema c.self.invariant.0.coded.lattice),
 ))
 
 pub returns : goal.returns

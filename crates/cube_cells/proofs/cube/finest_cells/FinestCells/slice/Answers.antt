@@ -3,6 +3,7 @@ use Rattle.std.proofs.lemmas.Result.{IfOk-weaker}
 use Rattle.cube_core.specs.Query.{matches}
 use Rattle.cube_cells.specs.BottomUp.{cells_of_items}
 use Rattle.cube_cells.specs.Rows.{AreWantsMatched, AreWantsOf}
+use Rattle.cube_cells.proofs.Cells.SchemaLaws.{few_dimensions, its_schema}
 use Rattle.cube_cells.proofs.Rows.FinestRowLaws.{AreRowsWhere-nil}
 use Rattle.cube_cells.proofs.Rows.SliceLaws.{AreWantsOf-AreWantsMatched, matches-length}
 use Rattle.cube_cells.proofs.cube.finest_cells.FinestCells.slice.Goals as goal
@@ -26,7 +27,7 @@ rows_where-requires g c = rw c.deref.ensures.value (omega (
   c.in_ok-wants.ensures.long,
   ap (λ l. length l.dictionaries) c.self.view_is,
   c.self.invariant.0.coded.lattice.dictionaries,
-  c.self.invariant.0.coded.lattice.schema.dimensions_at_most,
+  few_dimensions (its_schema c.self.invariant.0.coded.lattice),
 ))
 
 pub returns : goal.returns

@@ -4,6 +4,7 @@ use Rattle.std.proofs.lemmas.Result.{IfOk-weaker}
 use Rattle.std.proofs.lemmas.Slice.Zip.{AllZip-long}
 use Rattle.cube_cells.specs.Ranks.{AreRanks}
 use Rattle.cube_cells.specs.Rows.{IsRowOf}
+use Rattle.cube_cells.proofs.Cells.SchemaLaws.{few_dimensions, its_schema}
 use Rattle.cube_cells.proofs.Rows.RowLaws.{AreRowsOf-ranks_of, is_aggregate_of-IsPermutation}
 use Rattle.cube_cells.proofs.cube.rows.Cube.ordered_where.Goals as goal
 
@@ -17,7 +18,7 @@ places_in_order-requires c =
       long,
       ap (λ (xs : List (List ℕ)). length xs) c.deref-2.ensures.value,
       c.self.invariant.coded.lattice.dictionaries,
-      c.self.invariant.coded.lattice.schema.dimensions_at_most,
+      few_dimensions (its_schema c.self.invariant.coded.lattice),
     )
 
 pub of-requires-clause-aggregates : goal.of-requires-clause-aggregates
