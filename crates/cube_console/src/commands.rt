@@ -7,7 +7,7 @@ dimensions. Each feed is a CSV file of inserts, updates and deletes; the cube is
 which are present in the end.";
 
 /// The program's version, by the rules of Semantic Versioning 2.0.0. It stands here alone.
-pub(crate) const VERSION: &str = "1.31.0";
+pub(crate) const VERSION: &str = "1.32.0";
 
 /// The forms of a command line.
 pub(crate) const USAGE: &str = "datacube < FEED

@@ -19,7 +19,7 @@ from ._schema import Schema
 from ._views import Difference
 
 # (the version of the distribution and of the program too)
-__version__ = "1.31.0"
+__version__ = "1.32.0"
 
 __all__ = [
     "ALL", "ANY", "KEEP", "Answer", "Cell", "Coordinate", "Cube", "DatacubeError", "Difference", "Ended", "Failure", "Live",
