@@ -1,9 +1,9 @@
--- The shape of a row: as many columns as its schema has (this project's choice).
+-- The shape of a row: as many coordinates and answers as its schema says (this project's choice).
 use Rattle.std.specs.Prelude.{◌≡◌, length}
-use Rattle.cube_core.specs.Layout.{Layout}
+use Rattle.cube_core.specs.Layout.{Layout, number_of_dimensions}
 use Rattle.cube_core.specs.declared.key.Row.{Row}
 
--- a row has a coordinate for each dimension of a schema and an answer for each of its aggregates
+-- a row has a coordinate for each dimension of a schema's cube and an answer for each of its aggregates
 pub record HasShapeOf (s : Layout) (row : Row) : Type 0 where
-  pub coords : length row.key.coords ≡ length s.dimensions
+  pub coords : length row.key.coords ≡ number_of_dimensions s
   pub answers : length row.answers ≡ length s.aggregates
