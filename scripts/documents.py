@@ -260,7 +260,7 @@ def formats_in_manual(program, text):
     named = ["schema.toml", "market.csv", "street.csv", "online.csv"]
     ask = lambda *words: example(f"$ datacube {' '.join(words)}\n{program.said(*(it.strip(chr(39)) for it in words), folder=shop)}")
     page = ".SH SCHEMAS\n" + from_markdown(section_of(text, "The schema"))
-    page += ".PP\nCODES below has the faults of a schema, S1 to S12.\n"
+    page += ".PP\nCODES below has the faults of a schema, S1 to S13.\n"
     page += ".SS Without writing one\n" + from_markdown(section_of(text, "A schema without writing one"))
     page += ".SH FEEDS\n" + from_markdown(section_of(text, "A feed"))
     page += ".PP\nA feed under the sample schema, which inserts three facts:\n" + example(text_at(feed))
