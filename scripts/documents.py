@@ -59,7 +59,7 @@ KINDS = {
     "bar": "bars",
 }
 # where the bounds of a schema and of a run stand, and how documents say them
-BOUND = re.compile(r"pub (\w+)_at_most : length \S+ ≤ (\d+)")
+BOUND = re.compile(r"pub (\w+)_at_most : length \S+(?: \+ length s\.text_places)? ≤ (\d+)")
 SHARDS = re.compile(r"pub at_most : shard\.count ≤ (\d+)")
 BOUNDED = {
     DEFINITIONS: [
