@@ -222,6 +222,23 @@ def test_what_aggregates_are_made_of(room, rng):
 
 
 @tries(6)
+def test_texts_arent_merged(room, rng):
+    """A schema that counts texts has no partial form: that is told before a feed or a cube is opened."""
+    schema, feeds = case_of(rng)
+    if not schema.measures:
+        return
+    make.count_texts(rng, schema)
+    schema.decimals = {name: places for name, places in schema.decimals.items() if name not in schema.texts}
+    room.write("schema.toml", schema.toml())
+    data, feeds[0] = make.written(rng, schema, feeds[0])
+    name, wanted = room.write("feed.csv", data), (3, b"", said("S13"))
+    room.expect(["print", "--partial", *make.random_conditions(rng, schema)[0], "schema.toml", rng.choice([name, "gone.csv"])], wanted)
+    room.expect(["merge", *rng.choice([[], ["--partial"], ["--check"]]), "schema.toml", rng.choice([name, "gone.csv"])], wanted)
+    run = oracle.Run(schema, feeds[:1])
+    room.expect(["print", "schema.toml", name], (run.status, run.print(), b""))
+
+
+@tries(6)
 def test_paths(room, rng):
     """What is told of paths, before any cube is read."""
     room.write("schema.toml", oracle.SAMPLE.toml())
