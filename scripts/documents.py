@@ -59,7 +59,7 @@ KINDS = {
     "bar": "bars",
 }
 # where the bounds of a schema and of a run stand, and how documents say them
-BOUND = re.compile(r"pub (\w+)_at_most : length \S+ ≤ (\d+)")
+BOUND = re.compile(r"pub (\w+)_at_most : length \S+(?: \+ length s\.text_places)? ≤ (\d+)")
 SHARDS = re.compile(r"pub at_most : shard\.count ≤ (\d+)")
 BOUNDED = {
     DEFINITIONS: [
@@ -260,7 +260,7 @@ def formats_in_manual(program, text):
     named = ["schema.toml", "market.csv", "street.csv", "online.csv"]
     ask = lambda *words: example(f"$ datacube {' '.join(words)}\n{program.said(*(it.strip(chr(39)) for it in words), folder=shop)}")
     page = ".SH SCHEMAS\n" + from_markdown(section_of(text, "The schema"))
-    page += ".PP\nCODES below has the faults of a schema, S1 to S12.\n"
+    page += ".PP\nCODES below has the faults of a schema, S1 to S13.\n"
     page += ".SS Without writing one\n" + from_markdown(section_of(text, "A schema without writing one"))
     page += ".SH FEEDS\n" + from_markdown(section_of(text, "A feed"))
     page += ".PP\nA feed under the sample schema, which inserts three facts:\n" + example(text_at(feed))

@@ -54,16 +54,40 @@ def random_feed(rng, dimensions, measures):
     return oracle.Feed(id, op, rng.choice(NULLS), delimiter, rng.choice([it for it in ".," if it != delimiter]), columns)
 
 
-def random_schema(rng, by_names=False):
-    """A schema; where feeds may be read by the names of their columns, one in three says so."""
+def random_schema(rng, by_names=False, with_texts=True):
+    """A schema; where feeds may be read by the names of their columns, one in three says so. Where measures may be texts, one in four has
+    such."""
     schema = positional_schema(rng)
+    if with_texts and rng.random() < 0.25:
+        count_texts(rng, schema)
     if rng.random() < 0.4:
-        schema.decimals = {name: rng.choice(PLACES) for name in schema.measures if rng.random() >= 0.2}
+        schema.decimals = {name: rng.choice(PLACES) for name in schema.measures if name not in schema.texts and rng.random() >= 0.2}
     if by_names and rng.random() < 0.33:
         schema.feed = random_feed(rng, schema.dimensions, schema.measures)
         if rng.random() < 0.1:
-            schema.measures, schema.aggregates, schema.feed.columns, schema.decimals = [], [("count", None)], {}, {}
+            schema.measures, schema.aggregates, schema.feed.columns, schema.decimals, schema.texts = [], [("count", None)], {}, {}, []
     return schema
+
+
+def count_texts(rng, schema):
+    """Makes measures of a schema texts, one or most of them, of which counts alone are asked."""
+    chosen = rng.choice(schema.measures)
+    schema.texts = [it for it in schema.measures if it == chosen or rng.random() < 0.5]
+    rng.shuffle(schema.texts)
+    schema.aggregates = [it if suits(schema, *it) else count_of(rng, schema, it[1]) for it in schema.aggregates]
+    if rng.random() < 0.7:
+        schema.aggregates[-1] = count_of(rng, schema, schema.measures.index(chosen))
+
+
+def suits(schema, kind, at):
+    """Whether an aggregate may be of what it is of."""
+    return at is None or kind.startswith("count") or schema.measures[at] not in schema.texts
+
+
+def count_of(rng, schema, at):
+    """A count of a measure, most often of its different values."""
+    kind = rng.choice(["count distinct", "count distinct", "count distinct", "count"])
+    return oracle.aggregate_of(oracle.spelling(kind, schema.measures[at]), schema.measures)
 
 
 def positional_schema(rng):
@@ -111,7 +135,8 @@ def random_record(rng, schema, texts, ids):
     keeps = rng.random() < 0.3
     is_kept = lambda share: keeps and rng.random() < share
     dims = [b"\\=" if is_kept(0.3) else rng.choice(texts) for _ in schema.dimensions]
-    measures = [b"\\=" if is_kept(0.2) else number_of(rng, schema.decimals.get(it)) for it in schema.measures]
+    measure = lambda it: rng.choice(texts) if it in schema.texts else number_of(rng, schema.decimals.get(it))
+    measures = [b"\\=" if is_kept(0.2) else measure(it) for it in schema.measures]
     kind = rng.random()
     operations, by_id = [b"I", b"I", b"I", b"U", b"U"], [b"D"]
     if schema.feed:
@@ -139,10 +164,12 @@ def by_names(rng, schema, records, is_right):
     header = needed + rng.sample(extra, rng.choice([0, 0, 1, 2, len(extra)]))
     rng.shuffle(header)
     nulls, rows, first, point = schema.nulls(), [], 2 + len(schema.dimensions), schema.feed.point.encode()
+    are_numbers = [False] * first + [it not in schema.texts for it in schema.measures]
     for record in records:
         null = lambda it: rng.choice(nulls) if it == b"\\N" and nulls and rng.random() >= 0.3 else it
         if rng.random() >= 0.05:
-            record = record[:first] + [it.replace(b".", point) for it in record[first:]]
+            said = [it.replace(b".", point) if is_number else it for it, is_number in zip(record, are_numbers)]
+            record = said + record[len(are_numbers) :]
         fields = {name.encode(): null(it) for name, it in [*zip(names, record)][::-1] if name is not None}
         row = [fields[it] if it in fields else rng.choice([b"", b"x", b"\xff", b"I"]) for it in header]
         row += [b"more"] if rng.random() < 0.02 else []
@@ -162,9 +189,9 @@ def written(rng, schema, records, is_right=True):
     return data, oracle.data_records(schema, data)[0]
 
 
-def random_case(rng, by_names=False):
+def random_case(rng, by_names=False, with_texts=True):
     """A schema, and the records of its feeds in its order."""
-    schema = random_schema(rng, by_names)
+    schema = random_schema(rng, by_names, with_texts)
     texts = rng.sample(TEXTS, rng.randint(2, len(TEXTS)))
     sources = rng.choice([1, 1, 2, 3, 5, 64])
     most = rng.choice([3, 20, 20, 60, 400] * 12 + [3000]) if sources < 10 else 5
@@ -177,7 +204,8 @@ def random_condition(rng, schema):
     name = rng.choice(schema.dimensions + schema.measures)
     sign, values = rng.choice(SIGNS), []
     for _ in range(rng.choice([1, 1, 2, 3]) if sign in (b"=", b"!=") else 1):
-        text = rng.choice(TEXTS + [b"N", b"1"]) if name in schema.dimensions else number_of(rng, schema.decimals.get(name))
+        is_text = name in schema.dimensions + schema.texts
+        text = rng.choice(TEXTS + [b"N", b"1"]) if is_text else number_of(rng, schema.decimals.get(name))
         values.append(b"\\N" if rng.random() < (0.2 if sign in (b"=", b"!=") else 0.02) else text)
     kind = rng.random()
     if kind < 0.03:

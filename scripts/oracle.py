@@ -122,11 +122,14 @@ class Schema:
         return [spelling(kind, self.measures[at] if at is not None else "*") for kind, at in self.aggregates]
 
     def partial(self):
-        """The partial form: for each mean, variance, distinct count and percentile what it is made of too, where that isn't there yet."""
+        """The partial form: for each mean, variance, distinct count and percentile what it is made of too, where that isn't there yet.
+        Texts that are counted aren't merged: where there is one, this ends the command."""
+        if self.texts:
+            raise Failure("S13", 3)
         aggregates = list(self.aggregates)
         for made, at in self.aggregates:
             aggregates += [(it, at) for it in parts_of(made) if (it, at) not in aggregates]
-        rest = self.grouping, self.version, self.max_records, self.feed, self.decimals, self.texts
+        rest = self.grouping, self.version, self.max_records, self.feed, self.decimals
         return Schema(self.dimensions, self.measures, aggregates, *rest)
 
     def places(self, at):
@@ -1413,6 +1416,7 @@ def merge_command(words):
     for at, (path, file) in enumerate(zip(paths, files), 1):
         if path in paths[: at - 1] or file and file in files[: at - 1]:
             raise Failure(f"M2 {at}", 2)
+    schema.partial()
     datas = list(map(content_of, files_at(paths, lambda at: f"M3 {at}")))
     text, fault = merge(schema, datas, b"--partial" in given.options)
     if not fault or b"--check" not in given.options:

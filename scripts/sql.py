@@ -104,12 +104,12 @@ FROM records;
 """
 
 FIFTH = r"""EXISTS (
-            SELECT FROM unnest(fields[{first}:{last}]) AS field WHERE field NOT IN ({no_numbers}) AND NOT is_number(field)
+            SELECT FROM unnest({numbers}) AS field WHERE field NOT IN ({no_numbers}) AND NOT is_number(field)
         )"""
 
 # (where a measure has decimals)
 FIFTH_WITH_DECIMALS = r"""EXISTS (
-            SELECT FROM unnest(fields[{first}:{last}], ARRAY[{places}]) AS measure (field, places)
+            SELECT FROM unnest({numbers}, ARRAY[{places}]) AS measure (field, places)
             WHERE field NOT IN ({no_numbers}) AND NOT CASE WHEN places IS NULL THEN is_number(field) ELSE is_decimal(field, places) END
         )"""
 
@@ -171,14 +171,15 @@ def where_of(schema, conditions):
 
 def clause_of(schema, condition):
     """What a condition is in SQL. Texts are compared by their bytes, and null is unequal to each value."""
-    names, at = schema.dimensions + schema.measures, condition.place - len(schema.dimensions)
-    said = lambda it: "NULL" if it is None else literal(it.decode()) if at < 0 else oracle.decimal(it, schema.places(at))
-    name, values = name_of(names[condition.place]), [said(it) for it in condition.values]
+    at, named = condition.place - len(schema.dimensions), (schema.dimensions + schema.measures)[condition.place]
+    is_text = at < 0 or named in schema.texts
+    said = lambda it: "NULL" if it is None else literal(it.decode()) if is_text else oracle.decimal(it, schema.places(at))
+    name, values = name_of(named), [said(it) for it in condition.values]
     if condition.sign == b"=":
         return "(" + " OR ".join(f"{name} IS NOT DISTINCT FROM {it}" for it in values) + ")"
     if condition.sign == b"!=":
         return "(" + " AND ".join(f"{name} IS DISTINCT FROM {it}" for it in values) + ")"
-    return f"{name} " + ('COLLATE "C" ' if at < 0 else "") + f"{condition.sign.decode()} {values[0]}"
+    return f"{name} " + ('COLLATE "C" ' if is_text else "") + f"{condition.sign.decode()} {values[0]}"
 
 
 def statements(schema, conditions=()):
@@ -188,10 +189,9 @@ def statements(schema, conditions=()):
     middle = 3 + len(schema.dimensions)
     width = middle - 1 + len(schema.measures)
     fifth = {
-        "first": middle,
-        "last": width,
+        "numbers": numbers_of(schema, middle),
         "no_numbers": r"'\N', '\='" if keeps else r"'\N'",
-        "places": ", ".join(str(schema.decimals.get(it, "NULL")) for it in schema.measures),
+        "places": ", ".join(str(schema.decimals.get(it, "NULL")) for it in schema.measures if it not in schema.texts),
     }
     form = FIFTH_WITH_DECIMALS if schema.decimals else FIFTH
     return {
@@ -203,11 +203,19 @@ def statements(schema, conditions=()):
     }
 
 
+def numbers_of(schema, middle):
+    """The fields of a record that are numbers, where those of measures begin at a place: of all measures, but for those that are texts."""
+    if not schema.texts:
+        return f"fields[{middle}:{middle + len(schema.measures) - 1}]"
+    places = [at for at, name in enumerate(schema.measures, middle) if name not in schema.texts]
+    return f"ARRAY[{', '.join(f'fields[{at}]' for at in places)}]::text[]"
+
+
 def fact_columns(schema):
     r"""A column of facts for each dimension and measure: the field that was put last, where `\=` puts none."""
     for at, name in enumerate(schema.dimensions + schema.measures, 3):
         put = rf" FILTER (WHERE fields[{at}] <> '\=')" if schema.version == 2 else ""
-        kind = type_of(schema, name) if at >= 3 + len(schema.dimensions) else ""
+        kind = type_of(schema, name) if at >= 3 + len(schema.dimensions) and name not in schema.texts else ""
         last = f"(array_agg(fields[{at}] ORDER BY record DESC){put})[1]"
         yield rf"nullif({last}, '\N'){kind} AS {name_of(name)}"
 
@@ -234,6 +242,7 @@ def cube(schema, conditions=()):
         columns.append(f"{f'grouping({name_of(it)})' if it in kept else '1'} AS {name_of(f'grouping({it})')}")
     for (kind, at), text in zip(schema.aggregates, schema.aggregate_texts()):
         measure = "*" if at is None else name_of(schema.measures[at])
+        measure += ' COLLATE "C"' if kind == "count distinct" and schema.measures[at] in schema.texts else ""
         columns.append(f"{call_of(kind, measure, 0 if at is None else schema.places(at))} AS {name_of(text)}")
     order = [f'grouping({name}), {name} COLLATE "C" NULLS LAST' for name in map(name_of, kept)]
     ordered = "\nORDER BY\n    " + ",\n    ".join(order) if order else ""
@@ -387,7 +396,7 @@ def read_schema(path):
     if "feed" in table:
         sys.exit(f"{path}: with [feed] columns are known by name, and this script reads them in the order of the schema alone")
     aggregates = [oracle.aggregate_of(it, table["measures"]) for it in table["aggregates"]]
-    rest = {it: table[it] for it in ("grouping", "version", "max_records", "decimals") if it in table}
+    rest = {it: table[it] for it in ("grouping", "version", "max_records", "decimals", "texts") if it in table}
     return oracle.Schema(table["dimensions"], table["measures"], aggregates, **rest)
 
 

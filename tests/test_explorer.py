@@ -271,6 +271,24 @@ def test_distinct_counts_and_percentiles(page, tmp_path):
     assert [[it[0], *it[-2:]] for it in page.shown()["body"]] == [["Hull", "0", "[null]"], ["Leeds", "+1", "-19.25"], ["York", "+1", "[null]"]]
 
 
+# (customers, of whom a city has none, null, the empty text and some twice)
+COUNTED = oracle.Schema(["city"], ["customer", "m"], [("count", 0), ("count distinct", 0), ("count distinct", 1), ("values", 1)], texts=["customer"])
+CUSTOMERS = [(b"Hull", None, 1), (b"Leeds", b"Ann", 1), (b"Leeds", b"", 2), (b"York", b"Ann", 2), (b"York", b"Ann", 2), (b"York", b"Bob", 2)]
+
+
+def test_texts_that_are_counted(page, tmp_path):
+    """Their counts are added up, and their distinct counts are shown as they stand, beside values of another measure."""
+    (tmp_path / "customers.csv").write_bytes(oracle.text_of(COUNTED, oracle.rows_of(COUNTED, [([city], [who, m]) for city, who, m in CUSTOMERS])))
+    page.open(f"{tmp_path}/customers.csv", "")
+    assert page.shown()["body"] == [["Hull", "0", "0", "1", "1*1"], ["Leeds", "2", "2", "2", "1*1 2*1"], ["York", "3", "2", "1", "2*3"]]
+    page.find("l")
+    assert page.shown()["foot"][0] == ["2 found", "2", "—", "2", "1*2 2*1"]
+    page.find("")
+    page.go("#slice=%3F&form=bars&answers=4")
+    charts = page.js("return [...document.querySelectorAll('#chart figcaption')].map((it) => it.textContent)")
+    assert charts == ["count(distinct customer)"]
+
+
 # (values with two decimals by the city, whose squares and variances are longer than a double has digits)
 VALUES = {b"Hull": [None], b"Leeds": [oracle.GREATEST, -oracle.GREATEST, oracle.GREATEST], b"Paris": [oracle.GREATEST, -oracle.GREATEST, oracle.GREATEST - 1],
           b"Rome": [150], b"York": [150, 250]}

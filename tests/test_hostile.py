@@ -31,6 +31,8 @@ FOLDER = tempfile.TemporaryDirectory(prefix="hostile-")
 SAMPLE = oracle.SAMPLE
 NAMED = oracle.Schema(SAMPLE.dimensions, SAMPLE.measures, SAMPLE.aggregates, decimals={"amount": 2}, feed=oracle.Feed(
     "no", "what", ["", "NA"], ";", ",", columns={"region": ("place", 20), "amount": "Amount"}))
+# (the same feeds, whose kinds are counted)
+COUNTED = oracle.Schema(SAMPLE.dimensions[:1], ["kind", "amount"], [("count", None), ("count", 0), ("count distinct", 0), ("sum", 1)], texts=["kind"])
 ONE = [b"I", b"1", b"west", b"a", b"5"]
 MIXED = [
     ONE,
@@ -56,6 +58,9 @@ SESSION = [
     [b"refusals"],
     [b"refusals", b"1", b"2"],
 ]
+# (the same changes, and questions of one dimension)
+COUNTED_SESSION = [it if it[0].isdigit() else it[:2] if it[0] == b"slice" else [b"drill", b"region", b"\\A"] if it[0] == b"drill" else
+                   [b"rollup", b"region", b"=west"] if it[0] == b"rollup" else it for it in SESSION]
 STATUS = {"S": 3, "P": 2, "G": 1, "Q": 1, "M": 1}
 MEMORY = [r"S1", r"G1", r"G2", r"G3 \d+ F1", r"G4", r"P6", r"M1"]
 # (the stages of a run over feeds, by the first word that is told where memory is wanting in one: before a record is read, while threads
@@ -64,7 +69,8 @@ STAGES = {"G1": 1, "G2": 2, "G3": 3, "G4": 3}
 RUNS = ([], ["print"], ["slice"], ["drill"], ["rollup"], ["refusals"], ["live"])
 READS = [r"G3 \d+ F2", r"schema unreadable", r"feed \d+ unreadable", r"Q3", r"M3 \d+( \d+)?"]
 # (what the short form refuses memory, reads and writes; threads are refused everywhere)
-SHORT = ("no words", "check", "print, one fact", "print, 3 feeds, 2 builders", "print, by names", "slice", "live", "schema", "table", "merge")
+SHORT = ("no words", "check", "print, one fact", "print, 3 feeds, 2 builders", "print, by names", "print, texts", "slice", "live", "live, texts",
+         "schema", "table", "merge")
 # (what is said where there is no memory for the words themselves)
 NO_WORDS = b"error: out of memory\n"
 
@@ -219,6 +225,11 @@ def commands(program):
     made["live"] = (["live", "schema.toml", *files[:2]], oracle.encode(SESSION))
     made["check, by names"] = (["check", named(program)], b"")
     made["print, by names"] = (["print", "named.toml", *[program.write(f"named{at}.csv", named_feed()) for at in (1, 2)]], b"")
+    counted = program.write("counted.toml", COUNTED.toml())
+    made["check, texts"] = (["check", counted], b"")
+    made["print, texts"] = (["print", "--where", "kind!=a", counted, *files[:3]], b"")
+    made["print, texts, 2 builders"] = (["print", "--builders", "2", counted, *files[:3]], b"")
+    made["live, texts"] = (["live", counted, *files[:2]], oracle.encode(COUNTED_SESSION))
     own = program.write("own.csv", b"when;city;qty\n2026-11-28;York;3\n2026-11-29;Leeds;NA\n2026-12-01;;5\n")
     made["schema"] = (["schema", own], b"")
     made["table"] = (["table", own, own], b"")
@@ -246,7 +257,7 @@ def cubes(program, files):
 
 def ends_of_command(name):
     """Where what a command writes may end."""
-    return ends_of_answers if name == "live" else ends_of_lines if name.startswith("merge") else no_ends
+    return ends_of_answers if name.startswith("live") else ends_of_lines if name.startswith("merge") else no_ends
 
 
 def refusals_in_turn(trials):

@@ -36,7 +36,7 @@ HELD = [
 
 def case_of(rng):
     """A schema, and the data records of feeds, few where there are many grouping sets."""
-    schema, feeds = make.random_case(rng, True)
+    schema, feeds = make.random_case(rng, True, with_texts=False)
     most = 400 if len(schema.masks) <= 8 else 60 if len(schema.masks) <= 32 else 10
     schema.max_records = make.MOST
     return schema, [records[:most] for records in feeds][: max(1, most // 6)]
@@ -219,6 +219,23 @@ def test_what_aggregates_are_made_of(room, rng):
     wanted = oracle.merge(schema, texts, "--partial" in tail)
     assert wanted[0] == b"" and wanted[1].line() == f"M4 {place + 1} 1"
     merged(room, schema, texts, rng, wanted, tail)
+
+
+@tries(6)
+def test_texts_arent_merged(room, rng):
+    """A schema that counts texts has no partial form: that is told before a feed or a cube is opened."""
+    schema, feeds = case_of(rng)
+    if not schema.measures:
+        return
+    make.count_texts(rng, schema)
+    schema.decimals = {name: places for name, places in schema.decimals.items() if name not in schema.texts}
+    room.write("schema.toml", schema.toml())
+    data, feeds[0] = make.written(rng, schema, feeds[0])
+    name, wanted = room.write("feed.csv", data), (3, b"", said("S13"))
+    room.expect(["print", "--partial", *make.random_conditions(rng, schema)[0], "schema.toml", rng.choice([name, "gone.csv"])], wanted)
+    room.expect(["merge", *rng.choice([[], ["--partial"], ["--check"]]), "schema.toml", rng.choice([name, "gone.csv"])], wanted)
+    run = oracle.Run(schema, feeds[:1])
+    room.expect(["print", "schema.toml", name], (run.status, run.print(), b""))
 
 
 @tries(6)

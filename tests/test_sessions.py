@@ -44,7 +44,7 @@ def session(rng):
     schema = make.random_schema(rng, True)
     if len(schema.masks) > 32:
         schema = oracle.Schema(schema.dimensions, schema.measures, schema.aggregates, "rollup", schema.version, schema.max_records,
-                               schema.feed, schema.decimals)
+                               schema.feed, schema.decimals, schema.texts)
     texts, ids = rng.sample(make.TEXTS, rng.randint(2, 6)), rng.choice([2, 5, 12])
     change = lambda rng: make.random_record(rng, schema, texts, ids)
     most = rng.choice([3, 30])

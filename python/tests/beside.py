@@ -158,7 +158,7 @@ def schema_like(schema: oracle.Schema) -> jackraisin.Schema:
     return jackraisin.Schema(
         schema.dimensions, schema.measures, schema.aggregate_texts(), grouping=grouping, version=schema.version,
         max_records=None if most == 2**32 - 1 else most, feed=None if schema.feed is None else feed_like(schema.feed),
-        decimals=schema.decimals,
+        decimals=schema.decimals, texts=schema.texts,
     )
 
 

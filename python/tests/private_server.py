@@ -153,7 +153,7 @@ class Private:
     def cube(self, facts: str, schema: jackraisin.Schema = SCHEMA) -> str:
         """The printed cube as GROUP BY CUBE gives it, over what a statement makes a view named facts of."""
         aggregates = [aggregate(schema, it) for it in schema.aggregates]
-        like = oracle.Schema(list(schema.dimensions), list(schema.measures), aggregates, decimals=schema.decimals)
+        like = oracle.Schema(list(schema.dimensions), list(schema.measures), aggregates, decimals=schema.decimals, texts=schema.texts)
         header = oracle.text_of(like, []).decode()
         out = tempfile.SpooledTemporaryFile(2**24)
         with self.executed(facts) as cursor:

@@ -396,6 +396,11 @@ class Generated(unittest.TestCase):
     def test_shards(self):
         for rng, schema, paths, run in self.each(30):
             like, count = beside.schema_like(schema), rng.choice([1, 2, 5])
+            if schema.texts:
+                with self.assertRaises(jackraisin.Failure) as caught:
+                    jackraisin.cube(like, paths, shard=(1, count), partial=True)
+                self.assertEqual((caught.exception.line, caught.exception.status), ("S13", 3))
+                continue
             parts = [jackraisin.cube(like, paths, shard=(at, count), partial=True) for at in range(1, count + 1)]
             self.assertEqual(jackraisin.merge(like, parts).text.encode(), run.print())
             self.assertEqual(any(it.refused for it in parts), bool(run.refused))
@@ -548,6 +553,66 @@ class Decimals(unittest.TestCase):
         for number in ("1.5 ", " 1.50", "+1.50", "0.5", "1.500"):
             cube = jackraisin.Cube(f"a,grouping(a),sum(m)\nx,0,0.50\ny,0,{number}\n")
             self.assertEqual(repr(cube.to_pandas()["sum(m)"].tolist()), repr([it.answers[0] for it in cube]))
+
+
+class Texts(unittest.TestCase):
+    """Measures that are texts, which are counted."""
+
+    SCHEMA = jackraisin.Schema(
+        ["city"], ["customer", "cents"], ["count(*)", "count(customer)", "count(distinct customer)", "sum(cents)"], texts=["customer"])
+    FEED = 'op,id,city,customer,cents\nI,1,York,Ann,350\nI,2,York,Bob,120\nI,3,York,Ann,80\nI,4,Leeds,"Ann, of Leeds",200\nI,5,Leeds,\\N,60\nI,6,Leeds,,5\nD,2\nU,9\n'
+
+    def asked(self, call, *words, **how):
+        with tempfile.TemporaryDirectory() as folder:
+            path = os.path.join(folder, "sales.csv")
+            with open(path, "w", encoding="utf-8") as out:
+                out.write(self.FEED)
+            return call(how.pop("schema", self.SCHEMA), path, *words, **how)
+
+    def test_rows(self):
+        cube = self.asked(jackraisin.cube)
+        self.assertEqual(rows_of(cube), [(("Leeds",), (3, 2, 2, 265)), (("York",), (2, 2, 1, 430)), ((ALL,), (5, 4, 3, 695))])
+        self.assertEqual((cube.at({"city": "York"})["count(distinct customer)"], cube.at({})["count(customer)"], cube.refused), (1, 4, True))
+        self.assertEqual(self.asked(jackraisin.refusals), [(1, 8, 2)])
+        self.assertEqual(self.asked(jackraisin.slice, {"city": "Leeds"})[0]["count(distinct customer)"], 2)
+        self.assertEqual(cube.top(1, "count(distinct customer)")[0]["city"], "Leeds")
+
+    def test_conditions(self):
+        total = lambda *where: self.asked(jackraisin.cube, where=where).at({}).answers
+        self.assertEqual(total("customer=Ann"), (2, 2, 1, 430))
+        self.assertEqual(total("customer!=Ann"), (3, 2, 2, 265))
+        self.assertEqual(total("customer=\\N"), (1, 0, 0, 60))
+        self.assertEqual(total('customer="Ann, of Leeds",""', "cents>=200"), (1, 1, 1, 200))
+        self.assertEqual(total("customer>A"), (3, 3, 2, 630))
+
+    def test_frames(self):
+        try:
+            import pandas  # noqa: F401
+        except ImportError:
+            self.skipTest("there is no pandas")
+        frame = self.asked(jackraisin.cube).to_pandas()
+        self.assertEqual([str(it) for it in frame.dtypes], ["Int64"] * 4)
+        self.assertEqual(list(frame["count(distinct customer)"]), [2, 1, 3])
+
+    def test_parts_arent_merged(self):
+        for call in (lambda: self.asked(jackraisin.cube, partial=True), lambda: self.asked(lambda schema, path: jackraisin.merge(schema, [path]))):
+            with self.assertRaises(jackraisin.Failure) as caught:
+                call()
+            self.assertEqual((caught.exception.line, caught.exception.status), ("S13", 3))
+
+    def test_a_schema_comes_back(self):
+        with self.SCHEMA.file() as path, open(path, encoding="utf-8") as file:
+            self.assertEqual(file.read().splitlines()[-1], 'texts = ["customer"]')
+        self.assertEqual((self.SCHEMA.texts, jackraisin.Schema(["a"], ["m"], ["sum(m)"]).texts), (("customer",), ()))
+        self.assertNotEqual(self.SCHEMA, jackraisin.Schema(["city"], ["customer", "cents"], self.SCHEMA.aggregates))
+        self.assertEqual((hash(pickle.loads(pickle.dumps(self.SCHEMA))), pickle.loads(pickle.dumps(self.SCHEMA))), (hash(self.SCHEMA), self.SCHEMA))
+
+    def test_what_isnt_right(self):
+        for code, aggregate, texts in (("S13", "count(*)", ["city"]), ("S13", "count(*)", ["customer", "customer"]), ("S13", "count(*)", [1]),
+                                       ("S7", "max(customer)", ["customer"]), ("S7", "values(customer)", ["customer"])):
+            with self.assertRaises(jackraisin.Failure) as caught:
+                jackraisin.Schema(["city"], ["customer"], [aggregate], texts=texts).check()
+            self.assertEqual((caught.exception.code, caught.exception.status), (code, 3))
 
 
 class ByNames(unittest.TestCase):

@@ -23,6 +23,9 @@ CENTS = jackraisin.Schema(
     ["region"], ["price", "pieces"], ["count(*)", "sum(price)", "avg(price)", "sum(pieces)"], version=2,
     feed={"null": ["0.10"], "delimiter": ";", "point": ","}, decimals={"price": 2},
 )
+SOLD = jackraisin.Schema(
+    ["city"], ["customer", "cents"], ["count(*)", "count(customer)", "count(distinct customer)", "sum(cents)"], version=2, texts=["customer"],
+)
 SHORT = jackraisin.Schema(["region"], ["amount"], ["count(*)"], max_records=2)
 TEXTS = [it.decode() for it in generated.TEXTS]
 
@@ -37,7 +40,8 @@ class Player:
         keeps = [KEEP] if can_keep and self.schema.version == 2 else []
         says = [it for it in TEXTS if it != "\\N" and not (it == "\\=" and self.schema.version == 2)]
         dims = [self.rng.choice([None, *keeps, *says[:8]]) for _ in self.schema.dimensions]
-        return dims, [self.rng.choice([None, *keeps, *self.numbers(name)]) for name in self.schema.measures]
+        of_measure = lambda name: says[:8] if name in self.schema.texts else self.numbers(name)
+        return dims, [self.rng.choice([None, *keeps, *of_measure(name)]) for name in self.schema.measures]
 
     def numbers(self, name):
         """Numbers of a measure: whole ones, and where it has decimals such too."""
@@ -234,6 +238,24 @@ class Says(unittest.TestCase):
             live.insert(1, "d", [None], [Decimal("-92233720368547758.08"), None])
             live.insert(1, "e", [None], [Decimal("-0.00"), None])
             self.assertEqual(str(live.slice([None])[0]["sum(price)"]), "-92233720368547758.08")
+            self.assertEqual(live.refusals(), [])
+
+    def test_texts_that_are_counted(self):
+        with Live(SOLD) as live:
+            live.insert(1, "1", ["York"], ["Ann", 350])
+            live.insert(1, "2", {"city": "York"}, {"customer": "Bob", "cents": 120})
+            live.insert_many(1, [("3", ["York"], ["Ann", 80]), ("4", [None], ["", None]), ("5", [None], [None, 60]), ("6", [None], ["7", 1])])
+            self.assertEqual(live.cube().at({"city": "York"}).answers, (3, 3, 2, 550))
+            self.assertEqual(live.slice({})[0].answers, (6, 5, 4, 611))
+            live.update(1, "2", {}, {"customer": "Ann"})
+            live.delete(1, "1")
+            live.update(1, "6", [KEEP], [KEEP, 7])
+            self.assertEqual(live.cube().at({"city": "York"}).answers, (2, 2, 1, 200))
+            self.assertEqual(live.slice({})[0].answers, (5, 4, 3, 267))
+            for text in ("\\N", "\\=", "\ud800", ALL):
+                self.assertRaises(jackraisin.Unsayable, live.insert, 1, "7", ["York"], [text, 1])
+            for values in ([7, 1], [b"Ann", 1], [Decimal(1), 1], ["Ann", "1"]):
+                self.assertRaises(TypeError, live.insert, 1, "7", ["York"], values)
             self.assertEqual(live.refusals(), [])
 
     def test_texts_that_look_like_marks(self):

@@ -75,6 +75,33 @@ class ByHand(unittest.TestCase):
             cube_of([{"a": "x", "m": 1}], by=["a"], of={"m": "sum"}, decimals={"a": 2})
         self.assertEqual(caught.exception.code, "S12")
 
+    def test_texts(self):
+        of = {"note": ["count", "count(distinct)"], "cents": "sum"}
+        cube = cube_of([*SALES, SALES[0]], by=["city"], of=of, texts=["note"])
+        self.assertEqual(beside.rows_of(cube), [(("York",), (3, 3, 2, 1150)), ((None,), (1, 1, 1, None)), ((ALL,), (4, 4, 3, 1150))])
+        said = [datetime.date(2026, 2, 1), "2026-02-01", 7, "7", "07", "", None, float("nan"), "\\=", "a,\r\nb"]
+        total = lambda rows, **how: cube_of([{"a": "x", "m": it} for it in rows], by=["a"], of={"m": ["count", "count(distinct)"]}, texts=["m"], **how)[-1]
+        self.assertEqual(total(said).answers, (10, 8, 6))
+        self.assertRaises(jackraisin.Unsayable, total, ["\\N"])
+        for value in (1.5, True, b"x", datetime.datetime(2026, 2, 1)):
+            self.assertRaises(TypeError, total, [value])
+        self.assertRaises(TypeError, cube_of, SALES, by=["city"], of=of, texts="note")
+        for code, kind, names in (("S7", "sum", ["cents"]), ("S13", "count", ["city"]), ("S13", "count", ["cents", "cents"])):
+            with self.assertRaises(jackraisin.Failure) as caught:
+                cube_of(SALES, by=["city"], of={"cents": kind}, texts=names)
+            self.assertEqual((caught.exception.code, caught.exception.status), (code, 3))
+
+    def test_texts_of_a_frame(self):
+        try:
+            import pandas
+        except ImportError:
+            self.skipTest("there is no pandas")
+        frame = pandas.DataFrame([*SALES, {**SALES[0], "note": None}])
+        cubes = [cube_of(frame, by=["city"], of={"note": "count(distinct)"}, texts=["note"])]
+        frame["note"] = frame["note"].astype("category")
+        cubes.append(cube_of(frame, by=["city"], of={"note": "count(distinct)"}, texts=["note"]))
+        self.assertEqual([it.text for it in cubes], ["city,grouping(city),count(*),count(distinct note)\nYork,0,3,2\n\\N,0,1,1\n\\N,1,4,3\n"] * 2)
+
     def test_what_no_feed_says(self):
         for value in (1.5, True, b"x", datetime.datetime(2026, 2, 1), ALL):
             self.assertRaises(TypeError, cube_of, [{"a": value}], by=["a"])

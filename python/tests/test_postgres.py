@@ -602,6 +602,19 @@ class Verified(Base):
             follower.close()
         self.assertEqual(self.slots(), [("jackraisin_never",)])
 
+    def test_texts_that_are_counted(self):
+        """Of a measure that is a text the counts are compared."""
+        asked = ["count(product)", "count(distinct product)", "count(distinct is_paid)", "sum(cents)"]
+        schema = jackraisin.Schema(["city"], ["product", "cents", "is_paid"], asked, texts=["is_paid", "product"])
+        follower = self.follower(schema, verify=0.3)
+        self.assertEqual((self.compared(follower).is_verified, follower.slice({})[0].answers), (True, (504, 7, 2, 125253)))
+        with self.assertLogs("jackraisin.postgres", "ERROR") as told:
+            with follower._mirror._live.held():
+                follower._mirror._live.update(1, "1003", {}, {"product": "tea"})
+            until(lambda: follower.state.differences == 1, SECONDS)
+            until(lambda: follower.state.is_caught_up and follower.state.is_verified, SECONDS)
+        self.assertIn("in all: the table has count(product) 504, count(distinct product) 7, ", told.output[0])
+
     @serves
     @in_a_browser
     def test_what_is_shown_of_it(self):
@@ -1112,6 +1125,25 @@ class Rows(Base):
         self.assertEqual(str(follower.slice({"city": "York"})[0]["sum(price)"]), "24.50")
         self.run_sql("UPDATE {table} SET weight = 0.00001 WHERE id = 1")
         self.stopped(follower, RowUnsayable, "key (id)=(1), column weight: 0.00001, times 10, is no number with 3 decimals")
+
+    def test_texts_that_are_counted(self):
+        """A measure that is a text is read as a dimension is, whatever its text, and counted."""
+        self.run_sql("CREATE TABLE {table} (id int PRIMARY KEY, city text, customer text, sold date, cents numeric)",
+                     r"INSERT INTO {table} VALUES (1, 'York', 'Ann', '2026-11-28', 5), (2, 'York', '\N', NULL, 1.5), (3, NULL, NULL, '2026-11-28', 7)")
+        asked = ["count(*)", "count(customer)", "count(distinct customer)", "count(distinct sold)", "sum(cents)"]
+        schema = jackraisin.Schema(["city"], ["customer", "sold", "cents"], asked, texts=["sold", "customer"])
+        follower = self.follower(schema)
+        self.assertEqual(follower.catch_up(SECONDS).skipped, 1)
+        self.assertEqual(follower.slice({})[0].answers, (2, 1, 1, 1, 12))
+        self.run_sql("UPDATE {table} SET cents = 1 WHERE id = 2", "UPDATE {table} SET customer = 'Ann', sold = '2026-11-29' WHERE id = 3",
+                     r"INSERT INTO {table} VALUES (4, 'York', '\\N', NULL, 2), (5, 'York', '', NULL, 2)")
+        follower.catch_up(SECONDS)
+        facts = f"SELECT city, customer, sold::text, cents::bigint FROM {self.table}"
+        self.assertEqual(follower.ask("print"), PRIVATE.cube(f"CREATE TEMP VIEW facts AS {facts}", schema))
+        self.assertEqual(follower.slice({"city": "York"})[0]["count(distinct customer)"], 4)
+        self.run_sql("DELETE FROM {table} WHERE id = 1")
+        follower.catch_up(SECONDS)
+        self.assertEqual(follower.slice({})[0].answers, (4, 4, 4, 1, 12))
 
     def test_skipped_rows(self):
         """No row ends it: one with a measure that can't be said is left out, counted and told, until it can be."""

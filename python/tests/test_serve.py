@@ -326,7 +326,8 @@ class Changes(Case):
         if op == "D":
             return [str(source), op, name], said
         texts = {it: rng.choice([None, "west", "a,b", 'say "no"', "é\n", "x" * 200]) for it in schema.dimensions}
-        numbers = {it: rng.choice([None, 0, -7, 7 if schema.decimals.get(it) else 2**63 - 1]) for it in schema.measures}
+        units = lambda it: [0, -7, 7 if schema.decimals.get(it) else 2**63 - 1]
+        numbers = {it: rng.choice([None, *(["west", "", "a,b"] if it in schema.texts else units(it))]) for it in schema.measures}
         said.update(texts, **{it: value if rng.random() < 0.5 or value is None else str(value) for it, value in numbers.items()})
         fields = ["\\N" if it is None else str(it) for it in [*texts.values(), *numbers.values()]]
         return [str(source), op, name, *fields], said
@@ -368,6 +369,16 @@ class Changes(Case):
         cube = jackraisin.Cube(server.get("/cube").text)
         self.assertEqual([(it.key, it["count(*)"], str(it["sum(price)"])) for it in cube.where({"city": ANY, "_kind": ANY})][:1], [(("Hull", "7"), 1, "3.50")])
         self.assertEqual(cube.at({"city": None})["count(*)"], 1)
+
+    def test_texts_that_are_counted(self):
+        schema = 'dimensions = ["city"]\nmeasures = ["customer", "cents"]\naggregates = ["count(distinct customer)", "sum(cents)"]\ntexts = ["customer"]\n'
+        server = self.server(schema=self.written("schema.toml", schema), feeds=[self.written("feed.csv", "op,id,city,customer,cents\nI,1,York,Ann,5\n")])
+        said = [{"source": 1, "op": "I", "id": at, "city": "York", "customer": it, "cents": 1} for at, it in enumerate(["Ann", "Bob", None, 7, "7"], 2)]
+        self.assertEqual(server.made("\n".join(map(json.dumps, said)).encode(), JSON)["taken"], 5)
+        self.assertEqual(server.made(b"2,I,1,Leeds,Bob,2\n")["taken"], 1)
+        self.assertEqual([(it.key, it.answers) for it in jackraisin.Cube(server.get("/cube").text)], [(("Leeds",), (1, 2)), (("York",), (3, 10)), ((jackraisin.ALL,), (3, 12))])
+        answer = server.change(json.dumps({**said[0], "id": "9", "customer": 1.5}).encode(), JSON)
+        self.assertEqual((answer.status, answer.text[:8]), (400, "line 1: "))
 
     def test_an_answer_means_that_it_is_in_the_store(self):
         """What was answered is there however the server ends, and goes on from there; other commands take the store."""

@@ -116,10 +116,11 @@ class Comparison(InSnapshot):
         table = self._rows.table
         value = sql.SQL("NULL") if at is None else sql.Identifier(self._rows.dimensions[at].name)
         measures = [sql.Identifier(it.name) for it in self._rows.measures]
-        asked: List[sql.Composable] = [sql.SQL("{}({})").format(sql.SQL(kind), it) for it in measures for kind in PER_MEASURE]
+        asked = [of_measure(kind, *it) for it in zip(measures, self._rows.are_texts) for kind in PER_MEASURE]
         asked += [call_of(it).format(measures[at]) for it, at in self._of_values().items()]
         units = [factor * 10**places for factor, places in zip(self._rows.factors, self._rows.places)]
-        sayable: List[sql.Composable] = [SAYABLE.format(name=name, units=sql.Literal(it)) for name, it in zip(measures, units)] or [sql.SQL("true")]
+        numbers = [(name, it) for name, it, is_text in zip(measures, units, self._rows.are_texts) if not is_text]
+        sayable: List[sql.Composable] = [SAYABLE.format(name=name, units=sql.Literal(it)) for name, it in numbers] or [sql.SQL("true")]
         return sql.SQL("SELECT {value}, count(*){asked} FROM {only}{table} WHERE {sayable}{grouped}").format(
             value=value, asked=sql.SQL("").join(sql.SQL(", ") + it for it in asked), table=sql.Identifier(table.schema, table.name),
             only=sql.SQL("ONLY " if table.partitions is None else ""), sayable=sql.SQL(" AND ").join(sayable),
@@ -188,6 +189,11 @@ class Comparison(InSnapshot):
         count, total = found["count"] or Fraction(0), (found["sum"] or 0) * self._rows.factors[at]
         over = count - 1 if aggregate.startswith("var_samp(") else count
         return (count * squares - total**2) / (count * over) if over else None
+
+
+def of_measure(kind: str, column: sql.Identifier, is_text: bool) -> sql.Composable:
+    """What is asked of each measure; of one that is a text its count alone."""
+    return sql.SQL("NULL") if is_text and kind != "count" else sql.SQL("{}({})").format(sql.SQL(kind), column)
 
 
 def call_of(aggregate: str) -> sql.SQL:

@@ -72,7 +72,7 @@ class Follower(Asked, Running):
     `dimensions` and `measures` are the columns for those of the schema, where their names differ. `scale` says of a column
     how many decimals are taken: by 2 the numeric 3.50 is 350. A measure that the schema gives decimals takes a numeric as it is.
     A row with a measure that can't be said, as NaN, is left out, counted and told, or ends it where `skip` is false; a text of a
-    dimension may be any. In what `ask` is given and gives, a text that begins with a backslash has one more. `slot` names the slot, and the publication with it; `publication`
+    dimension, or of a measure that is one, may be any. In what `ask` is given and gives, a text that begins with a backslash has one more. `slot` names the slot, and the publication with it; `publication`
     one that is there, and names the table, where the role may make none. Each `verify` seconds the totals of the cube are compared
     with the table's own, where that isn't 0; where they differ the table is copied again.
 
@@ -102,7 +102,7 @@ class Follower(Asked, Running):
         given = schema_of(schema)
         # (version 2 can say that a value is kept, and a feed by names that a fact is put or removed, whether or not it is there)
         names, feed = (given.dimensions, given.measures, given.aggregates), None if store is None else NO_COLUMNS
-        self.schema = Schema(*names, grouping=given.grouping, version=2, decimals=given.decimals, feed=feed)
+        self.schema = Schema(*names, grouping=given.grouping, version=2, decimals=given.decimals, texts=given.texts, feed=feed)
         self.dsn, self.slot, self.publication, self.skip = dsn, slot, publication, skip
         self.store = store
         self._store: Optional[Store] = None

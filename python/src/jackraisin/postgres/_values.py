@@ -24,7 +24,7 @@ ESCAPES: Final = {"b": "\b", "f": "\f", "n": "\n", "r": "\r", "t": "\t", "v": "\
 
 class Rows:
     """How the rows of a table are said: which columns are the dimensions and measures of a schema, in its order, by
-    which power of ten a measure is taken, and how many decimals it has. An id that is the text of a key alone has an `end` behind it."""
+    which power of ten a measure is taken, how many decimals it has, and whether it is a text, which is counted. An id that is the text of a key alone has an `end` behind it."""
 
     def __init__(
         self, table: Table, schema: Schema, dimensions: Optional[Sequence[str]], measures: Optional[Sequence[str]], scale: Mapping[str, int],
@@ -33,12 +33,16 @@ class Rows:
         self.table, self._end = table, end
         self.dimensions = columns_of(table, "dimension", schema.dimensions, dimensions)
         self.measures = columns_of(table, "measure", schema.measures, measures)
-        self.factors = factors_of(self.measures, scale)
+        self.are_texts = [it in schema.texts for it in schema.measures]
+        self.factors = factors_of([it for it, is_text in zip(self.measures, self.are_texts) if not is_text], self.measures, scale)
         self.places = [schema.decimals.get(it, 0) for it in schema.measures]
         for column in self.dimensions:
-            check_dimension(table, column)
-        for column in self.measures:
-            check_measure(table, column)
+            check_exact(table, column, "is no dimension")
+        for column, is_text in zip(self.measures, self.are_texts):
+            if is_text:
+                check_exact(table, column, "isn't counted")
+            else:
+                check_measure(table, column)
         self._key = [table.columns[it] for it in table.key]
         self._is_bare = len(self._key) == 1 and self._key[0].base not in TEXTS
         for column in [*self._key, *self.dimensions, *self.measures]:
@@ -72,7 +76,9 @@ class Rows:
         """The fields of a row's dimensions and measures as a feed has them, KEPT where the row doesn't tell one; raises
         `RowUnsayable` where no feed can say it."""
         fields = [self._text(it, values) for it in self.dimensions]
-        return fields + [self._number(*it, values) for it in zip(self.measures, self.factors, self.places)]
+        for column, is_text, factor, places in zip(self.measures, self.are_texts, self.factors, self.places):
+            fields.append(self._text(column, values) if is_text else self._number(column, factor, places, values))
+        return fields
 
     def _text(self, column: Column, values: Values) -> str:
         if column.name not in values:
@@ -129,11 +135,11 @@ def columns_of(table: Table, what: str, wanted: Sequence[str], given: Optional[S
     return [table.column(it, what) for it in names]
 
 
-def factors_of(measures: Sequence[Column], scale: Mapping[str, int]) -> List[int]:
-    """The power of ten that each measure is taken by."""
+def factors_of(numbers: Sequence[Column], measures: Sequence[Column], scale: Mapping[str, int]) -> List[int]:
+    """The power of ten that each measure is taken by; those that are numbers may have a scale."""
     for name, digits in scale.items():
-        if name not in [it.name for it in measures]:
-            raise CantFollow(f"a scale is given for {name}, which is no column of a measure")
+        if name not in [it.name for it in numbers]:
+            raise CantFollow(f"a scale is given for {name}, which is no column of a measure that is a number")
         if not 0 <= digits <= 18:
             raise CantFollow(f"the scale of {name} is a number of decimals from 0 to 18, and {digits} isn't")
     return [10 ** scale.get(it.name, 0) for it in measures]
@@ -146,11 +152,11 @@ def check_sent(table: Table, column: Column) -> None:
         )
 
 
-def check_dimension(table: Table, column: Column) -> None:
+def check_exact(table: Table, column: Column, told: str) -> None:
     if not column.is_exact:
         raise CantFollow(
             f"column {column.name} of table {table} is of type {column.type}, of which equal values may have different texts, so it "
-            "is no dimension: follow a column of type text or numeric(P,S) that a trigger fills"
+            f"{told}: follow a column of type text or numeric(P,S) that a trigger fills"
         )
 
 

@@ -72,7 +72,7 @@ def record_of_object(found: Mapping[str, Any], key: str, schema: Schema) -> Reco
     if strangers:
         raise BadBody(f"no column is named {shortened(strangers[0])}: they are {', '.join(names)}")
     dimensions = {it: text_in(it, found[it]) for it in schema.dimensions if it in found}
-    measures = {it: number_in(it, found[it]) for it in schema.measures if it in found}
+    measures = {it: (text_in if it in schema.texts else number_in)(it, found[it]) for it in schema.measures if it in found}
     return change_record(schema, source, op, text_in("id", found["id"]) or "", dimensions, measures)
 
 
@@ -85,7 +85,7 @@ def source_key(schema: Schema) -> str:
 
 
 def text_in(name: str, value: object) -> Union[str, None]:
-    """The text of a dimension or of an id: a whole number is its digits."""
+    """The text of a dimension, of an id, or of a measure that is a text: a whole number is its digits."""
     if value is None or isinstance(value, str):
         return value
     if isinstance(value, bool) or not isinstance(value, int):
