@@ -1,4 +1,4 @@
--- What a record asks can be asked: its dimension is one of the schema's, its key has a coordinate for each,
+-- What a record asks can be asked: its dimension is one of the cube's, its key has a coordinate for each,
 -- and its source is one of the 64.
 use Rattle.std.proofs.Common.{◌≡◌, ◌==◌, ◌+◌, ◌<◌, ◌≤◌, ◌∙◌, ℕ, Bool, true, false, List, [], length, drop, refl, sym}
 use Rattle.std.proofs.Common.{ap, subst, arith}
@@ -9,10 +9,10 @@ use Rattle.std.specs.Str.{bytes_eq}
 use Rattle.std.specs.List.{filter_map, list_all}
 use Rattle.std.proofs.lemmas.Bool.{and_parts, eq-eqb, eqb-true, ltb-true}
 use Rattle.std.proofs.lemmas.Result.{IfOk-weaker}
-use Rattle.std.proofs.lemmas.List.{length-drop}
+use Rattle.std.proofs.lemmas.List.{length-drop, length-take-le}
 use Rattle.std.proofs.lemmas.List.Quantifiers.{position-Some}
 use Rattle.cube_core.specs.Items.{field_at}
-use Rattle.cube_core.specs.Layout.{Layout}
+use Rattle.cube_core.specs.Layout.{Layout, cube_dimensions, number_of_dimensions}
 use Rattle.cube_core.specs.Query.{Wanted, cell_of, drill_fault, place_of, spelled_by, wanted_by}
 use Rattle.cube_core.specs.declared.key.Key.{Key}
 use Rattle.cube_core.specs.declared.query.QueryFault.{QueryFault}
@@ -78,37 +78,41 @@ cell_by-length fields = go (spelled_by fields) (spelled-length fields)
     go (Ok pattern) long = IfOk-weaker (cell_of pattern) _ _ (λ key same. same ∙ long) (key-length pattern)
     go (Err fault) long = tt
 
--- a dimension that has a name is one of the schema's
+-- a dimension that has a name is one of the cube's
 pub place_of-below : (s : Layout) (name : List ℕ)
-    → IfOk (place_of s name) (λ dimension. dimension < length s.dimensions)
-place_of-below s name = go (position (λ dimension. bytes_eq dimension name) s.dimensions) refl
+    → IfOk (place_of s name) (λ dimension. dimension < number_of_dimensions s)
+place_of-below s name = go (position (λ dimension. bytes_eq dimension name) (cube_dimensions s)) refl
   where
-    go : (found : Option ℕ) → position (λ dimension. bytes_eq dimension name) s.dimensions ≡ found
-        → IfOk (ok_or found UnknownDimension) (λ dimension. dimension < length s.dimensions)
+    go : (found : Option ℕ) → position (λ dimension. bytes_eq dimension name) (cube_dimensions s) ≡ found
+        → IfOk (ok_or found UnknownDimension) (λ dimension. dimension < number_of_dimensions s)
     go None is = tt
-    go (Some place) is = (position-Some (λ dimension. bytes_eq dimension name) s.dimensions place [] is).0
+    go (Some place) is = omega (
+      arith,
+      (position-Some (λ dimension. bytes_eq dimension name) (cube_dimensions s) place [] is).0,
+      length-take-le (number_of_dimensions s) s.dimensions (omega arith),
+    )
 
 -- a cell and a dimension of a record of the right width
-pub cell_and_dimension-sound : (s : Layout) (fields : List (List ℕ)) → length fields ≡ 2 + length s.dimensions
+pub cell_and_dimension-sound : (s : Layout) (fields : List (List ℕ)) → length fields ≡ 2 + number_of_dimensions s
     → IfOk (cell_and_dimension s fields)
-    (λ at. (at.1 < length s.dimensions) × (length at.0.coords ≡ length s.dimensions))
+    (λ at. (at.1 < number_of_dimensions s) × (length at.0.coords ≡ number_of_dimensions s))
 cell_and_dimension-sound s fields width = go (cell_by (spelled_by (drop 2 fields))) (place_of s (field_at fields 1))
     (cell_by-length (drop 2 fields)) (place_of-below s (field_at fields 1))
   where
-    long : length (drop 2 fields) ≡ length s.dimensions
+    long : length (drop 2 fields) ≡ number_of_dimensions s
     long = omega (arith, width, length-drop 2 fields)
 
     go : (key : Result Key QueryFault) (place : Result ℕ QueryFault)
         → IfOk key (λ k. length k.coords ≡ length (drop 2 fields))
-        → IfOk place (λ dimension. dimension < length s.dimensions)
+        → IfOk place (λ dimension. dimension < number_of_dimensions s)
         → IfOk (with_dimension key place)
-        (λ at. (at.1 < length s.dimensions) × (length at.0.coords ≡ length s.dimensions))
+        (λ at. (at.1 < number_of_dimensions s) × (length at.0.coords ≡ number_of_dimensions s))
     go (Ok key) (Ok dimension) same below = (below, same ∙ long)
     go (Ok key) (Err fault) same below = tt
     go (Err fault) place same below = tt
 
 IsSound-drill_by : (s : Layout) (at : Key × ℕ)
-    → (at.1 < length s.dimensions) × (length at.0.coords ≡ length s.dimensions) → IsSound s (drill_by s at)
+    → (at.1 < number_of_dimensions s) × (length at.0.coords ≡ number_of_dimensions s) → IsSound s (drill_by s at)
 IsSound-drill_by s at sound = go (drill_fault s.grouping_sets at.1 at.0)
   where
     go : (said : Option QueryFault)
@@ -175,15 +179,15 @@ IsSound-request_of s fields = go (source_of (field_at fields 0)) (source_of-boun
     go (Some source) bounds = bounds
 
 -- ---- what a reading of a record comes to
-pub slice-Ok : (s : Layout) (fields : List (List ℕ)) (pattern : Wanted) → length fields ≡ 1 + length s.dimensions
+pub slice-Ok : (s : Layout) (fields : List (List ℕ)) (pattern : Wanted) → length fields ≡ 1 + number_of_dimensions s
     → spelled_by (drop 1 fields) ≡ Ok pattern
     → Ask (Slice pattern) ≡ slice_request s fields
-slice-Ok s fields pattern width is = rw (eq-eqb (length fields) (1 + length s.dimensions) width, is) refl
+slice-Ok s fields pattern width is = rw (eq-eqb (length fields) (1 + number_of_dimensions s) width, is) refl
 
-pub slice-Err : (s : Layout) (fields : List (List ℕ)) (fault : QueryFault) → length fields ≡ 1 + length s.dimensions
+pub slice-Err : (s : Layout) (fields : List (List ℕ)) (fault : QueryFault) → length fields ≡ 1 + number_of_dimensions s
     → spelled_by (drop 1 fields) ≡ Err fault
     → Wrong (Query fault) ≡ slice_request s fields
-slice-Err s fields fault width is = rw (eq-eqb (length fields) (1 + length s.dimensions) width, is) refl
+slice-Err s fields fault width is = rw (eq-eqb (length fields) (1 + number_of_dimensions s) width, is) refl
 
 pub at-no_cell : (s : Layout) (fields : List (List ℕ)) (fault : QueryFault)
     → cell_by (spelled_by (drop 2 fields)) ≡ Err fault → Err fault ≡ cell_and_dimension s fields
@@ -195,23 +199,23 @@ pub at-found : (s : Layout) (fields : List (List ℕ)) (key : Key) → cell_by (
 at-found s fields key is place named = rw is (ap (with_dimension (Ok key)) named)
 
 pub drill-found : (s : Layout) (fields : List (List ℕ)) (found : Result (Key × ℕ) QueryFault)
-    → length fields ≡ 2 + length s.dimensions → found ≡ cell_and_dimension s fields
+    → length fields ≡ 2 + number_of_dimensions s → found ≡ cell_and_dimension s fields
     → asked found (drill_by s) ≡ drill_request s fields
-drill-found s fields found width is = rw (eq-eqb (length fields) (2 + length s.dimensions) width)
+drill-found s fields found width is = rw (eq-eqb (length fields) (2 + number_of_dimensions s) width)
     (ap (λ (f : Result (Key × ℕ) QueryFault). asked f (drill_by s)) is)
 
 pub roll_up-found : (s : Layout) (fields : List (List ℕ)) (found : Result (Key × ℕ) QueryFault)
-    → length fields ≡ 2 + length s.dimensions → found ≡ cell_and_dimension s fields
+    → length fields ≡ 2 + number_of_dimensions s → found ≡ cell_and_dimension s fields
     → asked found (λ at. Ask (RollUp at.0 at.1)) ≡ roll_up_request s fields
 roll_up-found s fields found width is =
-    rw (eq-eqb (length fields) (2 + length s.dimensions) width)
+    rw (eq-eqb (length fields) (2 + number_of_dimensions s) width)
     (ap (λ (f : Result (Key × ℕ) QueryFault). asked f (λ at. Ask (RollUp at.0 at.1))) is)
 
 -- a cell and a dimension that were found
-pub found-sound : (s : Layout) (fields : List (List ℕ)) (at : Key × ℕ) → length fields ≡ 2 + length s.dimensions
+pub found-sound : (s : Layout) (fields : List (List ℕ)) (at : Key × ℕ) → length fields ≡ 2 + number_of_dimensions s
     → Ok at ≡ cell_and_dimension s fields
-    → (at.1 < length s.dimensions) × (length at.0.coords ≡ length s.dimensions)
+    → (at.1 < number_of_dimensions s) × (length at.0.coords ≡ number_of_dimensions s)
 found-sound s fields at width is =
     subst (λ (r : Result (Key × ℕ) QueryFault).
-    IfOk r (λ at. (at.1 < length s.dimensions) × (length at.0.coords ≡ length s.dimensions))) (sym is)
+    IfOk r (λ at. (at.1 < number_of_dimensions s) × (length at.0.coords ≡ number_of_dimensions s))) (sym is)
     (cell_and_dimension-sound s fields width)

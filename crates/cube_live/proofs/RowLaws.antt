@@ -9,20 +9,26 @@ use Rattle.std.specs.Ordering.{is_eq, ordering_then}
 use Rattle.std.specs.declared.cmp.Ordering.{Ordering}
 use Rattle.std.specs.declared.cmp.Ordering.TheVariants.{Less, Equal, Greater}
 use Rattle.std.proofs.lemmas.Cmp.{eq_by_cmp_equiv}
+use Rattle.std.proofs.lemmas.List.Sums.{list_all-from_AllPass}
 use Rattle.std.proofs.lemmas.Map.Views.{tells_apart}
 use Rattle.cube_core.specs.Answer.{AreAnswers}
 use Rattle.cube_core.specs.Cube.{AreRows, AreRowsOver, key_of, is_cell, HasAnswers}
 use Rattle.cube_core.specs.Group.{group_of}
-use Rattle.cube_core.specs.Layout.{Layout}
+use Rattle.cube_core.specs.Layout.{Layout, cube_schema, number_of_dimensions}
 use Rattle.cube_core.specs.Order.{coord_cmp}
 use Rattle.cube_core.specs.Query.{AreRowsWhere, Wanted, all_wanted, cell_of, matches}
+use Rattle.cube_core.specs.Takes.{fits}
+use Rattle.cube_core.specs.TextPlaces.{counted_by}
 use Rattle.cube_core.specs.declared.aggregate.Agg.{Agg}
 use Rattle.cube_core.specs.declared.fact.Fact.{Fact}
 use Rattle.cube_core.specs.declared.key.Coord.{Coord}
 use Rattle.cube_core.specs.declared.key.Key.{Key}
 use Rattle.cube_core.specs.declared.key.Row.{Row}
+use Rattle.cube_core.proofs.CubeSchemaLaws.{cube_schema-aggregates, cube_schema-dimensions}
 use Rattle.cube_core.proofs.KeyOrderLaws.{key_cmp-exact, key_cmp-IsTotalOrder}
 use Rattle.cube_core.proofs.ListLaws.{Contains-nil, Contains-head, Contains-cases}
+use Rattle.cube_core.proofs.TextRowLaws.{are_rows-numbered}
+use Rattle.cube_build.specs.Builder.{HasFacts}
 use Rattle.cube_cells.specs.Cube.{Lattice, IsCubeOf, cell_at}
 use Rattle.cube_cells.specs.Rows.{IsRowOf, IsRowOver}
 use Rattle.cube_cells.specs.Tally.{Tally, IsTallyOf}
@@ -118,14 +124,20 @@ matches-cell pattern key other is = by (list_all is_some pattern) refl
         rw coords (all_wanted-coords pattern other.coords all)
     by false all = let bad = rw all at is in cc bad
 
--- the rows of a cube of a schema over its grouping sets are the rows of the schema
-pub AreRows-AreRowsOver : (s : Layout) (cube : Lattice) (facts : List Fact) (rows : List Row) → cube.schema ≡ s
-    → cube.sets ≡ s.grouping_sets
-    → AreRowsOver cube.sets (length cube.schema.dimensions) cube.schema.aggregates facts rows → AreRows s facts rows
-AreRows-AreRowsOver s cube facts rows schema sets are =
-    subst (λ (l : Layout). AreRowsOver s.grouping_sets (length l.dimensions) l.aggregates facts rows) schema
-    (subst (λ (kept : List ℕ). AreRowsOver kept (length cube.schema.dimensions) cube.schema.aggregates facts rows)
-    sets are)
+-- the rows of a cube that has the facts of a schema's feeds, over its grouping sets, are the rows of the schema
+pub AreRows-HasFacts : (s : Layout) (cube : Lattice) (facts : List Fact) (rows : List Row) → cube.schema ≡ cube_schema s
+    → cube.sets ≡ s.grouping_sets → (has : HasFacts s facts cube)
+    → AreRowsOver cube.sets (length cube.schema.dimensions) cube.schema.aggregates
+    (map (counted_by has.number (length s.text_places)) facts) rows
+    → AreRows s facts rows
+AreRows-HasFacts s cube facts rows schema sets has are =
+    let counted = map (counted_by has.number (length s.text_places)) facts in
+    let dimensions : length cube.schema.dimensions ≡ number_of_dimensions s =
+    ap (λ (l : Layout). length l.dimensions) schema ∙ cube_schema-dimensions s in
+    let aggregates : cube.schema.aggregates ≡ s.aggregates =
+    ap (λ (l : Layout). l.aggregates) schema ∙ cube_schema-aggregates s in
+    are_rows-numbered s has.schema has.number facts rows (list_all-from_AllPass (fits s) facts has.fit) has.tells_apart
+    (rw (sets, dimensions, aggregates) at are)
 
 -- the row of a key, or none, is the list of its rows
 pub AreRowsWhere-IsRowOver : (sets : List ℕ) (dimensions : ℕ) (aggregates : List Agg) (facts : List Fact) (key : Key)
@@ -154,20 +166,17 @@ pub no_cell : (cube : Lattice) (facts : List Fact) (key : Key) → IsCubeOf cube
 no_cell cube facts key of none = sym (of.keys key) ∙ ap is_some none
 
 -- the row of a key's cell is the list of its rows
-pub rows-one : (s : Layout) (cube : Lattice) (facts : List Fact) (key : Key) (tally : Tally) (row : Row)
-    → cube.schema ≡ s → IsCubeOf cube facts → Some tally ≡ cell_at cube.cells key
-    → IsRowOf s.aggregates (key, tally) row
-    → AreRowsWhere (is_key key) cube.sets (length s.dimensions) s.aggregates facts (row ∷ [])
-rows-one s cube facts key tally row schema of found is =
-    let has = cell-HasAnswers cube facts s.aggregates key tally row of (sym found) is in
-    AreRowsWhere-one cube.sets (length s.dimensions) s.aggregates facts key row
-    (subst (λ (l : Layout). is_cell cube.sets (length l.dimensions) facts key ≡ true) schema has.0) has.1 has.2
+pub rows-one : (cube : Lattice) (facts : List Fact) (key : Key) (tally : Tally) (row : Row) → IsCubeOf cube facts
+    → Some tally ≡ cell_at cube.cells key → IsRowOf cube.schema.aggregates (key, tally) row
+    → AreRowsWhere (is_key key) cube.sets (length cube.schema.dimensions) cube.schema.aggregates facts (row ∷ [])
+rows-one cube facts key tally row of found is =
+    let has = cell-HasAnswers cube facts cube.schema.aggregates key tally row of (sym found) is in
+    AreRowsWhere-one cube.sets (length cube.schema.dimensions) cube.schema.aggregates facts key row has.0 has.1 has.2
 
 -- and of a key that has none there is no row
-pub rows-none : (s : Layout) (cube : Lattice) (facts : List Fact) (key : Key) → cube.schema ≡ s → IsCubeOf cube facts
+pub rows-none : (cube : Lattice) (facts : List Fact) (key : Key) → IsCubeOf cube facts
     → None ≡ cell_at cube.cells key
-    → AreRowsWhere (is_key key) cube.sets (length s.dimensions) s.aggregates facts []
-rows-none s cube facts key schema of none =
-    AreRowsWhere-none cube.sets (length s.dimensions) s.aggregates facts key
-    (subst (λ (l : Layout). is_cell cube.sets (length l.dimensions) facts key ≡ false) schema
-    (no_cell cube facts key of (sym none)))
+    → AreRowsWhere (is_key key) cube.sets (length cube.schema.dimensions) cube.schema.aggregates facts []
+rows-none cube facts key of none =
+    AreRowsWhere-none cube.sets (length cube.schema.dimensions) cube.schema.aggregates facts key
+    (no_cell cube facts key of (sym none))

@@ -4,7 +4,7 @@ use Rattle.std.specs.Prelude.{◌≡◌, ◌≤◌, ◌<◌, ◌+◌, ◌-◌, �
 use Rattle.std.specs.List.{last_or}
 use Rattle.std.specs.Option.{option_map_or}
 use Rattle.cube_core.specs.Arrival.{Arrivals, of_source}
-use Rattle.cube_core.specs.Layout.{Layout}
+use Rattle.cube_core.specs.Layout.{Layout, number_of_dimensions}
 use Rattle.cube_core.specs.declared.change.Change.{Change}
 use Rattle.cube_core.specs.declared.change.Item.{Item}
 use Rattle.cube_core.specs.declared.change.LineFault.{LineFault}
@@ -64,13 +64,17 @@ abbrev pub ExplainsLive : ℕ → LiveView → LiveFault → Type 0
 ExplainsLive source live TooMany = get_or live.numbers (source - 1) 0 ≡ live.schema.max_records
 ExplainsLive source live Memory = ⊤
 
--- a question is one that can be asked under a schema:
--- its dimension is one of the schema's, its key has a coordinate for each, and its source is one of the 64
+-- a question is one that can be asked of a cube of so many dimensions:
+-- its dimension is one of them, its key has a coordinate for each, and its source is one of the 64
+abbrev pub CanAskOver : ℕ → Question → Type 0
+CanAskOver dimensions Print = ⊤
+CanAskOver dimensions (Slice pattern) = ⊤
+CanAskOver dimensions (Drill key dimension) = (dimension < dimensions) × (length key.coords ≡ dimensions)
+CanAskOver dimensions (RollUp key dimension) = (dimension < dimensions) × (length key.coords ≡ dimensions)
+CanAskOver dimensions Refusals = ⊤
+CanAskOver dimensions (RefusalsAfter source number) = (1 ≤ source) × (source ≤ 64)
+CanAskOver dimensions Sync = ⊤
+
+-- a question is one that can be asked under a schema: of its cube
 abbrev pub CanAsk : Layout → Question → Type 0
-CanAsk s Print = ⊤
-CanAsk s (Slice pattern) = ⊤
-CanAsk s (Drill key dimension) = (dimension < length s.dimensions) × (length key.coords ≡ length s.dimensions)
-CanAsk s (RollUp key dimension) = (dimension < length s.dimensions) × (length key.coords ≡ length s.dimensions)
-CanAsk s Refusals = ⊤
-CanAsk s (RefusalsAfter source number) = (1 ≤ source) × (source ≤ 64)
-CanAsk s Sync = ⊤
+CanAsk s question = CanAskOver (number_of_dimensions s) question

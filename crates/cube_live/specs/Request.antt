@@ -4,7 +4,7 @@ use Rattle.std.specs.Prelude.{Some, None, option_and_then, Result, Ok, Err, if�
 use Rattle.std.specs.Option.{option_map_or}
 use Rattle.std.specs.Str.{bytes_eq, is_utf8}
 use Rattle.cube_core.specs.Items.{field_at, number_of}
-use Rattle.cube_core.specs.Layout.{Layout}
+use Rattle.cube_core.specs.Layout.{Layout, number_of_dimensions}
 use Rattle.cube_core.specs.Query.{Wanted, cell_of, drill_fault, place_of, spelled_by}
 use Rattle.cube_core.specs.declared.key.Key.{Key}
 use Rattle.cube_core.specs.declared.query.QueryFault.{QueryFault}
@@ -43,7 +43,7 @@ of_width width fields request = if length fields == width then request else Wron
 -- what a slice asks: a field for each dimension
 abbrev pub slice_request : Layout → List (List ℕ) → Request
 slice_request s fields =
-    of_width (1 + length s.dimensions) fields (asked (spelled_by (drop 1 fields)) (λ pattern. Ask (Slice pattern)))
+    of_width (1 + number_of_dimensions s) fields (asked (spelled_by (drop 1 fields)) (λ pattern. Ask (Slice pattern)))
 
 -- the cell of a pattern, where there is a pattern
 abbrev pub cell_by : Result Wanted QueryFault → Result Key QueryFault
@@ -67,12 +67,13 @@ drill_by s at =
 
 -- what a drill-down asks: the dimension, and a field for each dimension
 abbrev pub drill_request : Layout → List (List ℕ) → Request
-drill_request s fields = of_width (2 + length s.dimensions) fields (asked (cell_and_dimension s fields) (drill_by s))
+drill_request s fields =
+    of_width (2 + number_of_dimensions s) fields (asked (cell_and_dimension s fields) (drill_by s))
 
 -- what a roll-up asks: the dimension, and a field for each dimension
 abbrev pub roll_up_request : Layout → List (List ℕ) → Request
 roll_up_request s fields =
-    of_width (2 + length s.dimensions) fields (asked (cell_and_dimension s fields) (λ at. Ask (RollUp at.0 at.1)))
+    of_width (2 + number_of_dimensions s) fields (asked (cell_and_dimension s fields) (λ at. Ask (RollUp at.0 at.1)))
 
 -- the refusals of a source after a record of it
 abbrev pub refusals_by : Option ℕ → Option ℕ → Request

@@ -2,12 +2,13 @@
 use Rattle.std.specs.Prelude.{◌≡◌, ◌++◌, ◌-◌, nat_lt, ⊤, ℕ, Bool, false, List, [], length, map, filter, get_or}
 use Rattle.std.specs.List.{flat_map}
 use Rattle.std.specs.Ordering.{eq_by_cmp}
-use Rattle.cube_core.specs.Layout.{Layout}
+use Rattle.cube_core.specs.Layout.{Layout, number_of_dimensions}
 use Rattle.cube_core.specs.Order.{key_cmp}
 use Rattle.cube_core.specs.Printed.{IsPrinted}
 use Rattle.cube_core.specs.Query.{AreRowsWhere, drills_down, matches, rolled_up}
 use Rattle.cube_core.specs.Refusals.{refusals_of}
 use Rattle.cube_core.specs.Sources.{SurviveTogether}
+use Rattle.cube_core.specs.TextPlaces.{counted}
 use Rattle.cube_core.specs.Text.{refusal_header, refusal_line, text_of_refusals, text_of_rows}
 use Rattle.cube_core.specs.declared.change.Item.{Item}
 use Rattle.cube_core.specs.declared.change.Refusal.{Refusal}
@@ -24,10 +25,11 @@ pub record ShowsCube (s : Layout) (feeds : List (List Item)) (text : List ℕ) :
   pub survive : SurviveTogether s feeds facts
   pub printed : IsPrinted s facts text
 
--- a text is that of the rows of the cube over these facts whose keys pass a test
+-- a text is that of the rows of the cube over these facts whose keys pass a test; a text that is counted counts as a
+-- number of its own
 pub record IsTextWhere (test : Key → Bool) (s : Layout) (facts : List Fact) (text : List ℕ) : Type 0 where
   pub rows : List Row
-  pub are_rows : AreRowsWhere test s.grouping_sets (length s.dimensions) s.aggregates facts rows
+  pub are_rows : AreRowsWhere test s.grouping_sets (number_of_dimensions s) s.aggregates (map (counted s) facts) rows
   pub text_is : text ≡ text_of_rows s rows
 
 -- a text shows the rows, of the cube over the facts that survive in all sources, whose keys pass a test

@@ -4,6 +4,7 @@ ghost use Rattle.std.specs.Str.{bytes_eq};
 ghost use Rattle.csv.specs.Records.{fields_of};
 ghost use Rattle.std.specs.Prelude.{Result};
 ghost use Rattle.cube_core.specs.Items.{field_at};
+ghost use Rattle.cube_core.specs.Layout.{number_of_dimensions};
 ghost use Rattle.cube_core.specs.Query.{Says, place_of, spelled_by};
 ghost use Rattle.cube_core.specs.declared.query.QueryFault.{QueryFault as TheFault};
 ghost use Rattle.cube_live.specs.Request.{cell_and_dimension, cell_by, drill_by, drill_request, of_width, question_of, refusals_asked, refusals_by, request_of, roll_up_request, slice_request, with_dimension};
@@ -110,7 +111,7 @@ fn pattern_from(
 fn slice_request(alloc: Global, schema: &Schema, fields: &ByteRecord) -> Result<Request, AllocError>
     ensures { IfOk result (λ request. request ≡ slice_request schema.now (fields_of fields.now)) }
 {
-    if fields.len() != 1 + schema.dimensions().len() {
+    if fields.len() != 1 + schema.number_of_dimensions() {
         return Ok(Request::Wrong(RequestFault::Shape));
     }
     match pattern_from(alloc, fields, 1)? {
@@ -123,7 +124,7 @@ fn slice_request(alloc: Global, schema: &Schema, fields: &ByteRecord) -> Result<
 fn place_of(schema: &Schema, name: &[u8]) -> Result<usize, QueryFault>
     ensures { result ≡ place_of schema.now name.now }
 {
-    position_of(schema.dimensions(), name).ok_or(QueryFault::UnknownDimension)
+    position_of(schema.cube_dimensions(), name).ok_or(QueryFault::UnknownDimension)
 }
 
 // The first place of a name.
@@ -173,7 +174,7 @@ fn with_dimension(key: Key, place: Result<usize, QueryFault>) -> Result<(Key, us
 fn drill_request(alloc: Global, schema: &Schema, fields: &ByteRecord) -> Result<Request, AllocError>
     ensures { IfOk result (λ request. request ≡ drill_request schema.now (fields_of fields.now)) }
 {
-    if fields.len() != 2 + schema.dimensions().len() {
+    if fields.len() != 2 + schema.number_of_dimensions() {
         return Ok(Request::Wrong(RequestFault::Shape));
     }
     match cell_and_dimension(alloc, schema, fields)? {
@@ -184,8 +185,8 @@ fn drill_request(alloc: Global, schema: &Schema, fields: &ByteRecord) -> Result<
 
 // The drill-down from a key along a dimension, where there is one.
 fn drill_by(schema: &Schema, key: Key, dimension: usize) -> Request
-    requires dimension { dimension < length schema.now.dimensions }
-    requires width { length key.coords ≡ length schema.now.dimensions }
+    requires dimension { dimension < number_of_dimensions schema.now }
+    requires width { length key.coords ≡ number_of_dimensions schema.now }
     ensures { result ≡ drill_by schema.now (key, dimension) }
 {
     match schema.drill_fault(&key, dimension) {
@@ -202,7 +203,7 @@ fn roll_up_request(
 ) -> Result<Request, AllocError>
     ensures { IfOk result (λ request. request ≡ roll_up_request schema.now (fields_of fields.now)) }
 {
-    if fields.len() != 2 + schema.dimensions().len() {
+    if fields.len() != 2 + schema.number_of_dimensions() {
         return Ok(Request::Wrong(RequestFault::Shape));
     }
     match cell_and_dimension(alloc, schema, fields)? {

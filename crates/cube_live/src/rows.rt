@@ -1,11 +1,11 @@
 //! The texts of rows that questions are answered by.
-ghost use Rattle.std.specs.Prelude.{◌≡◌, ◌<◌, [], ◌∷◌, List, length, IfOk};
+ghost use Rattle.std.specs.Prelude.{◌≡◌, ◌<◌, [], ◌∷◌, length, IfOk};
+ghost use Rattle.cube_core.specs.Layout.{cube_schema};
 ghost use Rattle.cube_core.specs.Printed.{IsPrinted};
-ghost use Rattle.cube_core.specs.Query.{AreRowsWhere, matches, rolled_up};
-ghost use Rattle.cube_core.specs.declared.fact.Fact.{Fact};
-ghost use Rattle.cube_cells.specs.Cube.{IsCubeOf};
+ghost use Rattle.cube_core.specs.Query.{matches, rolled_up};
+ghost use Rattle.cube_build.specs.Joined.{AnswersIn};
 ghost use Rattle.cube_ledger.specs.Ledger.{all_facts};
-ghost use Rattle.cube_live.specs.Live.{CanAsk};
+ghost use Rattle.cube_live.specs.Live.{CanAsk, CanAskOver};
 ghost use Rattle.cube_live.specs.Shows.{AsksRows, IsTextWhere, asks_for, is_key};
 
 use crate::request::Question;
@@ -65,8 +65,8 @@ struct Asked<'q> {
 impl<'q> AsksCube for Asked<'q> {
     ghost test = { λ asked. asks_for asked.question.now };
 
-    ghost can_ask = { λ asked s. (asked.schema.now ≡ s)
-        × AsksRows asked.question.now × CanAsk s asked.question.now };
+    ghost can_ask = { λ asked s. (s ≡ cube_schema asked.schema.now)
+        × AsksRows asked.question.now × CanAskOver (length s.dimensions) asked.question.now };
 
     fn rows_of(&self, cube: &Cube) -> Result<Vec<Row>, AllocError> {
         match self.question {
@@ -86,10 +86,8 @@ fn slice_rows(
     cube: &Cube,
     pattern: &Pattern,
 ) -> Result<Vec<Row>, AllocError>
-    requires { cube.now.schema ≡ schema.now }
-    ensures { IfOk result (λ rows. (facts : List Fact) → IsCubeOf cube.now facts →
-        AreRowsWhere (matches pattern.now) cube.now.sets (length schema.now.dimensions)
-        schema.now.aggregates facts rows.items) }
+    requires { cube.now.schema ≡ cube_schema schema.now }
+    ensures { IfOk result (λ rows. AnswersIn (matches pattern.now) cube.now rows.items) }
 {
     match pattern.cell(alloc) {
         Ok(key) => cell_rows(alloc, schema, cube, key),
@@ -100,10 +98,8 @@ fn slice_rows(
 
 // The row of a key, if the key is a cell.
 fn cell_rows(alloc: Global, schema: &Schema, cube: &Cube, key: Key) -> Result<Vec<Row>, AllocError>
-    requires { cube.now.schema ≡ schema.now }
-    ensures { IfOk result (λ rows. (facts : List Fact) → IsCubeOf cube.now facts →
-        AreRowsWhere (is_key key) cube.now.sets (length schema.now.dimensions)
-        schema.now.aggregates facts rows.items) }
+    requires { cube.now.schema ≡ cube_schema schema.now }
+    ensures { IfOk result (λ rows. AnswersIn (is_key key) cube.now rows.items) }
 {
     let Some(cell) = cube.get(&key) else {
         return Ok(Vec::new(alloc));
@@ -130,9 +126,8 @@ fn roll_up_rows(
 ) -> Result<Vec<Row>, AllocError>
     requires dimension { dimension < length cube.now.schema.dimensions }
     requires width { length key.now.coords ≡ length cube.now.schema.dimensions }
-    ensures { IfOk result (λ rows. (facts : List Fact) → IsCubeOf cube.now facts →
-        AreRowsWhere (is_key (rolled_up dimension key.now)) cube.now.sets
-        (length cube.now.schema.dimensions) cube.now.schema.aggregates facts rows.items) }
+    ensures { IfOk result (λ rows.
+        AnswersIn (is_key (rolled_up dimension key.now)) cube.now rows.items) }
 {
     match cube.roll_up(key, dimension)? {
         Some(row) => one_row(alloc, row),

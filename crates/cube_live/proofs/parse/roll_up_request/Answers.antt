@@ -1,5 +1,6 @@
-use Rattle.std.proofs.Common.{◌≡◌, ◌+◌, ◌∙◌, sym, ap, length, List, ℕ, Ok, Err}
+use Rattle.std.proofs.Common.{◌≡◌, ◌+◌, ◌∙◌, sym, ap, length, ℕ, Ok, Err}
 use Rattle.csv.specs.Records.{fields_of}
+use Rattle.cube_core.specs.Layout.{number_of_dimensions}
 use Rattle.cube_live.proofs.RequestLaws.{roll_up-found}
 use Rattle.cube_live.proofs.parse.roll_up_request.Goals as goal
 
@@ -7,14 +8,14 @@ pub returns-in-Ok : goal.returns-in-Ok
 returns-in-Ok c =
     let s = c.args.schema.now in
     let fields = fields_of c.args.fields.now in
-    let width : length fields ≡ 2 + length s.dimensions = sym c.len.ensures ∙ c.if-len-dimensions.false
-    ∙ ap (λ (l : List (List ℕ)). 2 + length l) c.dimensions.ensures.value in
+    let width : length fields ≡ 2 + number_of_dimensions s = sym c.len.ensures ∙ c.if-len-number_of_dimensions.false
+    ∙ ap (λ (count : ℕ). 2 + count) c.number_of_dimensions.ensures.value in
     roll_up-found s fields (Ok (c.in-Ok.key, c.in-Ok.dimension)) width (sym c.in-Ok.is ∙ c.in_ok-key.ensures)
 
 pub returns-in-Err : goal.returns-in-Err
 returns-in-Err c =
     let s = c.args.schema.now in
     let fields = fields_of c.args.fields.now in
-    let width : length fields ≡ 2 + length s.dimensions = sym c.len.ensures ∙ c.if-len-dimensions.false
-    ∙ ap (λ (l : List (List ℕ)). 2 + length l) c.dimensions.ensures.value in
+    let width : length fields ≡ 2 + number_of_dimensions s = sym c.len.ensures ∙ c.if-len-number_of_dimensions.false
+    ∙ ap (λ (count : ℕ). 2 + count) c.number_of_dimensions.ensures.value in
     roll_up-found s fields (Err c.in-Err.fault) width (sym c.in-Err.is ∙ c.in_ok-key.ensures)

@@ -1,7 +1,7 @@
 use Rattle.cube_live.proofs.rows.AskedAsksCube.rows_of.Goals as goal
 
 pub returns-in-Slice : goal.returns-in-Slice
-returns-in-Slice c = rw c.in-Slice.is (rw c.requires.0 at c.slice_rows.ensures)
+returns-in-Slice c = rw c.in-Slice.is c.slice_rows.ensures
 
 pub returns-in-Drill : goal.returns-in-Drill
 returns-in-Drill c = rw c.in-Drill.is c.rows_of.ensures
