@@ -1,12 +1,13 @@
 -- What the faults of a question over feeds leave.
-use Rattle.std.proofs.Common.{◌≡◌, ◌≤◌, ℕ, List, inl, inr, length, refl, subst, sym}
+use Rattle.std.proofs.Common.{◌≡◌, ◌≤◌, ℕ, List, inl, inr, length, map, pos, refl, subst, sym}
 use Rattle.std.specs.Prelude.{All, Bool, option_to_list, Option, Some, None, Result, Ok, Err}
 use Rattle.std.proofs.lemmas.List.Sums.{list_all-from_AllPass}
-use Rattle.cube_core.specs.Layout.{Layout}
+use Rattle.cube_core.specs.Layout.{Layout, number_of_dimensions}
 use Rattle.cube_core.specs.Query.{AreRowsWhere, drill_fault}
 use Rattle.cube_core.specs.Run.{SourceBytes}
 use Rattle.cube_core.specs.Takes.{fits}
 use Rattle.cube_core.specs.Text.{text_of_rows}
+use Rattle.cube_core.specs.TextPlaces.{counted, text_number}
 use Rattle.cube_core.specs.declared.aggregate.Agg.{Agg}
 use Rattle.cube_core.specs.declared.change.Item.{Item}
 use Rattle.cube_core.specs.declared.change.Refusal.{Refusal}
@@ -30,7 +31,7 @@ use Rattle.cube_live.specs.Shows.{IsTextWhere, is_key}
 use Rattle.cube_live.proofs.RefusalLaws.{refusals_of_accounts}
 use Rattle.cube_live.proofs.RowLaws.{AreRowsWhere-IsRowOver, AreRowsWhere-none}
 use Rattle.cube_text.specs.Shape.{HasShapeOf}
-use Rattle.cube_text.proofs.RowShapeLaws.{HasShapeOf-AreRowsWhere}
+use Rattle.cube_text.proofs.RowShapeLaws.{HasShapeOf-counted}
 use Rattle.cube_tool.specs.Answering.{Answers, FailsOn, FailsOnTerms, IsFirstRefusal, IsToldOf, MayAnswer, MayAnswerOn}
 use Rattle.cube_tool.specs.Answering.{Writes, question_fault, refusals_of_run}
 use Rattle.cube_tool.specs.Faults.{fault_of_build, fault_of_feeding, fault_of_text}
@@ -114,25 +115,27 @@ Leaves-plain_text question (text_fault.Write sent) old new builds wrote = OfFeed
 
 -- ---- rows of the cube of some facts
 
+-- these are the rows of a schema's cube of some facts whose keys pass a test
+abbrev pub AreRowsTested : (Key → Bool) → Layout → List Fact → List Row → Type 0
+AreRowsTested test s facts rows =
+    AreRowsWhere test s.grouping_sets (number_of_dimensions s) s.aggregates (map (counted s) facts) rows
+
 -- rows over a schema that is this one
 rows-where : (test : Key → Bool) (t s : Layout) (facts : List Fact) (rows : List Row) → t ≡ s
-    → AreRowsWhere test t.grouping_sets (length t.dimensions) t.aggregates facts rows
-    → AreRowsWhere test s.grouping_sets (length s.dimensions) s.aggregates facts rows
-rows-where test t s facts rows schema are =
-    subst (λ (l : Layout). AreRowsWhere test l.grouping_sets (length l.dimensions) l.aggregates facts rows) schema are
+    → AreRowsTested test t facts rows → AreRowsTested test s facts rows
+rows-where test t s facts rows schema are = subst (λ (l : Layout). AreRowsTested test l facts rows) schema are
 
 -- they have its shape
 pub shapes : (test : Key → Bool) (t s : Layout) (facts : List Fact) (rows : List Row) → t ≡ s → AllFit t facts
-    → AreRowsWhere test t.grouping_sets (length t.dimensions) t.aggregates facts rows → All (HasShapeOf s) rows
+    → AreRowsTested test t facts rows → All (HasShapeOf s) rows
 shapes test t s facts rows schema fit are =
-    HasShapeOf-AreRowsWhere test s facts rows
+    HasShapeOf-counted test s (λ text. pos (text_number text)) facts rows
     (list_all-from_AllPass (fits s) facts (subst (λ (l : Layout). AllFit l facts) schema fit))
     (rows-where test t s facts rows schema are)
 
 -- where their text is written, it is that of the rows that pass the test
 pub Writes-rows : (result : Result (Unit {0}) TextFault) (old new : Option (List ℕ)) (test : Key → Bool) (t s : Layout)
-    (facts : List Fact) (rows : List Row) → t ≡ s
-    → AreRowsWhere test t.grouping_sets (length t.dimensions) t.aggregates facts rows
+    (facts : List Fact) (rows : List Row) → t ≡ s → AreRowsTested test t facts rows
     → Writes (λ text. text ≡ text_of_rows s rows) result old new → Writes (IsTextWhere test s facts) result old new
 Writes-rows result old new test t s facts rows schema are writes =
     Writes-weaker result old new
@@ -174,20 +177,20 @@ GivesUnless-Err {T = T} (Some why) Holds fault told =
     cc
 
 -- what is asked of rows that drill down, where they are given: there is nothing for which they would be refused
-pub drill-given : {T : Type 0} (Holds : T → Type 0) (dimension : ℕ) (key : Key) (t s : Layout) (rows : T) → t ≡ s
-    → GivesUnless (drill_fault t.grouping_sets dimension key) Holds (Ok rows)
-    → (drill_fault s.grouping_sets dimension key ≡ None) × Holds rows
-drill-given Holds dimension key t s rows schema gives =
-    GivesUnless-Ok (drill_fault s.grouping_sets dimension key) Holds rows
-    (subst (λ (l : Layout). GivesUnless (drill_fault l.grouping_sets dimension key) Holds (Ok rows)) schema gives)
+pub drill-given : {T : Type 0} (Holds : T → Type 0) (dimension : ℕ) (key : Key) (given sets : List ℕ) (rows : T)
+    → given ≡ sets → GivesUnless (drill_fault given dimension key) Holds (Ok rows)
+    → (drill_fault sets dimension key ≡ None) × Holds rows
+drill-given Holds dimension key given sets rows same gives =
+    GivesUnless-Ok (drill_fault sets dimension key) Holds rows
+    (subst (λ (those : List ℕ). GivesUnless (drill_fault those dimension key) Holds (Ok rows)) same gives)
 
 -- where they aren't, the fault is that for which they would be refused
-pub drill-refused : {T : Type 0} (Holds : T → Type 0) (dimension : ℕ) (key : Key) (t s : Layout) (fault : QueryFault)
-    → t ≡ s → GivesUnless (drill_fault t.grouping_sets dimension key) Holds (Err fault)
-    → IsToldOf (drill_fault s.grouping_sets dimension key) fault
-drill-refused Holds dimension key t s fault schema gives =
-    GivesUnless-Err (drill_fault s.grouping_sets dimension key) Holds fault
-    (subst (λ (l : Layout). GivesUnless (drill_fault l.grouping_sets dimension key) Holds (Err fault)) schema gives)
+pub drill-refused : {T : Type 0} (Holds : T → Type 0) (dimension : ℕ) (key : Key) (given sets : List ℕ)
+    (fault : QueryFault) → given ≡ sets → GivesUnless (drill_fault given dimension key) Holds (Err fault)
+    → IsToldOf (drill_fault sets dimension key) fault
+drill-refused Holds dimension key given sets fault same gives =
+    GivesUnless-Err (drill_fault sets dimension key) Holds fault
+    (subst (λ (those : List ℕ). GivesUnless (drill_fault those dimension key) Holds (Err fault)) same gives)
 
 -- ---- what a failure of a question on terms leaves
 

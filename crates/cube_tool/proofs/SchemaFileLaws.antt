@@ -4,7 +4,7 @@ use Rattle.cube_core.specs.SchemaDocument.{AnswersBytes}
 use Rattle.cube_core.specs.declared.schema_fault.SchemaFault.{SchemaFault}
 use Rattle.cube_core.specs.declared.schema_fault.SchemaFault.TheVariants.{Memory, Toml, UnknownKey, Dimensions}
 use Rattle.cube_core.specs.declared.schema_fault.SchemaFault.TheVariants.{Measures, Name, Aggregates, MaxRecords}
-use Rattle.cube_core.specs.declared.schema_fault.SchemaFault.TheVariants.{Grouping, Version, Columns, Decimals}
+use Rattle.cube_core.specs.declared.schema_fault.SchemaFault.TheVariants.{Grouping, Version, Columns, Decimals, Texts}
 use Rattle.cube_tool.specs.Command.{AnswersFile, schema_limit}
 use Rattle.cube_tool.specs.declared.command.failure.Failure.TheVariants.{Schema}
 
@@ -23,3 +23,4 @@ schema_fault_answered bytes Grouping few answers = (few, answers)
 schema_fault_answered bytes Version few answers = (few, answers)
 schema_fault_answered bytes Columns few answers = (few, answers)
 schema_fault_answered bytes Decimals few answers = (few, answers)
+schema_fault_answered bytes Texts few answers = (few, answers)

@@ -1,7 +1,7 @@
 -- What a question over what was built answers, and how a command over feeds ends (this project's choice).
 use Rattle.std.specs.Prelude.{◌≡◌, ◌<◌, ◌+◌, ⊤, ℕ, Bool, true, List, [], ◌∷◌, length, map, Option, Some, None, Result, Ok, Err}
 use Rattle.cube_core.specs.Conditions.{of_interest}
-use Rattle.cube_core.specs.Layout.{Layout}
+use Rattle.cube_core.specs.Layout.{Layout, number_of_dimensions}
 use Rattle.cube_core.specs.Query.{drill_fault}
 use Rattle.cube_core.specs.Refusals.{refusals_of}
 use Rattle.cube_core.specs.Run.{SourceBytes}
@@ -38,13 +38,13 @@ use Rattle.cube_tool.specs.declared.command.terms.Terms.{Terms}
 abbrev pub refusals_of_run : BuiltView → List (List Refusal)
 refusals_of_run built = map (λ account. account.refusals) (first_ledger built.builders).accounts
 
--- a question can be asked under a schema: a drill-down or a roll-up is along one of its dimensions,
+-- a question can be asked under a schema: a drill-down or a roll-up is along one of the dimensions of its cube,
 -- from a key with a coordinate for each
 abbrev pub Fits : Layout → Question → Type 0
 Fits s Cube = ⊤
 Fits s (Slice pattern) = ⊤
-Fits s (Drill key dimension) = (dimension < length s.dimensions) × (length key.coords ≡ length s.dimensions)
-Fits s (RollUp key dimension) = (dimension < length s.dimensions) × (length key.coords ≡ length s.dimensions)
+Fits s (Drill key dimension) = (dimension < number_of_dimensions s) × (length key.coords ≡ number_of_dimensions s)
+Fits s (RollUp key dimension) = (dimension < number_of_dimensions s) × (length key.coords ≡ number_of_dimensions s)
 Fits s Refusals = ⊤
 
 -- why a question is refused under a schema, whatever the facts

@@ -1,7 +1,8 @@
 -- How many cells a cube may have, as a word names it, and whether it has more (this project's choice).
-use Rattle.std.specs.Prelude.{◌≡◌, ◌<◌, ◌≤◌, ◌⊎◌, ◌&&◌, ◌^◌, ◌-◌, ⊤, nat_le, ℕ, List, Option, Some, None}
+use Rattle.std.specs.Prelude.{◌≡◌, ◌<◌, ◌≤◌, ◌⊎◌, ◌&&◌, ◌^◌, ◌-◌, ⊤, nat_le, ℕ, List, map, Option, Some, None}
 use Rattle.std.specs.Prelude.{option_and_then, if◌then◌else◌}
-use Rattle.cube_core.specs.Layout.{Layout}
+use Rattle.cube_core.specs.Layout.{Layout, cube_schema}
+use Rattle.cube_core.specs.TextPlaces.{counted}
 use Rattle.cube_core.specs.declared.fact.Fact.{Fact}
 use Rattle.cube_cells.specs.Count.{HasCells}
 use Rattle.cube_live.specs.Request.{count_of}
@@ -17,15 +18,19 @@ lawful_cells number = if nat_le 1 number && nat_le number (2 ^ 63 - 1) then Some
 abbrev pub cells_named : List ℕ → Option ℕ
 cells_named word = option_and_then lawful_cells (count_of word)
 
--- the cube of these facts over a schema's grouping sets has no more cells than it may have, where there is a bound
+-- the cube of these facts of a schema's feeds, over its grouping sets, has so many cells
+abbrev pub HasCellsOf : Layout → List Fact → ℕ → Type 0
+HasCellsOf s facts number = HasCells (cube_schema s) (map (counted s) facts) number
+
+-- it has no more cells than it may have, where there is a bound
 abbrev pub HasCellsWithin : Option ℕ → Layout → List Fact → Type 0
 HasCellsWithin None s facts = ⊤
-HasCellsWithin (Some most) s facts = (number : ℕ) × HasCells s facts number × (number ≤ most)
+HasCellsWithin (Some most) s facts = (number : ℕ) × HasCellsOf s facts number × (number ≤ most)
 
 -- it has more cells than it may have
 abbrev pub HasCellsBeyond : Option ℕ → Layout → List Fact → Type 0
 HasCellsBeyond None s facts = ⊥
-HasCellsBeyond (Some most) s facts = (number : ℕ) × HasCells s facts number × (most < number)
+HasCellsBeyond (Some most) s facts = (number : ℕ) × HasCellsOf s facts number × (most < number)
 
 -- a failure tells that there are more cells than there may be, or that memory ran out
 abbrev pub RefusesCells : Option ℕ → Layout → List Fact → Failure → Type 0

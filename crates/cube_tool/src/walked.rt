@@ -1,6 +1,6 @@
 //! The answers to questions over what one builder took, of which no cube is filled.
 ghost use Rattle.std.specs.Prelude.{List, map};
-ghost use Rattle.cube_core.specs.declared.change.Refusal.{Refusal};
+ghost use Rattle.cube_core.specs.Printed.{IsPrinted};
 ghost use Rattle.cube_core.specs.declared.fact.Fact.{Fact};
 ghost use Rattle.cube_cells.specs.Fill.{IsCubeOfAll};
 ghost use Rattle.cube_ledger.specs.Ledger.{all_facts};
@@ -68,7 +68,7 @@ fn write_walked<T: Threads + Wait + Sync, P: Reporter, W: Write>(
     }
 }
 
-// Writes the printed cube of the facts whose finest cells these are.
+// Writes the printed cube of the facts whose finest cells these are, under the cells' own schema.
 fn write_finest<T: Threads + Wait + Sync, N: Numbers + Send + Sync, W: Write>(
     rt: &T,
     alloc: Global,
@@ -76,9 +76,8 @@ fn write_finest<T: Threads + Wait + Sync, N: Numbers + Send + Sync, W: Write>(
     threads: usize,
     out: &mut W,
 ) -> Result<(), TextFault>
-    ensures { (facts : List Fact) (refusals : List (List Refusal)) → IsCubeOfAll facts cells.now →
-        Writes (Tells Question.Cube cells.now.schema facts refusals)
-        result (W.contents out.old) (W.contents out.new) }
+    ensures { Writes (λ text. (facts : List Fact) → IsCubeOfAll facts cells.now →
+        IsPrinted cells.now.schema facts text) result (W.contents out.old) (W.contents out.new) }
 {
     let text = keep_walked(rt, alloc, threads, cells)?;
     text.write(rt, out)?;
@@ -98,7 +97,7 @@ fn write_slice<W: Write>(
 {
     let cells = taken.cells();
     let rows = cells.slice(pattern)?;
-    write_rows(alloc, cells.schema(), &rows, out)
+    write_rows(alloc, taken.refused().schema(), &rows, out)
 }
 
 // Writes the rows that drill down from a key along a dimension, counted from 0.
@@ -116,7 +115,7 @@ fn write_drill<W: Write>(
 {
     let cells = taken.cells();
     let rows = cells.drill_down(key, dimension)?;
-    write_rows(alloc, cells.schema(), &rows, out)?;
+    write_rows(alloc, taken.refused().schema(), &rows, out)?;
     Ok(())
 }
 
@@ -136,5 +135,5 @@ fn write_roll_up<W: Write>(
     let cells = taken.cells();
     let row = cells.roll_up(key, dimension)?;
     let rows = listed(alloc, row)?;
-    write_rows(alloc, cells.schema(), &rows, out)
+    write_rows(alloc, taken.refused().schema(), &rows, out)
 }

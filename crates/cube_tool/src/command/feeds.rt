@@ -10,7 +10,7 @@ ghost use Rattle.cube_tool.specs.Run.{IsTextOn, OfFeeds, Wrote};
 
 use crate::answers::{answer, first_builder, has_builder, refused_of};
 use crate::command::failure::Failure;
-use crate::command::max_cells::{refuse_built, refuse_cells};
+use crate::command::max_cells::{refuse_built, refuse_taken};
 use crate::command::status::{Status, first_refusal, status_after, status_of_run};
 use crate::command::terms::Terms;
 use crate::fault::RunFault;
@@ -232,7 +232,7 @@ fn answer_on_taken<T: Threads + Wait + Sync, P: Reporter, W: Write>(
         failure (W.contents out.old) (W.contents out.new)) }
 {
     refuse_none(terms.is_strict, taken.refused())?;
-    refuse_cells(terms.max_cells, taken.cells())?;
+    refuse_taken(terms.max_cells, taken)?;
     tell_of(reporter, question, taken.facts());
     answer_taken(rt, alloc, taken, threads, question, reporter, out)?;
     Ok(status_after(taken.refused()))

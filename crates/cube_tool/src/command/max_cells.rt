@@ -1,16 +1,14 @@
 //! How many cells a cube may have.
-ghost use Rattle.std.specs.Prelude.{◌≡◌, ◌<◌, ◌≤◌, List, IfErr, OnOk};
-ghost use Rattle.cube_core.specs.declared.fact.Fact.{Fact};
-ghost use Rattle.cube_cells.specs.BaseCuboid.{cells_of_cuboid};
-ghost use Rattle.cube_cells.specs.Fill.{IsCubeOfAll};
+ghost use Rattle.std.specs.Prelude.{◌≡◌, ◌<◌, ◌≤◌, IfErr, IfOk, OnOk};
 ghost use Rattle.cube_build.specs.Parts.{facts_of_run, schema_of_run};
-ghost use Rattle.cube_tool.specs.MaxCells.{HasCellsWithin, RefusesCells, cells_named, lawful_cells};
+ghost use Rattle.cube_ledger.specs.Ledger.{all_facts};
+ghost use Rattle.cube_tool.specs.MaxCells.{HasCellsOf, HasCellsWithin, RefusesCells, cells_named, lawful_cells};
 
 use crate::command::failure::Failure;
 use crate::fault::RunFault;
-use cube_build::Built;
-use cube_cells::BaseCuboid;
+use cube_build::{Built, Taken};
 use cube_live::count_of;
+use std::alloc::AllocError;
 
 // The most that a word may name: 2 to the power 63, less 1.
 const MOST: u64 = 9_223_372_036_854_775_807;
@@ -37,21 +35,30 @@ fn lawful_cells(number: u64) -> Option<u64>
     }
 }
 
-/// Fails where the cube of the facts whose finest cells these are has more cells than it may have, where there is a bound, or
-/// where memory ran out. No cell is kept.
-pub fn refuse_cells(max_cells: Option<u64>, cells: &BaseCuboid) -> Result<(), Failure>
-    ensures within { OnOk result ((facts : List Fact) → IsCubeOfAll facts (cells_of_cuboid cells.now) →
-        HasCellsWithin max_cells (cells_of_cuboid cells.now).schema facts) }
-    ensures beyond { IfErr result (λ failure. (facts : List Fact) → IsCubeOfAll facts (cells_of_cuboid cells.now) →
-        RefusesCells max_cells (cells_of_cuboid cells.now).schema facts failure) }
+/// Fails where the cube of the facts that one builder took has more cells than it may have, where there is a bound, or where
+/// memory ran out. No cell is kept.
+pub fn refuse_taken(max_cells: Option<u64>, taken: &Taken) -> Result<(), Failure>
+    ensures within { OnOk result
+        (HasCellsWithin max_cells taken.now.ledger.schema (all_facts taken.now.ledger.accounts)) }
+    ensures beyond { IfErr result
+        (RefusesCells max_cells taken.now.ledger.schema (all_facts taken.now.ledger.accounts)) }
 {
     let Some(most) = max_cells else {
         return Ok(());
     };
-    match cells.count_cells() {
+    match count_taken(taken) {
         Ok(number) => refuse_more(most, number),
         Err(_) => Err(Failure::Run(RunFault::Full)),
     }
+}
+
+// How many cells the cube of the facts that one builder took has. The only error is that memory ran out, or numbers to count
+// them with.
+fn count_taken(taken: &Taken) -> Result<u64, AllocError>
+    ensures { IfOk result
+        (HasCellsOf taken.now.ledger.schema (all_facts taken.now.ledger.accounts)) }
+{
+    taken.cells().count_cells()
 }
 
 /// Fails where a cube that was built has more cells than it may have, where there is a bound, or where numbers to count them

@@ -16,7 +16,7 @@ pub struct Note {
 }
 
 /// The codes of schemas.
-pub const SCHEMA_NOTES: [Note; 12] = [
+pub const SCHEMA_NOTES: [Note; 13] = [
     Note {
         code: "S1",
         about: "schema",
@@ -34,8 +34,8 @@ pub const SCHEMA_NOTES: [Note; 12] = [
     Note {
         code: "S3",
         about: "schema",
-        means: "The schema has a key other than `dimensions`, `measures`, `aggregates`, `max_records`, `grouping`, `version`, `feed` and `decimals`.",
-        mend: "Look for a misspelled key, and take what isn't one of the eight out. The keys of `[feed]` stand under it.",
+        means: "The schema has a key other than `dimensions`, `measures`, `aggregates`, `max_records`, `grouping`, `version`, `feed`, `decimals` and `texts`.",
+        mend: "Look for a misspelled key, and take what isn't one of the nine out. The keys of `[feed]` stand under it.",
         example: "",
     },
     Note {
@@ -62,8 +62,8 @@ pub const SCHEMA_NOTES: [Note; 12] = [
     Note {
         code: "S7",
         about: "schema",
-        means: "`aggregates` is missing, isn't an array of texts alone, doesn't have 1 to 16 of them, or one isn't spelled as an aggregate of the measures.",
-        mend: "Look for spaces, capitals, and names that are no measure.",
+        means: "`aggregates` is missing, isn't an array of texts alone, doesn't have 1 to 16 of them, or one isn't spelled as an aggregate of the measures; or one is of a measure m in `texts` and neither `count(m)` nor `count(distinct m)`.",
+        mend: "Look for spaces, capitals, and names that are no measure. Texts can be counted, and nothing else.",
         example: "aggregates = [\"count(*)\", \"sum(amount)\", \"avg(amount)\"]",
     },
     Note {
@@ -101,6 +101,13 @@ pub const SCHEMA_NOTES: [Note; 12] = [
         mend: "Name measures of the schema, each with the number of its digits behind the point, without quotes.",
         example: "decimals = { price = 2 }",
     },
+    Note {
+        code: "S13",
+        about: "schema",
+        means: "`texts` isn't an array of texts alone; or one of them is no measure of the schema, stands twice, or is in `[decimals]`. Or cubes are to be merged: neither `print --partial` nor `merge` takes a schema with `texts`.",
+        mend: "Name measures of the schema, each once and in quotes. Where texts are counted, print the cube of all feeds at once.",
+        example: "texts = [\"customer\"]",
+    },
 ];
 
 /// The codes of lines, feeds, patterns and cells.
@@ -136,7 +143,7 @@ pub const FEED_NOTES: [Note; 20] = [
     Note {
         code: "L5",
         about: "line of a feed",
-        means: "A measure of an `I`, a `U` or a `P` is neither null nor a number; in a `U` of feed version 2 it may also be `\\=`. Only a measure of `[decimals]` takes a point, with digits behind it, and no more than that says but for zeros.",
+        means: "A measure of an `I`, a `U` or a `P`, one that isn't in `texts`, is neither null nor a number; in a `U` of feed version 2 it may also be `\\=`. Only a measure of `[decimals]` takes a point, with digits behind it, and no more than that says but for zeros.",
         mend: "Write a whole number from -9223372036854775808 to 9223372036854775807 in digits alone (of a measure with decimals: so many units of its last digit), or null where there is no value: `\\N`, or with `[feed]` what its `null` has.",
         example: "I,1,west,a,\\N",
     },

@@ -1,7 +1,8 @@
-use Rattle.std.proofs.Common.{◌≡◌, refl}
+use Rattle.std.proofs.Common.{◌≡◌, ap, refl}
 use Rattle.std.specs.Global.{Vec}
 use Rattle.std.specs.Prelude.{Err, None, Ok}
 use Rattle.std.proofs.lemmas.Result.{err_from_is_err_and}
+use Rattle.cube_core.specs.Layout.{Layout}
 use Rattle.cube_core.specs.Query.{drill_fault, drills_down}
 use Rattle.cube_core.specs.declared.key.Row.{Row}
 use Rattle.cube_build.specs.Parts.{AreRowsOfRun, facts_of_run, schema_of_run}
@@ -19,8 +20,8 @@ given : (g : Over) (c : In_ok-rows g)
 given g c =
     drill-given
     (λ (rows : Vec Row). AreRowsOfRun (drills_down c.args.dimension c.args.key.now) c.args.built.now rows.items)
-    c.args.dimension c.args.key.now (schema_of_run c.args.built.now) c.args.schema.now c.in_ok-rows.rows
-    c.requires.schema c.in_ok-rows.ensures
+    c.args.dimension c.args.key.now (schema_of_run c.args.built.now).grouping_sets c.args.schema.now.grouping_sets
+    c.in_ok-rows.rows (ap (λ (l : Layout). l.grouping_sets) c.requires.schema) c.in_ok-rows.ensures
 
 pub returns-in_err-rows : goal.returns-in_err-rows
 returns-in_err-rows g c =
@@ -29,8 +30,9 @@ returns-in_err-rows g c =
       refl,
       drill-refused
           (λ (rows : Vec Row). AreRowsOfRun (drills_down c.args.dimension c.args.key.now) c.args.built.now rows.items)
-          c.args.dimension c.args.key.now (schema_of_run c.args.built.now) c.args.schema.now
-          c.in_err-rows.field-0.0 c.requires.schema c.in_err-rows.ensures,
+          c.args.dimension c.args.key.now (schema_of_run c.args.built.now).grouping_sets
+          c.args.schema.now.grouping_sets c.in_err-rows.field-0.0
+          (ap (λ (l : Layout). l.grouping_sets) c.requires.schema) c.in_err-rows.ensures,
     )
 
 pub write_rows-requires : goal.write_rows-requires
