@@ -56,7 +56,7 @@ pub(crate) fn answer_over<T: Threads + Wait + Sync, P: Reporter, W: Write>(
 fn fits(schema: &Schema, question: &Question) -> bool
     ensures { IsTrue result ↔ Fits schema.now question.now }
 {
-    let count = schema.dimensions().len();
+    let count = schema.number_of_dimensions();
     match question {
         Question::Cube | Question::Refusals => true,
         Question::Slice { pattern: _ } => true,
