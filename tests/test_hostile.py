@@ -290,6 +290,7 @@ def refusals_in_turn(trials):
 
 FOUR_MEASURES = oracle.Schema(["a"], ["m", "n", "o", "p"], [("count", None)])
 AMENDED = oracle.Schema(SAMPLE.dimensions, SAMPLE.measures, SAMPLE.aggregates, version=2)
+COUNTED = oracle.Schema(["region"], ["kind", "amount"], [("count", None), ("count distinct", 0), ("sum", 1)], texts=["kind"])
 # (scripts of calls that grow something, by a name: the schema, and the lines)
 GROWTHS = {
     "a cube": (SAMPLE, "cube", "add w,a,5", "add e,b,7", "facts", "rows", "remove w,a,5", "add w,b,-1", "facts", "rows"),
@@ -298,6 +299,8 @@ GROWTHS = {
                *(f"answers {it}" for it in range(4))),
     "a builder": (AMENDED, "builder 2", "apply 1 1 I,1,w,a,5", "apply 2 1 I,1,e,b,7", "apply 1 2 U,1,w,b,6", "apply 1 3 D,9",
                   "apply 2 2 U,1,\\=,\\N,\\=", "apply 1 4 I,1,w,a,1", "rows", "refusals", "apply 2 3 D,1", "facts", "rows"),
+    "a builder that counts texts": (COUNTED, "builder 2", "apply 1 1 I,1,w,a,5", "apply 2 1 I,1,e,b,7", "apply 1 2 U,1,w,b,6", "apply 2 2 U,1,e,c,7",
+                                    "rows", "apply 2 3 D,1", "facts", "rows"),
 }
 
 

@@ -38,6 +38,9 @@ CUBES = {
     "eight dimensions": (oracle.Schema([f"d{it}" for it in range(1, 9)], ["m"], FIVE[:4]), 0),
     **{f"part {part} of {of}": (THREE, part, of) for part, of in [(0, 2), (1, 2), (0, 3), (1, 3), (2, 3)]},
 }
+# (of the same columns: a text that is counted in place of the second dimension)
+COUNTED = oracle.Schema(
+    ["region"], ["kind", "amount"], [("count", None), ("count", 0), ("count distinct", 0), ("sum", 1), ("count distinct", 1)], texts=["kind"])
 NUMBERS = [0, 1, -1, 2, None, *range(-5, 0), *range(3, 6), oracle.LEAST, oracle.GREATEST]
 
 
@@ -211,17 +214,18 @@ def record_of(rng):
     return [rng.choice([b"I", b"I", b"U", b"U", b"D"]), b"%d" % rng.randint(1, 8), rng.choice([b"", b"a", b"ab", b"\\N"]), rng.choice(kinds), number]
 
 
+@pytest.mark.parametrize("schema", [SAMPLE, COUNTED], ids=["dimensions", "texts"])
 @tries(12)
-def test_builders(room, rng):
+def test_builders(room, rng, schema):
     """The items of three sources arrive in an order that keeps each source's own."""
     feeds = [series(rng, 80, record_of) for _ in range(3)]
-    made, ran, taken = Calls("builder 3"), oracle.Run(SAMPLE, feeds), [0, 0, 0]
+    made, ran, taken = Calls("builder 3", schema), oracle.Run(schema, feeds), [0, 0, 0]
     while left := [source for source in range(3) if taken[source] < len(feeds[source])]:
         source = rng.choice(left)
         line = oracle.encode([feeds[source][taken[source]]]).decode().rstrip("\n")
         taken[source] += 1
         made.call(f"apply {source + 1} {taken[source]} {line}")
-    made.call("rows", *rows(SAMPLE, ran.facts))
+    made.call("rows", *rows(schema, ran.facts))
     made.call("refusals", *(f"{a},{b},{c}" for a, b, c in ran.refused))
     made.call("facts", str(len(ran.facts)))
     made.see(room)

@@ -1,4 +1,5 @@
 //! Calls of a book: `apply RECORD` (what went and what came, or the fault; no amendment), `get ID` and `len`.
+use crate::columns::{Column, columns_of, push_value};
 use crate::facts::item_of;
 use crate::script::{Printout, words_of};
 use anyhow::{Result, bail};
@@ -8,10 +9,11 @@ use std::alloc::{AllocError, Global};
 
 /// Does the calls on a book.
 pub fn run(alloc: Global, schema: &Schema, calls: &str, out: &mut Printout) -> Result<()> {
+    let columns = columns_of(alloc, schema)?;
     let mut book = Book::new(alloc, HashKey::Known);
     for call in calls.lines() {
         out.next_line();
-        obey(alloc, schema, &mut book, call, out)?;
+        obey(alloc, schema, &columns, &mut book, call, out)?;
     }
     Ok(())
 }
@@ -19,13 +21,14 @@ pub fn run(alloc: Global, schema: &Schema, calls: &str, out: &mut Printout) -> R
 fn obey(
     alloc: Global,
     schema: &Schema,
+    columns: &[Column],
     book: &mut Book,
     call: &str,
     out: &mut Printout,
 ) -> Result<()> {
     match words_of(call) {
-        ("apply", record) => apply_record(alloc, schema, book, record, out),
-        ("get", id) => answer_found(alloc, book, id, out),
+        ("apply", record) => apply_record(alloc, schema, columns, book, record, out),
+        ("get", id) => answer_found(alloc, columns, book, id, out),
         ("len", "") => Ok(out.answer(book.len())?),
         _ => bail!("no call of a book"),
     }
@@ -34,6 +37,7 @@ fn obey(
 fn apply_record(
     alloc: Global,
     schema: &Schema,
+    columns: &[Column],
     book: &mut Book,
     record: &str,
     out: &mut Printout,
@@ -41,61 +45,56 @@ fn apply_record(
     let item = item_of(alloc, schema, record)?;
     match item.what {
         Ok(Change::Amend { .. }) => bail!("an amendment"),
-        Ok(change) => Ok(answer_applied(book.apply(change), out)?),
+        Ok(change) => Ok(answer_applied(columns, book.apply(change), out)?),
         Err(fault) => Ok(out.answer(fault)?),
     }
 }
 
-fn answer_applied(applied: Result<Delta, BookFault>, out: &mut Printout) -> Result<(), AllocError> {
+fn answer_applied(
+    columns: &[Column],
+    applied: Result<Delta, BookFault>,
+    out: &mut Printout,
+) -> Result<(), AllocError> {
     match applied {
-        Ok(delta) => answer_delta(&delta, out),
+        Ok(delta) => answer_delta(columns, &delta, out),
         Err(fault) => out.answer(fault),
     }
 }
 
-fn answer_found(alloc: Global, book: &Book, id: &str, out: &mut Printout) -> Result<()> {
+fn answer_found(
+    alloc: Global,
+    columns: &[Column],
+    book: &Book,
+    id: &str,
+    out: &mut Printout,
+) -> Result<()> {
     let id = Text::from_str(alloc, id)?;
-    Ok(answer_fact("", book.get(&id), out)?)
+    Ok(answer_fact("", columns, book.get(&id), out)?)
 }
 
-fn answer_delta(delta: &Delta, out: &mut Printout) -> Result<(), AllocError> {
-    answer_fact("gone ", delta.gone.as_ref(), out)?;
-    answer_fact("come ", delta.come.as_ref(), out)
+fn answer_delta(columns: &[Column], delta: &Delta, out: &mut Printout) -> Result<(), AllocError> {
+    answer_fact("gone ", columns, delta.gone.as_ref(), out)?;
+    answer_fact("come ", columns, delta.come.as_ref(), out)
 }
 
 // A line of a fact's values behind a name.
-fn answer_fact(name: &str, fact: Option<&Fact>, out: &mut Printout) -> Result<(), AllocError> {
+fn answer_fact(
+    name: &str,
+    columns: &[Column],
+    fact: Option<&Fact>,
+    out: &mut Printout,
+) -> Result<(), AllocError> {
     out.text.push_str(name)?;
     match fact {
-        Some(fact) => answer_values(fact, out),
+        Some(fact) => answer_values(columns, fact, out),
         None => out.answer("none"),
     }
 }
 
-fn answer_values(fact: &Fact, out: &mut Printout) -> Result<(), AllocError> {
-    push_dimensions(&mut out.text, fact)?;
-    push_measures(&mut out.text, fact.measures.as_slice())?;
+fn answer_values(columns: &[Column], fact: &Fact, out: &mut Printout) -> Result<(), AllocError> {
+    for (place, column) in columns.iter().enumerate() {
+        out.text.push_str(if place > 0 { "," } else { "" })?;
+        push_value(&mut out.text, fact, *column)?;
+    }
     out.answer("")
-}
-
-fn push_dimensions(text: &mut String, fact: &Fact) -> Result<(), AllocError> {
-    for place in 0..fact.dims.len() {
-        write!(text, "{},", fact.dims.get(place).unwrap_or("\\N"))?;
-    }
-    Ok(())
-}
-
-fn push_measures(text: &mut String, measures: &[Option<i64>]) -> Result<(), AllocError> {
-    for (place, measure) in measures.iter().enumerate() {
-        text.push_str(if place > 0 { "," } else { "" })?;
-        push_measure(text, *measure)?;
-    }
-    Ok(())
-}
-
-fn push_measure(text: &mut String, measure: Option<i64>) -> Result<(), AllocError> {
-    match measure {
-        Some(measure) => write!(text, "{measure}"),
-        None => text.push_str("\\N"),
-    }
 }

@@ -1,5 +1,6 @@
 //! Calls of a cell: `add FACT`, `remove FACT`, `holds FACT`, `count`, and `answers M`: how many facts there are, and of
-//! the measure at a place how many values, their sum, the least, the greatest and the mean.
+//! the measure at a place how many values, their sum, the least, the greatest and the mean. The facts are as a cube
+//! counts them.
 ghost use Rattle.std.specs.Prelude.{◌≡◌, ◌<◌, IfOk, OnOk, length};
 
 use crate::facts::fact_of;
@@ -10,10 +11,11 @@ use cube_cells::Cell;
 use cube_core::{Agg, Fact, Schema};
 use std::alloc::{AllocError, Global};
 
-/// Does the calls on a cell of the schema's measures.
+/// Does the calls on a cell of the measures of the schema's cube.
 pub fn run(alloc: Global, schema: &Schema, calls: &str, out: &mut Printout) -> Result<()> {
+    let schema = schema.cube_schema(alloc)?;
     let mut cell = Cell::new(alloc, schema.measures().len())?;
-    obey_all(alloc, schema, &mut cell, calls, out)
+    obey_all(alloc, &schema, &mut cell, calls, out)
 }
 
 fn obey_all(

@@ -1,6 +1,6 @@
 //! Calls of a cube: `add FACT`, `remove FACT`, `gather FACT`, `fill` (with all facts that were gathered), and the
-//! questions.
-ghost use Rattle.std.specs.Prelude.{◌≡◌, OnOk};
+//! questions. The facts are as the cube counts them: a text that is counted is a number in them, behind the measures.
+ghost use Rattle.std.specs.Prelude.{◌≡◌, [], OnOk};
 
 use crate::facts::fact_of;
 use crate::fills::fill;
@@ -22,8 +22,9 @@ pub fn run(
     ensure!(part < of, "no such part");
     ensure!(of <= 8, "more than eight parts");
     let mut cube = Cube::new_part(alloc, schema, part, of)?;
+    let schema = schema.cube_schema(alloc)?;
     let mut gathered = Vec::new(alloc);
-    obey_all(alloc, schema, &mut cube, &mut gathered, calls, out)
+    obey_all(alloc, &schema, &mut cube, &mut gathered, calls, out)
 }
 
 fn obey_all(
@@ -34,7 +35,8 @@ fn obey_all(
     calls: &str,
     out: &mut Printout,
 ) -> Result<()>
-    requires { cube.old.schema ≡ schema.now }
+    requires schema { cube.old.schema ≡ schema.now }
+    requires plain { schema.now.text_places ≡ [] }
 {
     for call in calls.lines() {
         out.next_line();
@@ -51,7 +53,8 @@ fn obey(
     call: &str,
     out: &mut Printout,
 ) -> Result<()>
-    requires { cube.old.schema ≡ schema.now }
+    requires schema { cube.old.schema ≡ schema.now }
+    requires plain { schema.now.text_places ≡ [] }
     ensures { OnOk result (cube.new.schema ≡ cube.old.schema) }
 {
     match words_of(call) {

@@ -1,6 +1,7 @@
 //! Items and facts, read as those of a feed.
+use crate::columns::{columns_of, push_name};
 use anyhow::{Result, bail};
-use cube_core::{Change, Fact, Item, Schema, Text};
+use cube_core::{Change, Fact, Item, Schema};
 use cube_feed::{Feed, FeedFault};
 use std::alloc::{AllocError, Global};
 
@@ -16,8 +17,7 @@ pub fn item_of(alloc: Global, schema: &Schema, record: &str) -> Result<Item> {
 // The feed of one record.
 fn feed_of(alloc: Global, schema: &Schema, record: &str) -> Result<String, AllocError> {
     let mut text = String::from_str(alloc, "op,id")?;
-    push_names(&mut text, schema.dimensions())?;
-    push_names(&mut text, schema.measures())?;
+    push_names(alloc, &mut text, schema)?;
     write!(text, "\n{record}\n")?;
     Ok(text)
 }
@@ -28,9 +28,12 @@ fn first_of(alloc: Global, schema: &Schema, bytes: &[u8]) -> Result<Option<Item>
     feed.next()
 }
 
-fn push_names(text: &mut String, names: &[Text]) -> Result<(), AllocError> {
-    for name in names {
-        write!(text, ",\"{}\"", name.as_str())?;
+// Adds the names of the columns, in quotes, a comma before each.
+fn push_names(alloc: Global, text: &mut String, schema: &Schema) -> Result<(), AllocError> {
+    for column in &columns_of(alloc, schema)? {
+        text.push_str(",\"")?;
+        push_name(text, schema, *column)?;
+        text.push_str("\"")?;
     }
     Ok(())
 }

@@ -14,6 +14,7 @@
 mod books;
 mod builders;
 mod cells;
+mod columns;
 mod counted;
 mod cubes;
 mod facts;

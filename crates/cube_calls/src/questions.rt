@@ -1,6 +1,7 @@
 //! Questions to a cube: `facts`, `rows`, `holds FACT`, `get CELL` (how many facts are in it), `slice PATTERN`,
 //! `rollup DIM CELL`, `drill DIM CELL` and `code DIM TEXT`.
-ghost use Rattle.std.specs.Prelude.{◌≡◌, ◌<◌, IfOk, length};
+ghost use Rattle.std.specs.Prelude.{◌≡◌, ◌<◌, [], IfOk, length};
+ghost use Rattle.cube_core.specs.Layout.{number_of_dimensions};
 
 use crate::facts::fact_of;
 use crate::script::{Printout, words_of};
@@ -11,7 +12,7 @@ use cube_core::{Key, Pattern, QueryFault, Row, Schema};
 use std::alloc::{AllocError, Global};
 use std::fmt::Display;
 
-/// Asks a cube.
+/// Asks a cube, whose own schema this is.
 pub fn ask(
     alloc: Global,
     schema: &Schema,
@@ -19,7 +20,8 @@ pub fn ask(
     call: &str,
     out: &mut Printout,
 ) -> Result<()>
-    requires { cube.now.schema ≡ schema.now }
+    requires schema { cube.now.schema ≡ schema.now }
+    requires plain { schema.now.text_places ≡ [] }
 {
     match words_of(call) {
         ("facts", "") => Ok(out.answer(cube.facts())?),
@@ -38,7 +40,8 @@ fn ask_for_lines(
     words: &str,
     out: &mut Printout,
 ) -> Result<()>
-    requires { cube.now.schema ≡ schema.now }
+    requires schema { cube.now.schema ≡ schema.now }
+    requires plain { schema.now.text_places ≡ [] }
 {
     let lines = match verb {
         "get" => found(alloc, schema, cube, words),
@@ -80,14 +83,16 @@ fn sliced(alloc: Global, schema: &Schema, cube: &Cube, word: &str) -> Result<Str
 }
 
 fn drilled(alloc: Global, schema: &Schema, cube: &Cube, words: &str) -> Result<String, QueryFault>
-    requires { cube.now.schema ≡ schema.now }
+    requires schema { cube.now.schema ≡ schema.now }
+    requires plain { schema.now.text_places ≡ [] }
 {
     let (key, place) = step_of(alloc, schema, words)?;
     Ok(text_of(alloc, &cube.drill_down(&key, place)?)?)
 }
 
 fn rolled_up(alloc: Global, schema: &Schema, cube: &Cube, words: &str) -> Result<String, QueryFault>
-    requires { cube.now.schema ≡ schema.now }
+    requires schema { cube.now.schema ≡ schema.now }
+    requires plain { schema.now.text_places ≡ [] }
 {
     let (key, place) = step_of(alloc, schema, words)?;
     let row = cube.roll_up(&key, place)?;
@@ -103,7 +108,8 @@ fn text_of_one(alloc: Global, row: Option<Row>) -> Result<String, AllocError> {
 }
 
 fn code_of(alloc: Global, schema: &Schema, cube: &Cube, words: &str) -> Result<String, QueryFault>
-    requires { cube.now.schema ≡ schema.now }
+    requires schema { cube.now.schema ≡ schema.now }
+    requires plain { schema.now.text_places ≡ [] }
 {
     let (name, text) = words_of(words);
     let place = place_of(schema, name)?;
@@ -120,8 +126,8 @@ fn line_of<A: Display + Drop>(alloc: Global, answer: Option<A>) -> Result<String
 
 // The cell and the place of the dimension that words name, the dimension first.
 fn step_of(alloc: Global, schema: &Schema, words: &str) -> Result<(Key, usize), QueryFault>
-    ensures key { IfOk result (λ step. length step.0.coords ≡ length schema.now.dimensions) }
-    ensures place { IfOk result (λ step. step.1 < length schema.now.dimensions) }
+    ensures key { IfOk result (λ step. length step.0.coords ≡ number_of_dimensions schema.now) }
+    ensures place { IfOk result (λ step. step.1 < number_of_dimensions schema.now) }
 {
     let (name, word) = words_of(words);
     let key = key_of(alloc, schema, word)?;
@@ -131,10 +137,10 @@ fn step_of(alloc: Global, schema: &Schema, words: &str) -> Result<(Key, usize), 
 
 /// The key of the cell that a word spells.
 pub fn key_of(alloc: Global, schema: &Schema, word: &str) -> Result<Key, QueryFault>
-    ensures { IfOk result (λ key. length key.coords ≡ length schema.now.dimensions) }
+    ensures { IfOk result (λ key. length key.coords ≡ number_of_dimensions schema.now) }
 {
     let key = Pattern::parse(alloc, schema, word)?.cell(alloc)?;
-    if key.coords.len() != schema.dimensions().len() {
+    if key.coords.len() != schema.number_of_dimensions() {
         return Err(QueryFault::Fields);
     }
     Ok(key)
@@ -142,10 +148,10 @@ pub fn key_of(alloc: Global, schema: &Schema, word: &str) -> Result<Key, QueryFa
 
 /// The place of a dimension.
 pub fn place_of(schema: &Schema, name: &str) -> Result<usize, QueryFault>
-    ensures { IfOk result (λ place. place < length schema.now.dimensions) }
+    ensures { IfOk result (λ place. place < number_of_dimensions schema.now) }
 {
     let place = schema.dimension_of(name)?;
-    if place >= schema.dimensions().len() {
+    if place >= schema.number_of_dimensions() {
         return Err(QueryFault::UnknownDimension);
     }
     Ok(place)

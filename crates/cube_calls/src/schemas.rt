@@ -1,5 +1,6 @@
 //! Calls of a schema: `show` (all that it says), `place DIM`, `keeps CELL`, `cell PATTERN` (its coordinates) and
 //! `matches PATTERN CELL`.
+use crate::columns::{measures_of, push_name};
 use crate::questions::{key_of, place_of};
 use crate::script::{Printout, words_of};
 use anyhow::{Result, bail};
@@ -17,7 +18,7 @@ pub fn run(alloc: Global, schema: &Schema, calls: &str, out: &mut Printout) -> R
 
 fn obey(alloc: Global, schema: &Schema, call: &str, out: &mut Printout) -> Result<()> {
     let answered = match words_of(call) {
-        ("show", "") => show(schema, &mut out.text),
+        ("show", "") => show(alloc, schema, &mut out.text),
         ("place", name) => out.answer_or(place_of(schema, name)),
         ("keeps", word) => out.answer_or(keeps(alloc, schema, word)),
         ("cell", word) => out.answer_lines(cell(alloc, schema, word)),
@@ -56,13 +57,32 @@ fn push_coords(text: &mut String, coords: &[Coord]) -> Result<(), AllocError> {
     Ok(())
 }
 
-fn show(schema: &Schema, text: &mut String) -> Result<(), AllocError> {
-    push_names(text, "dimensions", schema.dimensions())?;
-    push_names(text, "measures", schema.measures())?;
+fn show(alloc: Global, schema: &Schema, text: &mut String) -> Result<(), AllocError> {
+    push_names(text, "dimensions", schema.cube_dimensions())?;
+    push_measures(alloc, text, schema)?;
+    push_texts(text, schema.counted_texts())?;
     push_names(text, "aggregates", schema.aggregate_texts())?;
     push_sets(text, schema.grouping_sets())?;
     let (max_records, version) = (schema.max_records(), schema.version());
     write!(text, "max_records {max_records}\nversion {version}\n")
+}
+
+// A line with all measures, in the order of feeds.
+fn push_measures(alloc: Global, text: &mut String, schema: &Schema) -> Result<(), AllocError> {
+    text.push_str("measures")?;
+    for column in &measures_of(alloc, schema)? {
+        text.push_str(" ")?;
+        push_name(text, schema, *column)?;
+    }
+    text.push_str("\n")
+}
+
+// A line with the measures that are texts, if there are any.
+fn push_texts(text: &mut String, names: &[Text]) -> Result<(), AllocError> {
+    if names.is_empty() {
+        return Ok(());
+    }
+    push_names(text, "texts", names)
 }
 
 fn push_sets(text: &mut String, sets: &[u8]) -> Result<(), AllocError> {
