@@ -6,6 +6,7 @@ pub use Rattle.cube_core.specs.Life
 pub use Rattle.cube_core.specs.Query
 pub use Rattle.cube_core.specs.Refusals
 pub use Rattle.cube_core.specs.Takes
+pub use Rattle.cube_core.specs.TextPlaces
 pub use Rattle.cube_core.specs.declared.change.Change
 pub use Rattle.cube_core.specs.declared.fact.Fact
 pub use Rattle.cube_build.specs.Builder

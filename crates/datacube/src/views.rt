@@ -43,7 +43,7 @@ pub(crate) fn view_of<'p, T: Wait + Clock>(
     progress: &'p Progress<'p, T, Stderr>,
 ) -> Result<View<Output<'p, Stdout, T, Stderr>>, Failure> {
     let (alloc, out) = (rt.alloc(), Output::new(rt.stdout(), progress));
-    let dimensions = schema.dimensions().len();
+    let dimensions = schema.number_of_dimensions();
     if words.json {
         return Ok(View::json(alloc, out, dimensions));
     }

@@ -1,6 +1,7 @@
 //! The sales of a shop, and their cube.
 ghost use Rattle.std.specs.Prelude.{◌≡◌, ◌<◌, ◌+◌, ◌^◌, [], IfOk, IfSome, OnOk, length, option_map};
 ghost use Rattle.cube_library.specs.Builder.{StandsAt};
+ghost use Rattle.cube_library.specs.Layout.{cube_schema};
 ghost use Rattle.cube_library.specs.Ledger.{account_of};
 ghost use Rattle.sales_example.specs.Sales.{TakesSale, sale};
 
@@ -24,7 +25,7 @@ pub struct Sales {
     changes: u32,
     alloc: Global,
     ghost one_source: { length builder.ledger.accounts ≡ 1 },
-    ghost two_dimensions: { length builder.ledger.schema.dimensions ≡ 2 },
+    ghost two_dimensions: { length (cube_schema builder.ledger.schema).dimensions ≡ 2 },
 }
 
 impl Sales {
