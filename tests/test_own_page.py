@@ -266,7 +266,7 @@ def test_explanations(module, tmp_path):
     everything = ran(tmp_path, "explain")[1]
     assert everything[: len(told)] == told, "what is said of all codes stands first in what the program says"
     codes, others = (list(dict.fromkeys(re.findall(r"^(\S.*?): ", it, re.M))) for it in (told.decode(), everything[len(told) :].decode()))
-    assert (codes[0], codes[-1], len(codes)) == ("S1", "too many cubes", 67)
+    assert (codes[0], codes[-1], len(codes)) == ("S1", "too many cubes", 68)
     assert others == [*(f"D{at}" for at in range(1, 10)), "no columns"], "those that don't concern it"
     asked = [*codes, "L", "s1", "é"]
     see_answers(module, [explain_question(tmp_path, it) for it in (asked if module.width == "64" else asked[::8])])
