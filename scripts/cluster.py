@@ -137,9 +137,10 @@ class Tally(programs.Tally):
 
 
 SCHEMA = oracle.Schema(
-    ["city", "product", "payment"], ["pieces", "cents"],
-    [("avg", 1), ("count", None), ("sum", 0), ("min", 1), ("max", 1), ("avg", 0), ("var_samp", 0), ("count distinct", 1), ("percentile_disc 0.5", 0)],
-    version=2,
+    ["city", "product", "payment"], ["pieces", "cents", "customer"],
+    [("avg", 1), ("count", None), ("sum", 0), ("min", 1), ("max", 1), ("avg", 0), ("var_samp", 0), ("count distinct", 1), ("percentile_disc 0.5", 0),
+     ("count distinct", 2), ("count", 2)],
+    version=2, texts=["customer"],
 )
 
 
@@ -150,6 +151,7 @@ def records(rng):
         name, op = b"%d" % rng.randrange(60), some(b"I", b"I", b"I", b"U", b"D")
         number = lambda: some(b"\\N", b"-3", b"one", *(b"%d" % rng.randrange(10**6) for _ in range(20)))
         rest = [some(b"York", b"Leeds", b"\\N", b'"a", b'), b"product %d" % rng.randrange(9), some(b"card", b"cash\n"), number(), number()]
+        rest.append(some(b"Ann", b"\\N", b"", b'Ann, "of" York', b"two\nlines", *(b"customer %d" % rng.randrange(99) for _ in range(9))))
         yield [op, name] if op == b"D" else [op, name, *rest]
 
 
@@ -271,7 +273,8 @@ def shards(cluster, tally, program, lines):
     with open(f"{folder}/long.csv", "wb") as out:
         out.write(text)
         for at in range(lines):
-            out.write(b"%s,%d,city %d,product %d,card,1,%d\n" % (rng.choice([b"I", b"I", b"U"]), at // 2, at % 50, at % 30, rng.randrange(10**6)))
+            out.write(b"%s,%d,city %d,product %d,card,1,%d," % (rng.choice([b"I", b"I", b"U"]), at // 2, at % 50, at % 30, rng.randrange(10**6)))
+            out.write(b"customer %d\n" % (at % 977))
     for name, words in (("cube", ["print"]), ("refusals", ["refusals"])):
         one = subprocess.run([program, *words, "schema.toml", "long.csv"], cwd=folder, stdout=subprocess.PIPE)
         got = cluster.run("--shards", "16", *(["--refusals"] if name == "refusals" else []), "schema.toml", "long.csv")

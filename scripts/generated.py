@@ -9,7 +9,7 @@ import oracle
 
 NAMES = ["region", "kind", "a,b", 'say "so"', "two\nlines", "café", "count(*)", "m)", "\\N", "x" * 40, "Op", "?", "kind=", "kind<", "m)!", "=", ">="]
 TEXTS = [b"a", b"b", b"", b"west", b"\\N", b"\\A", b"?", b"a,b", b'"', b"two\r\nlines", "grüße".encode(), b"x" * 30,
-         b"y" * 3000, b"\\=", b"=a", b" a "]
+         b"y" * 3000, b"\\=", b"=a", b" a ", b'a"*2 "b']
 NUMBERS = [b"0", b"1", b"-1", b"12", b"-12", b"\\N", b"+5", b"007", b"-0", b"9223372036854775807", b"-9223372036854775808"]
 WRONG_NUMBERS = [b"", b"9223372036854775808", b"1.5", b"x", b"+", b"--1", b" 1", b"\\=", b".5", b"5.", b"1e3", b"1,000", b"-.1",
                  b"1..5", b"1.5.0", b"+.", b".", b"1.5x", b"1. 5", b"1.-5", b"1.000000000000000000001", b"-9223372036854775809"]
@@ -54,11 +54,10 @@ def random_feed(rng, dimensions, measures):
     return oracle.Feed(id, op, rng.choice(NULLS), delimiter, rng.choice([it for it in ".," if it != delimiter]), columns)
 
 
-def random_schema(rng, by_names=False, with_texts=True):
-    """A schema; where feeds may be read by the names of their columns, one in three says so. Where measures may be texts, one in four has
-    such."""
+def random_schema(rng, by_names=False, with_texts=0.25):
+    """A schema; where feeds may be read by the names of their columns, one in three says so. Such a share has measures that are texts."""
     schema = positional_schema(rng)
-    if with_texts and rng.random() < 0.25:
+    if rng.random() < with_texts:
         count_texts(rng, schema)
     if rng.random() < 0.4:
         schema.decimals = {name: rng.choice(PLACES) for name in schema.measures if name not in schema.texts and rng.random() >= 0.2}
@@ -189,8 +188,8 @@ def written(rng, schema, records, is_right=True):
     return data, oracle.data_records(schema, data)[0]
 
 
-def random_case(rng, by_names=False, with_texts=True):
-    """A schema, and the records of its feeds in its order."""
+def random_case(rng, by_names=False, with_texts=0.25):
+    """A schema, of which such a share counts texts, and the records of its feeds in its order."""
     schema = random_schema(rng, by_names, with_texts)
     texts = rng.sample(TEXTS, rng.randint(2, len(TEXTS)))
     sources = rng.choice([1, 1, 2, 3, 5, 64])

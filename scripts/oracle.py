@@ -122,19 +122,20 @@ class Schema:
         return [spelling(kind, self.measures[at] if at is not None else "*") for kind, at in self.aggregates]
 
     def partial(self):
-        """The partial form: for each mean, variance, distinct count and percentile what it is made of too, where that isn't there yet.
-        Texts that are counted aren't merged: where there is one, this ends the command."""
-        if self.texts:
-            raise Failure("S13", 3)
+        """The partial form: for each mean, variance, distinct count and percentile what it is made of too, where that isn't there yet."""
         aggregates = list(self.aggregates)
         for made, at in self.aggregates:
             aggregates += [(it, at) for it in parts_of(made) if (it, at) not in aggregates]
-        rest = self.grouping, self.version, self.max_records, self.feed, self.decimals
+        rest = self.grouping, self.version, self.max_records, self.feed, self.decimals, self.texts
         return Schema(self.dimensions, self.measures, aggregates, *rest)
 
     def places(self, at):
         """How many decimals the measure at a place is printed with."""
         return self.decimals.get(self.measures[at], 0)
+
+    def is_of_texts(self, at):
+        """Whether the measure at a place is a text that is counted."""
+        return self.measures[at] in self.texts
 
     def digits(self, kind, at):
         """How many decimals an aggregate that is no fraction is printed with."""
@@ -494,7 +495,7 @@ def answer(schema, kind, at, facts):
     if kind.startswith("count"):
         return str(len(values if kind == "count" else set(values)))
     if kind == "values":
-        return held_text(sorted(collections.Counter(values).items()), schema.places(at))
+        return held_text(schema, at, sorted(collections.Counter(values).items()))
     if not values:
         return "\\N"
     if kind == "avg":
@@ -506,9 +507,11 @@ def answer(schema, kind, at, facts):
     return decimal(value, schema.digits(kind, at))
 
 
-def held_text(held, places):
-    """Values in ascending order, each with how often it is held."""
-    return " ".join(f"{decimal(value, places)}*{count}" for value, count in held)
+def held_text(schema, at, held):
+    """The values of the measure at a place in ascending order, each with how often it is held; a text is in quotes."""
+    in_quotes = lambda text: '"' + text.decode().replace('"', '""') + '"'
+    show = in_quotes if schema.is_of_texts(at) else lambda units: decimal(units, schema.places(at))
+    return " ".join(f"{show(value)}*{count}" for value, count in held)
 
 
 CALLS = {"sum": sum, "min": min, "max": max, "sum_of_squares": lambda values: sum(it * it for it in values)}
@@ -733,6 +736,7 @@ QUOTED = re.compile(rb'"((?:[^"]|"")*)"')
 BARE = re.compile(rb'[^",\r\n]*')
 NEEDS_QUOTES = re.compile(rb'[",\r\n]')
 COUNT = re.compile(rb"0|[1-9][0-9]*")
+HELD_TEXT = re.compile(QUOTED.pattern + rb"\*(" + COUNT.pattern + rb")")
 FRACTION = re.compile(rb"(0|-?[1-9][0-9]*)/([1-9][0-9]*)")
 DECIMAL = re.compile(rb"-?[0-9]+(\.[0-9]+)?")
 MOST_COUNT = 2**64 - 1
@@ -824,12 +828,12 @@ def printed_row(schema, fields):
 
 
 def printed_value(schema, kind, at, field):
-    """The number that an answer spells, in units of its last decimal, a fraction for a mean or a variance, pairs of a value and how often
-    it is held for values, None for null, or "wrong"."""
+    """The number that an answer spells, in units of its last decimal, a fraction for a mean or a variance, pairs of a value or a text and
+    how often it is held for values, None for null, or "wrong"."""
     if kind.startswith("count"):
         return int(field) if COUNT.fullmatch(field) and int(field) <= MOST_COUNT else "wrong"
     if kind == "values":
-        return printed_held(schema.places(at), field)
+        return printed_held(schema, at, field)
     if field == NULL:
         return None
     if kind in FRACTIONS:
@@ -846,18 +850,41 @@ def printed_units(places, field):
     return units if decimal(units, places).encode() == field else "wrong"
 
 
-def printed_held(places, field):
-    """The values that an answer spells, as pairs of a value and how often it is held, or "wrong"."""
+def printed_held(schema, at, field):
+    """The values of the measure at a place that an answer spells, as pairs of a value and how often it is held, or "wrong"."""
+    held = printed_texts(field) if schema.is_of_texts(at) else printed_values(schema.places(at), field)
+    if held == "wrong" or any(count == 0 for _, count in held) or number_held(held) > MOST_COUNT:
+        return "wrong"
+    values = [value for value, _ in held]
+    return held if values == sorted(set(values)) else "wrong"
+
+
+def printed_values(places, field):
+    """The pairs of a number and how often it is held that an answer spells, or "wrong"."""
     held = []
     for item in field.split(b" ") if field else []:
         value, _, count = item.partition(b"*")
         units = printed_units(places, value)
-        if units == "wrong" or not COUNT.fullmatch(count) or count == b"0":
+        if units == "wrong" or not COUNT.fullmatch(count) or not LEAST <= units <= GREATEST:
             return "wrong"
         held.append((units, int(count)))
-    values = [value for value, _ in held]
-    is_right = values == sorted(set(values)) and all(LEAST <= it <= GREATEST for it in values) and number_held(held) <= MOST_COUNT
-    return held if is_right else "wrong"
+    return held
+
+
+def printed_texts(field):
+    """The pairs of a text and how often it is held that an answer spells, or "wrong": what stands in quotes may have spaces and stars."""
+    held, at = [], 0
+    while field:
+        found = HELD_TEXT.match(field, at)
+        if not found or not is_text(found[1]):
+            return "wrong"
+        held.append((found[1].replace(b'""', b'"'), int(found[2])))
+        at = found.end() + 1
+        if at > len(field):
+            break
+        if field[at - 1 : at] != b" ":
+            return "wrong"
+    return held
 
 
 def number_held(held):
@@ -951,7 +978,7 @@ def printed_of(schema, kind, at, value):
     if value is None:
         return "\\N"
     if kind == "values":
-        return held_text(value, schema.places(at))
+        return held_text(schema, at, value)
     return f"{value.numerator}/{value.denominator}" if kind in FRACTIONS else decimal(value, schema.digits(kind, at))
 
 
@@ -1416,7 +1443,6 @@ def merge_command(words):
     for at, (path, file) in enumerate(zip(paths, files), 1):
         if path in paths[: at - 1] or file and file in files[: at - 1]:
             raise Failure(f"M2 {at}", 2)
-    schema.partial()
     datas = list(map(content_of, files_at(paths, lambda at: f"M3 {at}")))
     text, fault = merge(schema, datas, b"--partial" in given.options)
     if not fault or b"--check" not in given.options:

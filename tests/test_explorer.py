@@ -5,7 +5,7 @@ from fractions import Fraction
 
 import oracle
 import pytest
-from browser import (NAMELESS, SHOP, SHOP_SCHEMA, TWO, Keys, number_of, print_cube, printed, see_contrast, see_view, shop_sliced, shown_answer,
+from browser import (MOST_SHOWN, NAMELESS, SHOP, SHOP_SCHEMA, TWO, Keys, number_of, print_cube, printed, see_contrast, see_view, shop_sliced, shown_answer,
                      wanted_rows)
 from programs import write
 
@@ -417,6 +417,52 @@ def test_changes_of_values(page, tmp_path):
     assert [it[0] for it in page.shown()["body"]] == ["Bath", "Hull", "York", "Zell"]
 
 
+# (texts by the city: in quotes, with stars and spaces, beyond ASCII, many, and none)
+TEXTS = oracle.Schema(["city"], ["who", "m"], [("count distinct", 0), ("count", None)], texts=["who"]).partial()
+BUYERS = {b"Hull": [None], b"Leeds": [b"Ann", b"Bob", b"Ann"], b"Rome": [b'a"*2 "b', b"", b"\xf0\x90\x80\x80", b"\xef\xbf\xbd", b"two\nlines"],
+             b"York": [b"Ann", b'"', b'"!', b"Zo\xc3\xab", *(b"customer %d" % it for it in range(40))]}
+
+
+def buyers_of(buyers):
+    """The facts of cities with these buyers, and their cube."""
+    facts = [([city], [it, 1]) for city, each in buyers.items() for it in each]
+    return facts, oracle.text_of(TEXTS, oracle.rows_of(TEXTS, facts))
+
+
+def answers_shown(facts):
+    """The answers of facts, as the page shows them."""
+    held = oracle.answer(TEXTS, "values", 0, facts)
+    # (letters are counted as JavaScript does)
+    cut = held.encode("utf-16-le")[: 2 * MOST_SHOWN].decode("utf-16-le", "ignore")
+    shown = (cut + ("" if cut == held else "…")).replace("\n", "↵")
+    return [oracle.answer(TEXTS, "count distinct", 0, facts), oracle.answer(TEXTS, "count", None, facts), shown or "[no value]"]
+
+
+def test_texts_that_are_held(page, tmp_path):
+    """They are shown as they are printed, put together over several rows, whose distinct counts are made of them."""
+    facts, text = buyers_of(BUYERS)
+    (tmp_path / "buyers.csv").write_bytes(text)
+    page.open(f"{tmp_path}/buyers.csv", "")
+    of = lambda *cities: [it for it in facts if it[0][0] in cities]
+    assert page.shown()["body"] == [[it.decode(), *answers_shown(of(it))] for it in sorted(BUYERS)]
+    assert page.shown()["body"][1] == ["Leeds", "2", "3", '"Ann"*2 "Bob"*1']
+    for found, cities in (("ee", [b"Leeds"]), ("r", [b"Rome", b"York"]), ("o", [b"Rome", b"York"]), ("e", [b"Leeds", b"Rome"]), ("u", [b"Hull"]), ("l", [b"Hull", b"Leeds"])):
+        page.find(found)
+        assert page.shown()["foot"][0] == [f"{len(cities)} found", *answers_shown(of(*cities))], found
+    page.find("")
+
+
+def test_changes_of_texts_that_are_held(page, tmp_path):
+    """Each text that is held more often, or less often, in the order of bytes."""
+    for name, buyers in (("before", {b"Leeds": [b"Ann", b"Ann"], b"York": [b'"!', b"b"]}), ("later", {b"Leeds": [b"Ann", b"Cyd"], b"York": [b'"!', b'"', b"b"]})):
+        (tmp_path / f"{name}.csv").write_bytes(buyers_of(buyers)[1])
+    page.open(f"{tmp_path}/later.csv", "")
+    page.open_earlier(f"{tmp_path}/before.csv")
+    page.go("#slice=%3F&compare=1")
+    assert [it[-3:] for it in page.shown()["body"]] == [
+        ['"Ann"*2', '"Ann"*1 "Cyd"*1', '"Ann"*-1 "Cyd"*1'], ['"""!"*1 "b"*1', '""""*1 """!"*1 "b"*1', '""""*1']]
+
+
 def test_rolled_up(page, tmp_path):
     """A cube that doesn't keep all grouping sets."""
     schema, feed = tmp_path / "up.toml", tmp_path / "up.csv"
@@ -452,6 +498,11 @@ WRONG = {
     "values": ("a,grouping(a),values(m)\nx,0,1*2 3*\n", "Line 2 of the file has “1*2 3*” in the column values(m), which is no list of values."),
     "values with other decimals": ("a,grouping(a),values(m)\nx,0,1.5*2\ny,0,\nz,0,1.50*2\n",
                                    "Line 4 of the file has “1.50*2” in the column values(m), which is no list of values."),
+    "texts": ('a,grouping(a),values(m)\nx,0,"""Ann""*1 ""Bob"""\n', "Line 2 of the file has “\"Ann\"*1 \"Bob\"” in the column values(m), which is no list of values."),
+    "a text beside values": ('a,grouping(a),values(m)\nx,0,5*1\ny,0,"""Ann""*1"\n',
+                             "Line 3 of the file has “\"Ann\"*1” in the column values(m), which is no list of values."),
+    "a value beside texts": ('a,grouping(a),values(m)\nx,0,"""Ann""*1"\ny,0,5*1\n',
+                             "Line 3 of the file has “5*1” in the column values(m), which is no list of values."),
     "count": ("a,grouping(a),count(*)\nx,0,1.0\n", "Line 2 of the file has “1.0” in the column count(*), which is no number."),
     "mean": ("a,grouping(a),avg(m)\nx,0,1/0\n",
              "Line 2 of the file has “1/0” in the column avg(m), which is no fraction."),

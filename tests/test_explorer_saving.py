@@ -236,6 +236,20 @@ def test_saved_texts(page, tmp_path):
     assert read(saved(page, "#save-csv", "texts-seen.csv", tmp_path)).decode() == ESCAPED
 
 
+# (texts that are held, in quotes within quotes)
+HELD = 'a,grouping(a),count(distinct m),values(m)\nx,0,2,"""Ann, """"A""""""*1 ""two\nlines""*3"\ny,0,0,\n\\N,1,2,"""Ann, """"A""""""*1 ""two\nlines""*3"\n'
+
+
+def test_saved_texts_that_are_held(page, tmp_path):
+    """So are texts that are held, each with how often."""
+    page.fresh()
+    page.js("open(new File([arguments[0]], 'texts.csv'))", HELD)
+    page.titled("texts")
+    assert page.shown()["body"] == [["x", "2", '"Ann, ""A"""*1 "two↵lines"*3'], ["y", "0", "[no value]"]]
+    page.click("#more summary")
+    assert read(saved(page, "#save-csv", "texts-seen.csv", tmp_path)).decode() == HELD
+
+
 STRICT = "default-src 'none'; script-src {}; style-src {}; img-src data:; connect-src 'self'"
 
 

@@ -70,7 +70,7 @@ RUNS = ([], ["print"], ["slice"], ["drill"], ["rollup"], ["refusals"], ["live"])
 READS = [r"G3 \d+ F2", r"schema unreadable", r"feed \d+ unreadable", r"Q3", r"M3 \d+( \d+)?"]
 # (what the short form refuses memory, reads and writes; threads are refused everywhere)
 SHORT = ("no words", "check", "print, one fact", "print, 3 feeds, 2 builders", "print, by names", "print, texts", "slice", "live", "live, texts",
-         "schema", "table", "merge")
+         "schema", "table", "merge", "merge, texts")
 # (what is said where there is no memory for the words themselves)
 NO_WORDS = b"error: out of memory\n"
 
@@ -229,12 +229,14 @@ def commands(program):
     made["check, texts"] = (["check", counted], b"")
     made["print, texts"] = (["print", "--where", "kind!=a", counted, *files[:3]], b"")
     made["print, texts, 2 builders"] = (["print", "--builders", "2", counted, *files[:3]], b"")
+    made["print --partial, texts"] = (["print", "--partial", "--builders", "2", counted, *files[:2]], b"")
     made["live, texts"] = (["live", counted, *files[:2]], oracle.encode(COUNTED_SESSION))
     own = program.write("own.csv", b"when;city;qty\n2026-11-28;York;3\n2026-11-29;Leeds;NA\n2026-12-01;;5\n")
     made["schema"] = (["schema", own], b"")
     made["table"] = (["table", own, own], b"")
     made["merge"] = (["merge", "schema.toml", *cubes(program, files)], b"")
     made["merge --check"] = (["merge", "--check", *made["merge"][0][1:]], b"")
+    made["merge, texts"] = (["merge", "--partial", counted, *cubes(program, files, counted)], b"")
     return made, files
 
 
@@ -249,10 +251,10 @@ def named_feed():
     return oracle.encode(by_names(random.Random("a feed by names"), NAMED, records, True), delimiter=NAMED.delimiter())
 
 
-def cubes(program, files):
+def cubes(program, files, schema="schema.toml"):
     """The partial cubes of the first feeds, each in a file of its own."""
-    parts = [program.run(["print", "--partial", "schema.toml", it]).out for it in files[:3]]
-    return [program.write(f"cube{at}.csv", part) for at, part in enumerate(parts, start=1)]
+    parts = [program.run(["print", "--partial", schema, it]).out for it in files[:3]]
+    return [program.write(f"{schema[:-5]}-{at}.csv", part) for at, part in enumerate(parts, start=1)]
 
 
 def ends_of_command(name):
@@ -437,16 +439,20 @@ def parts_of_cubes(trials):
     program.write("whole.csv", cube)
     trials.trial("a cube cut at each byte, beside the whole one", cut_cube_in_turn, program, cube)
     trials.trial("a cube through two pipes", through_pipes, program, cube)
+    counted = program.write("counted.toml", COUNTED.toml())
+    cube = program.run(["print", "--partial", counted, "feed.csv"]).out
+    program.write("whole.csv", cube)
+    trials.trial("a cube of texts cut at each byte, beside the whole one", cut_cube_in_turn, program, cube, counted)
 
 
-def cut_cube_in_turn(program, cube):
+def cut_cube_in_turn(program, cube, schema="schema.toml"):
     """The header cut is M4, a line cut M5, and a cube that ends after a line without its grand total M8."""
     head = cube.index(b"\n") + 1
     for size in range(len(cube)):
         program.write("cut.csv", cube[:size])
         code = "M4" if size < head else "M8" if cube[:size].endswith(b"\n") else "M5"
         wanted = b"datacube: %s 2 %d\n" % (code.encode(), cube[:size].count(b"\n") + 1)
-        answer = program.run(["merge", "schema.toml", "whole.csv", "cut.csv"])
+        answer = program.run(["merge", schema, "whole.csv", "cut.csv"])
         if (answer.status, answer.err) != (1, wanted):
             return f"{size} bytes: {answer.status}, {answer.err[:200]!r}, and not {wanted!r}"
     return len(cube)

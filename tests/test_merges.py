@@ -24,19 +24,27 @@ NUMBERS = [
 ]
 
 
-# (of values that are held)
+# (of values or texts that are held)
 HELD = [
     lambda it: it + [b"9223372036854775807*1"], lambda it: it[::-1], lambda it: it[1:], lambda it: it[:1] + it, lambda it: it + [b""],
     lambda it: [part.replace(b"*", b"*1") for part in it], lambda it: [part.replace(b"*", b"*0") for part in it],
-    lambda it: [part.partition(b"*")[0] + b"*0" for part in it], lambda it: [part.partition(b"*")[0] for part in it],
-    lambda it: [part + b"*1" for part in it], lambda it: [part.partition(b"*")[0] + b"*%d" % (2**64 - 1) for part in it],
+    lambda it: [part.rpartition(b"*")[0] + b"*0" for part in it], lambda it: [part.rpartition(b"*")[0] for part in it],
+    lambda it: [part + b"*1" for part in it], lambda it: [part.rpartition(b"*")[0] + b"*%d" % (2**64 - 1) for part in it],
     lambda it: [b"-9223372036854775809*1"], lambda it: [b"5*2", *it], lambda it: [part.replace(b"*", b" ") for part in it],
+    lambda it: [b"  ".join(it)], lambda it: [b"".join(it)], lambda it: [b",".join(it)],
+]
+# (of texts alone)
+HELD_TEXTS = [
+    lambda it: [part.replace(b'"', b"") for part in it], lambda it: [part.replace(b'""', b'"') for part in it],
+    lambda it: [part.replace(b'"', b'""') for part in it], lambda it: [b'""*1', *it], lambda it: it + [b'"\xf4\x8f\xbf\xbf"*1'],
+    lambda it: it + [b'"\xff"*1'], lambda it: [b'"\xc3"*1', *it[1:]], lambda it: [b'"x"*1'], lambda it: [b'"x*1'], lambda it: [b'x"*1'],
+    lambda it: [b"\\N"], lambda it: [part.lower() for part in it], lambda it: [part.replace(b'"*', b' "*') for part in it],
 ]
 
 
-def case_of(rng):
-    """A schema, and the data records of feeds, few where there are many grouping sets."""
-    schema, feeds = make.random_case(rng, True, with_texts=False)
+def case_of(rng, with_texts=0.25):
+    """A schema, of which such a share counts texts, and the data records of feeds, few where there are many grouping sets."""
+    schema, feeds = make.random_case(rng, True, with_texts)
     most = 400 if len(schema.masks) <= 8 else 60 if len(schema.masks) <= 32 else 10
     schema.max_records = make.MOST
     return schema, [records[:most] for records in feeds][: max(1, most // 6)]
@@ -122,7 +130,7 @@ def test_counts_and_sums_near_their_bounds(room, rng):
     groups = [it for it in parted(facts, rng.choice([2, 2, 1]), rng) if it] or [[]]
     most, largest = 2**64 - 1, max(map(len, groups))
     times = rng.choice([most // max(largest, 1), most // max(largest, 1), most // max(len(facts), 1), most, 2**63, 1])
-    squares = max((sum(it * it for it in column if it is not None) for column in zip(*(it for _, it in facts))), default=0)
+    squares = max((sum(it * it for it in column if isinstance(it, int)) for column in zip(*(it for _, it in facts))), default=0)
     more = {"count": times, "sum": times, "values": times, "sum_of_squares": rng.choice([times, (2**192 - 1) // max(squares, 1), 2**192 // max(squares, 1) + 1])}
     texts = []
     for group in groups:
@@ -136,7 +144,7 @@ def times_of(schema, answers, more):
     told = {}
     for (kind, at), answer in zip(schema.aggregates, answers):
         if kind == "values":
-            held = oracle.printed_held(schema.places(at), answer.encode())
+            held = oracle.printed_held(schema, at, answer.encode())
             told[kind, at] = [(value, count * more[kind]) for value, count in held]
         elif not oracle.parts_of(kind):
             told[kind, at] = None if answer == "\\N" else int(answer.replace(".", "")) * more.get(kind, 1)
@@ -160,6 +168,10 @@ def respelled(field, rng):
     if found and rng.random() < 0.5:
         units = rng.choice([1, -1, 10, -10]) + int(found[1] + found[2])
         return oracle.decimal(units, max(len(found[2]) + rng.choice([0, 0, 0, 1, -1]), 0)).encode()
+    texts = oracle.printed_texts(oracle.printed_line(field + b"\n", 0)[0][0]) if b'""*' in field else "wrong"
+    if texts != "wrong" and rng.random() < 0.8:
+        held = [b'"%s"*%d' % (text.replace(b'"', b'""'), count) for text, count in texts]
+        return oracle.line_of([b" ".join(rng.choice(HELD + HELD_TEXTS)(held))])[:-1]
     if b"*" in field and rng.random() < 0.8:
         return b" ".join(rng.choice(HELD)(field.split(b" ")))
     if not re.fullmatch(rb"-?[0-9]+(/[0-9]+)?", field) or rng.random() < 0.5:
@@ -209,7 +221,10 @@ def test_what_aggregates_are_made_of(room, rng):
     schema, feeds = case_of(rng)
     if not schema.measures:
         return
-    one = rng.choice(["count distinct", "percentile_disc 0.5", "avg", "var_pop"]), rng.randrange(len(schema.measures))
+    at = rng.randrange(len(schema.measures))
+    one = rng.choice(["count distinct", *([] if schema.is_of_texts(at) else ["percentile_disc 0.5", "avg", "var_pop"])]), at
+    if oracle.aggregate_of(oracle.spelling(one[0], schema.measures[at]), schema.measures) != one:
+        return
     schema.aggregates = [one, *([("count", None)] if rng.random() < 0.5 else [])]
     facts = oracle.Run(schema, feeds).facts
     parts = parted(facts, rng.choice([1, 2, 3]), rng)
@@ -221,21 +236,23 @@ def test_what_aggregates_are_made_of(room, rng):
     merged(room, schema, texts, rng, wanted, tail)
 
 
-@tries(6)
-def test_texts_arent_merged(room, rng):
-    """A schema that counts texts has no partial form: that is told before a feed or a cube is opened."""
-    schema, feeds = case_of(rng)
-    if not schema.measures:
+@tries(12)
+def test_texts(room, rng):
+    """A schema that counts texts: the partial cubes of shards, built by any number of builders, and what is merged of them."""
+    schema, feeds = case_of(rng, with_texts=1)
+    if not schema.texts:
         return
-    make.count_texts(rng, schema)
-    schema.decimals = {name: places for name, places in schema.decimals.items() if name not in schema.texts}
     room.write("schema.toml", schema.toml())
-    data, feeds[0] = make.written(rng, schema, feeds[0])
-    name, wanted = room.write("feed.csv", data), (3, b"", said("S13"))
-    room.expect(["print", "--partial", *make.random_conditions(rng, schema)[0], "schema.toml", rng.choice([name, "gone.csv"])], wanted)
-    room.expect(["merge", *rng.choice([[], ["--partial"], ["--check"]]), "schema.toml", rng.choice([name, "gone.csv"])], wanted)
-    run = oracle.Run(schema, feeds[:1])
-    room.expect(["print", "schema.toml", name], (run.status, run.print(), b""))
+    pairs, count, partial = [make.written(rng, schema, it) for it in feeds], rng.choice([1, 2, 3]), schema.partial()
+    names, feeds = [room.write(f"feed{at}.csv", data) for at, (data, _) in enumerate(pairs)], [it for _, it in pairs]
+    texts = []
+    for shard in range(1, count + 1):
+        run, options = oracle.Run(partial, feeds, (shard, count)), rng.choice([[], ["--builders", "2"], ["--builders", "8"], ["--threads", "4"]])
+        texts.append(run.print())
+        room.expect(["print", "--partial", *options, "--shard", f"{shard}/{count}", "schema.toml", *names], (run.status, run.print(), b""))
+    merged(room, schema, texts, rng, (oracle.Run(schema, feeds).print(), None))
+    merged(room, schema, texts, rng, (oracle.Run(partial, feeds).print(), None), ["--partial"])
+    merged(room, schema, [*texts, *texts], rng, oracle.merge(schema, [*texts, *texts], True), ["--partial", "--check"])
 
 
 @tries(6)

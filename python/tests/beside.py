@@ -183,6 +183,8 @@ def row_like(schema: oracle.Schema, row: Tuple[Any, List[str]]) -> Tuple[Any, ..
 def number_like(schema: oracle.Schema, kind: str, at: Any) -> Any:
     """What makes an aggregate's answers of texts."""
     number = Decimal if not kind.startswith("count") and schema.places(at) else int
+    if kind == "values" and schema.is_of_texts(at):
+        return lambda text: {it.decode(): times for it, times in oracle.printed_texts(text.encode())}
     if kind == "values":
         return lambda text: {number(it.partition("*")[0]): int(it.partition("*")[2]) for it in text.split()}
     return Fraction if kind in oracle.FRACTIONS else number

@@ -293,6 +293,25 @@ class Pandas(unittest.TestCase):
             self.assertRaises(jackraisin.Unreadable, list, cube)
             self.assertRaises(jackraisin.Unreadable, cube.to_pandas)
 
+    def test_values_that_are_texts(self):
+        """They are dicts by the texts, also beside numbers with and without decimals, and whatever stands in them."""
+        each = [{"Ann": 2, "Zoë": 1}, {}, {"": 1, '"': 3, " *2 ": 1, "1.50": 1, "1.50,": 2, "a,b": 1}, {"two\nlines": 1}, {"x.50": 2**64 - 1}, {"1.25,\n": 1, "5*1": 4}]
+        for others in (["a\r\nb"], []):
+            wanted = [*each, *({it: 1} for it in others)]
+            shown = lambda held: " ".join('"' + text.replace('"', '""') + f'"*{times}' for text, times in held.items())
+            field = lambda held: '"' + shown(held).replace('"', '""') + '"' if held else ""
+            lines = "".join(f"{at},0,{field(it)},7,1.50,\\N\n" for at, it in enumerate(wanted))
+            cube = jackraisin.Cube(f"a,grouping(a),values(m),count(m),sum(n),max(k)\n{lines}")
+            answers = [(it, 7, Decimal("1.50"), None) for it in wanted]
+            self.assertEqual([it.answers for it in cube], answers)
+            null = lambda it: None if self.pandas.isna(it) else it
+            self.assertEqual([tuple(map(null, it)) for it in cube.to_pandas().itertuples(index=False, name=None)], answers)
+        for wrong in ("a*1", '"a"', '"a"*', '"a"*x', '"a"*1 ', '"a"*1  "b"*1', '"a"*1"b"*1', '"a""*1', '"a"*1 5*1', '5*1 "a"*1', '"a*1'):
+            quoted = wrong.replace('"', '""')
+            cube = jackraisin.Cube(f'a,grouping(a),values(m)\nx,0,"{quoted}"\n')
+            self.assertRaises(jackraisin.Unreadable, list, cube)
+            self.assertRaises(jackraisin.Unreadable, cube.to_pandas)
+
     def test_no_row_is_made_on_the_way(self):
         cube = jackraisin.cube(SCHEMA, FEEDS)
         frame = cube.to_pandas()
@@ -371,6 +390,8 @@ class Notebooks(unittest.TestCase):
         self.assertNotIn("<script", page)
         self.assertNotIn("<b>", page)
         self.assertEqual(page.count("&lt;script&gt;alert(&quot;1&quot;)&lt;/script&gt;&amp;amp;"), 3)
+        page = jackraisin.Cube('a,grouping(a),values(m)\n\\N,1,"""<b>&amp;""*2"\n')._repr_html_()
+        self.assertIn('<td style="text-align: right">&quot;&lt;b&gt;&amp;amp;&quot;*2</td>', page)
 
 
 class Generated(unittest.TestCase):
@@ -395,14 +416,10 @@ class Generated(unittest.TestCase):
 
     def test_shards(self):
         for rng, schema, paths, run in self.each(30):
-            like, count = beside.schema_like(schema), rng.choice([1, 2, 5])
-            if schema.texts:
-                with self.assertRaises(jackraisin.Failure) as caught:
-                    jackraisin.cube(like, paths, shard=(1, count), partial=True)
-                self.assertEqual((caught.exception.line, caught.exception.status), ("S13", 3))
-                continue
+            like, count, partial = beside.schema_like(schema), rng.choice([1, 2, 5]), schema.partial()
             parts = [jackraisin.cube(like, paths, shard=(at, count), partial=True) for at in range(1, count + 1)]
             self.assertEqual(jackraisin.merge(like, parts).text.encode(), run.print())
+            self.assertEqual(rows_of(jackraisin.merge(like, parts, partial=True)), rows_like(partial, oracle.rows_of(partial, run.facts)))
             self.assertEqual(any(it.refused for it in parts), bool(run.refused))
 
     def test_slices(self):
@@ -594,11 +611,28 @@ class Texts(unittest.TestCase):
         self.assertEqual([str(it) for it in frame.dtypes], ["Int64"] * 4)
         self.assertEqual(list(frame["count(distinct customer)"]), [2, 1, 3])
 
-    def test_parts_arent_merged(self):
-        for call in (lambda: self.asked(jackraisin.cube, partial=True), lambda: self.asked(lambda schema, path: jackraisin.merge(schema, [path]))):
+    def test_parts_are_merged(self):
+        """In a partial cube each cell has its texts, a dict by which each has the number of times that it is held."""
+        whole = self.asked(jackraisin.cube, partial=True)
+        self.assertEqual(whole.aggregates, (*self.SCHEMA.aggregates, "values(customer)"))
+        self.assertEqual(whole.at({})["values(customer)"], {"": 1, "Ann": 2, "Ann, of Leeds": 1})
+        self.assertEqual([list(it["values(customer)"].items()) for it in whole], [[("", 1), ("Ann, of Leeds", 1)], [("Ann", 2)], [("", 1), ("Ann", 2), ("Ann, of Leeds", 1)]])
+        parts = [self.asked(jackraisin.cube, partial=True, shard=(at, 3)) for at in (1, 2, 3)]
+        self.assertEqual(jackraisin.merge(self.SCHEMA, parts).text, self.asked(jackraisin.cube).text)
+        self.assertEqual(jackraisin.merge(self.SCHEMA, parts, partial=True).text, whole.text)
+        twice = jackraisin.merge(self.SCHEMA, [whole, whole], partial=True).at({"city": "York"})
+        self.assertEqual((twice["count(customer)"], twice["count(distinct customer)"], twice["values(customer)"]), (4, 1, {"Ann": 4}))
+
+    def test_a_cube_that_gainsays_itself(self):
+        head = "city,grouping(city),count(*),count(customer),count(distinct customer),sum(cents),values(customer)\n"
+        for line, code in (('\\N,1,2,2,2,5,"""Ann""*2"', "M5 1 2"), ('\\N,1,2,2,1,5,"""Ann""*2"', None), ('\\N,1,2,2,2,5,"""b""*1 ""a""*1"', "M5 1 2")):
+            part = jackraisin.Cube(f"{head}{line}\n")
+            if code is None:
+                self.assertEqual(jackraisin.merge(self.SCHEMA, [part]).at({}).answers, (2, 2, 1, 5))
+                continue
             with self.assertRaises(jackraisin.Failure) as caught:
-                call()
-            self.assertEqual((caught.exception.line, caught.exception.status), ("S13", 3))
+                jackraisin.merge(self.SCHEMA, [part])
+            self.assertEqual((caught.exception.line, caught.exception.status), (code, 1))
 
     def test_a_schema_comes_back(self):
         with self.SCHEMA.file() as path, open(path, encoding="utf-8") as file:

@@ -68,6 +68,9 @@ class Shown(unittest.TestCase):
                 file.write("a,grouping(a),values(m),avg(m)\nx,0,,\\N\ny,0,-1.50*1 2.00*3,9/8\n\\N,1,-1.50*1 2.00*3,9/8\n")
             self.assertEqual([it.split() for it in show(path)[1].splitlines()[1:3]], [["x", "(null)"], ["y", "-1.50*1", "2.00*3", "1.1250"]])
             self.assertEqual(show(path, "--top", "1")[::2], (1, "jackraisin: only numbers are in an order, and values(m) is none\n"))
+            with open(path, "w") as file:
+                file.write('a,grouping(a),values(m)\nx,0,\ny,0,"""Ann""*1 ""two\nlines""*2"\n\\N,1,"""Ann""*1 ""two\nlines""*2"\n')
+            self.assertEqual([it.split() for it in show(path)[1].splitlines()[1:3]], [["x"], ["y", '"Ann"*1', '"two\ufffdlines"*2']])
 
     def test_what_it_cant_show(self):
         for words, why in (

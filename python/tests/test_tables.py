@@ -122,6 +122,9 @@ class Stand(unittest.TestCase):
         for table in (cube.to_arrow(), cube.to_polars()):
             self.assertEqual(dict(table)["values(m)"], ("string", ["-0.05*1 1.50*2", "", "-0.05*1 1.50*2"]))
             self.assertEqual(table.kinds()["count(m)"], "int64")
+        cube = jackraisin.Cube('a,grouping(a),values(m)\nx,0,"""Ann, B""*1 ""c""*2"\n\\N,1,\n')
+        for table in (cube.to_arrow(), cube.to_polars()):
+            self.assertEqual(dict(table)["values(m)"], ("string", ['"Ann, B"*1 "c"*2', ""]))
 
     def test_names(self):
         """A dimension may have the name of an aggregate; polars has no two columns of one name."""

@@ -118,6 +118,12 @@ class Shop(unittest.TestCase):
         self.assertEqual(list(found[1].change("values(m)")), sorted(found[1].change("values(m)")))
         self.assertRaises(jackraisin.Unsayable, before.percent, "values(m)")
 
+    def test_changes_of_texts_that_are_held(self):
+        head = "a,grouping(a),values(m)\n"
+        before, after = jackraisin.Cube(head + 'x,0,"""Ann""*2 ""Bob""*1"\ny,0,"""c""*1"\n'), jackraisin.Cube(head + 'x,0,"""Ann""*1 ""Cyd""*4"\nz,0,"""""*1"\n')
+        found = [list(it.change("values(m)").items()) for it in before.diff(after)]
+        self.assertEqual(found, [[("Ann", -1), ("Bob", -1), ("Cyd", 4)], [("c", -1)], [("", 1)]])
+
 
 class Generated(unittest.TestCase):
     """Beside the oracle's rows of generated feeds."""

@@ -4,4 +4,6 @@ pub mod Cells
 mod Filling
 mod Rows
 pub mod TextNumberLaws
+mod RankedFactLaws
+pub mod ToldLaws
 pub mod CountedCubeLaws

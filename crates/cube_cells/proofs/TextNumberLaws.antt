@@ -16,7 +16,7 @@ use Rattle.cube_core.specs.declared.fact.Fact.{Fact}
 use Rattle.cube_core.specs.declared.key.Coord.TheVariants as coord
 use Rattle.cube_core.proofs.ListLaws.{Contains-head, Contains-tail, Contains-list_any}
 use Rattle.cube_cells.specs.Codes.{IsCodeOf, IsDictionary, is_code, texts_with}
-use Rattle.cube_cells.specs.TextNumbers.{AreCountedFacts, StandFirst, number_in}
+use Rattle.cube_cells.specs.TextNumbers.{AreCountedFacts, AreCountedIn, StandFirst, number_in}
 use Rattle.cube_core.specs.TextPlaces.{TellsApart, counted_by, last_values, texts_counted}
 use Rattle.cube_cells.proofs.Codes.DictionaryLaws.{StandsAt, StandsAt-are_distinct, StandsAt-coord_at}
 use Rattle.cube_cells.proofs.Codes.DictionaryLaws.{StandsAt-position_or_len, is_code-is_listed}
@@ -29,20 +29,20 @@ is_listed-Contains texts text among =
     Contains-list_any (bytes_eq text) texts text among ((bytes_eq-Decides text text).1 refl)
 
 -- a text stands at the place at which it is found
-StandsAt-Contains : (texts : List (List ℕ)) (text : List ℕ) → Contains texts text
+pub StandsAt-Contains : (texts : List (List ℕ)) (text : List ℕ) → Contains texts text
     → StandsAt text texts (position_or_len (bytes_eq text) texts)
 StandsAt-Contains texts text among = elim (StandsAt-position_or_len text texts) [
   | inl stands ↦ stands
   | inr nowhere ↦ absurd (both_ways (is_listed text texts) nowhere.0 (is_listed-Contains texts text among))
 ]
 
-Contains-StandsAt : (texts : List (List ℕ)) (text : List ℕ) (place : ℕ) → StandsAt text texts place
+pub Contains-StandsAt : (texts : List (List ℕ)) (text : List ℕ) (place : ℕ) → StandsAt text texts place
     → Contains texts text
 Contains-StandsAt texts text place stands =
     subst (Contains texts) stands.is_text (Contains-get_or texts place [] stands.below)
 
 -- which is its number
-number_in-position : (texts : List (List ℕ)) (text : List ℕ) → Contains texts text
+pub number_in-position : (texts : List (List ℕ)) (text : List ℕ) → Contains texts text
     → number_in texts text ≡ pos (position_or_len (bytes_eq text) texts)
 number_in-position texts text among =
     let stands = StandsAt-Contains texts text among in
@@ -206,7 +206,7 @@ All-texts_counted known texts fact place old numbers over adds =
     subst (All (Contains known)) (ap texts_in whole ∙ sym (texts_counted-one texts fact)) adds.listed
 
 -- a fact is counted the same by numbers that agree on its texts
-counted_by-agree : (f g : List ℕ → ℤ) (texts : ℕ) (fact : Fact)
+pub counted_by-agree : (f g : List ℕ → ℤ) (texts : ℕ) (fact : Fact)
     → ((text : List ℕ) → Contains (texts_counted texts (fact ∷ [])) text → f text ≡ g text)
     → counted_by f texts fact ≡ counted_by g texts fact
 counted_by-agree f g zero fact agree = refl
@@ -224,12 +224,6 @@ pub counted_by-StandFirst : (old new : List (List ℕ)) (texts : ℕ) (fact : Fa
 counted_by-StandFirst old new texts fact first listed =
     counted_by-agree (number_in new) (number_in old) texts fact (λ text among. number_in-StandFirst old new text first
     (All-contains (Contains old) (texts_counted texts (fact ∷ [])) text listed among))
-
--- ---- many facts
--- facts that are counted by the numbers of texts, among which are all texts of theirs that are counted
-pub record AreCountedIn (known : List (List ℕ)) (texts : ℕ) (facts counted : List Fact) : Type 0 where
-  pub listed : All (Contains known) (texts_counted texts facts)
-  pub are : counted ≡ map (counted_by (number_in known) texts) facts
 
 -- facts are counted as they were where more texts stand behind their own
 map-counted_by-StandFirst : (old new : List (List ℕ)) (texts : ℕ) (facts : List Fact) → StandFirst old new

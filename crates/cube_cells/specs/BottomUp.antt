@@ -8,9 +8,10 @@ use Rattle.std.specs.Map.{keys_of}
 use Rattle.std.specs.Ordering.{nat_cmp}
 use Rattle.std.specs.declared.cmp.Ordering.{Ordering}
 use Rattle.std.specs.List.{AllZip}
-use Rattle.cube_core.specs.Cube.{AreRows}
+use Rattle.cube_core.specs.Cube.{AreRowsOver}
 use Rattle.cube_core.specs.Layout.{Layout}
 use Rattle.cube_core.specs.Query.{AreRowsWhere}
+use Rattle.cube_core.specs.declared.aggregate.Agg.{Agg}
 use Rattle.cube_core.specs.declared.fact.Fact.{Fact}
 use Rattle.cube_core.specs.declared.key.Key.{Key}
 use Rattle.cube_core.specs.declared.key.Row.{Row}
@@ -229,10 +230,10 @@ pub record AreToWalk (schema : Layout) (number : ℕ) (dictionaries : Dictionari
 -- these are the cells of the cube of the facts of a lattice over some grouping sets, in key order
 pub record AreCellsOver (finest : Lattice) (sets : List ℕ) (cells : CodedCells) : Type 0 where
   pub each : All (IsCodedCell finest.dictionaries (length finest.schema.measures)) cells
-  pub rows : (test : Key → Bool) → (facts : List Fact) → IsCubeOfAll facts finest → (rows : List Row)
-      → AllZip (IsRowOf finest.schema.aggregates)
-      (filter (λ cell. test cell.0) (decoded finest.dictionaries cells)) rows
-      → AreRowsWhere test sets (length finest.schema.dimensions) finest.schema.aggregates facts rows
+  pub rows : (aggregates : List Agg) (test : Key → Bool) → (facts : List Fact) → IsCubeOfAll facts finest
+      → (rows : List Row)
+      → AllZip (IsRowOf aggregates) (filter (λ cell. test cell.0) (decoded finest.dictionaries cells)) rows
+      → AreRowsWhere test sets (length finest.schema.dimensions) aggregates facts rows
   pub keys : (facts : List Fact) → IsCubeOfAll facts finest
       → AreKeysOver sets (length finest.schema.dimensions) facts (keys_of (decoded finest.dictionaries cells))
 
@@ -246,9 +247,9 @@ pub record TakesSets {S : Type 0} (takes : S → Codes → Tally → S → Type 
 -- these are the cells of the cube of the facts of a lattice over all grouping sets of its schema, in key order
 pub record AreCellsOfCube (finest : Lattice) (cells : CodedCells) : Type 0 where
   pub each : All (IsCodedCell finest.dictionaries (length finest.schema.measures)) cells
-  pub rows : (facts : List Fact) → IsCubeOfAll facts finest → (rows : List Row)
-      → AllZip (IsRowOf finest.schema.aggregates) (decoded finest.dictionaries cells) rows
-      → AreRows finest.schema facts rows
+  pub rows : (aggregates : List Agg) (facts : List Fact) → IsCubeOfAll facts finest → (rows : List Row)
+      → AllZip (IsRowOf aggregates) (decoded finest.dictionaries cells) rows
+      → AreRowsOver finest.schema.grouping_sets (length finest.schema.dimensions) aggregates facts rows
   pub keys : (facts : List Fact) → IsCubeOfAll facts finest
       → AreKeysOver finest.schema.grouping_sets (length finest.schema.dimensions) facts
       (keys_of (decoded finest.dictionaries cells))

@@ -21,4 +21,5 @@ pub mod WalkParts
 pub mod FinestRows
 pub mod BaseCuboid
 pub mod TextNumbers
+pub mod Told
 pub mod CountedCube

@@ -167,7 +167,8 @@ impl<N: Numbers> Cell<N> {
             | Agg::SumOfSquares(_)
             | Agg::VarPop(_)
             | Agg::VarSamp(_)
-            | Agg::Values(_) => Answer::Null,
+            | Agg::Values(_)
+            | Agg::Texts(_) => Answer::Null,
         }
     }
 
@@ -190,6 +191,7 @@ impl<N: Numbers> Cell<N> {
             Agg::VarPop(measure) => Ok(self.measures[*measure].variance(false)),
             Agg::VarSamp(measure) => Ok(self.measures[*measure].variance(true)),
             Agg::Values(measure) => self.measures[*measure].in_order(),
+            Agg::Texts(_) => unreachable!(),
             _ => Ok(self.answer(agg)),
         }
     }

@@ -26,4 +26,4 @@ pub use cube::{
 };
 pub use cube_core::{CoordRef, reduced};
 pub use cube_values::{Counted, Numbers, Summary};
-pub use text_numbers::TextNumbers;
+pub use text_numbers::{CountedFacts, TextNumbers};

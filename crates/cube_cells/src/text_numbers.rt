@@ -1,10 +1,13 @@
 //! Numbers that stand for the texts that are counted.
 ghost use Rattle.std.specs.Prelude.{◌≡◌, ◌+◌, ◌≤◌, ◌∷◌, [], All, Contains, IfOk, IfSome, OnOk, OnErr, length, map, option_map, take};
 ghost use Rattle.cube_cells.specs.Codes.{IsDictionary, texts_with};
-ghost use Rattle.cube_cells.specs.TextNumbers.{AreCountedFacts, StandFirst, measures_counted, number_in};
+ghost use Rattle.cube_cells.specs.TextNumbers.{StandFirst, measures_counted, number_in, rank_of_number, renumbered};
+ghost use Rattle.cube_cells.specs.Told.{IsTextTable};
 ghost use Rattle.cube_core.specs.TextPlaces.{counted_by, texts_counted};
 
 use crate::cube::dictionary::Dictionary;
+use crate::cube::ranks::{RankedTexts, Ranks, ranked_texts};
+use crate::cube::sorted_texts::SortedTexts;
 use arrayvec::ArrayVec;
 use cube_core::{DimensionValues, Fact, HashKey, SmallSequence};
 use std::alloc::{AllocError, Global};
@@ -12,6 +15,13 @@ use std::marker::Model;
 
 /// The most measures of a fact as it is counted.
 const MOST_MEASURES: usize = 4;
+
+/// Facts as a cube counts them, and the texts that they count, in the order of bytes: a number is the place of its text.
+#[derive(Drop)]
+pub struct CountedFacts {
+    pub texts: SortedTexts,
+    pub facts: Vec<Fact>,
+}
 
 /// Numbers that stand for texts: that of a text is its place among the different texts that came, counted from 0.
 ///
@@ -85,20 +95,35 @@ impl TextNumbers {
         Ok(Fact { dims, measures })
     }
 
-    /// Facts as a cube counts them, where the last `texts` values of the dimensions of each are texts that are counted,
-    /// or null: a text has the same number in all of them, and no two texts have one number. The texts are hashed under
-    /// the key. The only error is that memory ran out, or numbers for texts.
+    /// Facts as a cube counts them, where the last `texts` values of the dimensions of each are texts that are counted, or
+    /// null: the number of a text is its place in the order of bytes. The texts are hashed under the key. The only error is
+    /// that memory ran out, or numbers for texts.
     pub fn all_counted(
         alloc: Global,
         key: HashKey,
         texts: usize,
         facts: &[&Fact],
-    ) -> Result<Vec<Fact>, AllocError>
+    ) -> Result<CountedFacts, AllocError>
         requires { All (λ fact. texts ≤ length fact.dims) (map (λ fact. fact.now) facts.now) }
-        ensures { IfOk result (λ counted. AreCountedFacts texts (map (λ fact. fact.now) facts.now) counted.items) }
+        ensures table { IfOk result (λ made. IsTextTable texts (map (λ fact. fact.now) facts.now) made.texts) }
+        ensures facts { IfOk result (λ made. made.facts.items ≡
+            map (counted_by (number_in made.texts) texts) (map (λ fact. fact.now) facts.now)) }
     {
         let mut numbers = TextNumbers::new(alloc, key);
-        numbers.each_counted(texts, facts)
+        let counted = numbers.each_counted(texts, facts)?;
+        let TextNumbers {
+            texts: dictionary,
+            alloc: _,
+        } = numbers;
+        let RankedTexts {
+            texts: table,
+            ranks,
+        } = ranked_texts(alloc, dictionary)?;
+        let facts = ranked_facts(alloc, texts, &ranks, counted)?;
+        Ok(CountedFacts {
+            texts: table,
+            facts,
+        })
     }
 
     /// Each of some facts as a cube counts it, as [`counted`](TextNumbers::counted) answers it. The only error is that memory
@@ -194,6 +219,48 @@ impl TextNumbers {
         let code = self.texts.code_of_value(Some(text));
         Some(i64::from(code))
     }
+}
+
+// Facts, each with the ranks of its last numbers, so many, in the place of these.
+fn ranked_facts(
+    alloc: Global,
+    texts: usize,
+    ranks: &Ranks,
+    facts: Vec<Fact>,
+) -> Result<Vec<Fact>, AllocError>
+    ensures { IfOk result (λ ranked. ranked.items ≡ map (renumbered (rank_of_number ranks.now) texts) facts.items) }
+{
+    let mut ranked = Vec::with_capacity(alloc, facts.len())?;
+    for fact in facts {
+        ranked.push(ranked_fact(alloc, texts, ranks, fact)?)?;
+    }
+    Ok(ranked)
+}
+
+// A fact with the ranks of its last numbers, so many, in the place of these.
+fn ranked_fact(alloc: Global, texts: usize, ranks: &Ranks, fact: Fact) -> Result<Fact, AllocError>
+    ensures { IfOk result (λ ranked. ranked ≡ renumbered (rank_of_number ranks.now) texts fact) }
+{
+    let Fact { dims, measures } = fact;
+    let numbers = measures.as_slice();
+    let own = numbers.len().saturating_sub(texts);
+    let mut ranked = SmallSequence::from_slice(alloc, &numbers[..own])?;
+    ranked.reserve_exact(numbers.len() - own)?;
+    for number in &numbers[own..] {
+        ranked.push(ranked_number(ranks, *number))?;
+    }
+    Ok(Fact {
+        dims,
+        measures: ranked,
+    })
+}
+
+// The rank of a number; null of null.
+fn ranked_number(ranks: &Ranks, number: Option<i64>) -> Option<i64>
+    ensures { result ≡ option_map (rank_of_number ranks.now) number }
+{
+    let code = number?.unsigned_abs() as usize;
+    Some(ranks.rank_at(code) as i64)
 }
 
 // The first values, so many, which are copied.

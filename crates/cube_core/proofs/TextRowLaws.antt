@@ -4,7 +4,7 @@ use Rattle.std.proofs.Common.{map, get_or, filter, filter_map, option_map, Optio
 use Rattle.std.proofs.Common.{◌||◌, ◌==◌, nat_lt, refl, sym, ap, ap₂, ◌∙◌, subst, subst₂, arith, inl, inr}
 use Rattle.std.specs.List.{cons_option, list_any, list_all}
 use Rattle.std.proofs.Math.ListN.{get_or-append, get_or-map}
-use Rattle.std.proofs.lemmas.Bool.{cases_Bool, and_parts, ltb-true, ltb-false}
+use Rattle.std.proofs.lemmas.Bool.{cases_Bool, and_parts, false≢true, ltb-true, ltb-false}
 use Rattle.std.proofs.lemmas.List.{get_or-append_right, length-map, map-id}
 use Rattle.std.proofs.lemmas.Map.Views.{exact_unsigned_eq}
 use Rattle.cube_core.specs.Answer.{IsAnswer, AreAnswers, IsDistinctCount, IsSum, IsLeast, IsGreatest, IsMean}
@@ -75,7 +75,7 @@ cons_option-map f (Some x) xs = refl
 
 -- ---- the values of facts whose texts are counted
 -- the text or null that a fact has of one of those that are counted
-abbrev text_of : ℕ → ℕ → Fact → Option (List ℕ)
+abbrev pub text_of : ℕ → ℕ → Fact → Option (List ℕ)
 text_of texts place fact = get_or (last_values texts fact) place None
 
 -- the value of a measure that is a number
@@ -93,7 +93,7 @@ value_of-text number texts m fact above =
     ∙ get_or-map (option_map number) (last_values (suc texts) fact) (m - length fact.measures) None
 
 -- the values of a measure that is a number are those of the facts
-values_of-number : (number : List ℕ → ℤ) (texts measures m : ℕ) (facts : List Fact)
+pub values_of-number : (number : List ℕ → ℤ) (texts measures m : ℕ) (facts : List Fact)
     → ((fact : Fact) → Contains facts fact → length fact.measures ≡ measures) → m < measures
     → values_of m (map (counted_by number (suc texts)) facts) ≡ values_of m facts
 values_of-number number texts measures m [] all below = refl
@@ -104,7 +104,7 @@ values_of-number number texts measures m (fact ∷ facts) all below =
     (λ other among. all other (Contains-tail fact facts other among)) below)
 
 -- and those of one that is a text are the numbers of its texts
-values_of-text : (number : List ℕ → ℤ) (texts measures m : ℕ) (facts : List Fact)
+pub values_of-text : (number : List ℕ → ℤ) (texts measures m : ℕ) (facts : List Fact)
     → ((fact : Fact) → Contains facts fact → length fact.measures ≡ measures) → measures ≤ m
     → values_of m (map (counted_by number (suc texts)) facts)
     ≡ map number (filter_map (text_of (suc texts) (m - measures)) facts)
@@ -121,7 +121,7 @@ values_of-text number texts measures m (fact ∷ facts) all above =
     (filter_map (text_of (suc texts) (m - measures)) facts)
 
 -- each of these texts is one that the facts have counted
-texts_counted-Contains : (texts place : ℕ) (group facts : List Fact) (text : List ℕ)
+pub texts_counted-Contains : (texts place : ℕ) (group facts : List Fact) (text : List ℕ)
     → ((fact : Fact) → Contains group fact → Contains facts fact)
     → Contains (filter_map (text_of texts place) group) text → Contains (texts_counted texts facts) text
 texts_counted-Contains texts place group facts text within there =
@@ -134,14 +134,14 @@ texts_counted-Contains texts place group facts text within there =
 -- ---- groups whose answers are the same
 -- of two groups, where numbers stand in so many places and texts behind them: as many facts, the same numbers, as many
 -- values of each, and as many different ones
-record AreAlike (numbers : ℕ) (group others : List Fact) : Type 0 where
-  as_many : length group ≡ length others
-  same : (m : ℕ) → m < numbers → values_of m group ≡ values_of m others
-  counts : (m : ℕ) → length (values_of m group) ≡ length (values_of m others)
-  distinct : (m : ℕ) (a : Answer) → IsDistinctCount (values_of m group) a → IsDistinctCount (values_of m others) a
+pub record AreAlike (numbers : ℕ) (group others : List Fact) : Type 0 where
+  pub as_many : length group ≡ length others
+  pub same : (m : ℕ) → m < numbers → values_of m group ≡ values_of m others
+  pub counts : (m : ℕ) → length (values_of m group) ≡ length (values_of m others)
+  pub distinct : (m : ℕ) (a : Answer) → IsDistinctCount (values_of m group) a → IsDistinctCount (values_of m others) a
 
 -- so an answer over one is an answer over the other
-IsAnswer-alike : (numbers : ℕ) (group others : List Fact) → AreAlike numbers group others
+pub IsAnswer-alike : (numbers : ℕ) (group others : List Fact) → AreAlike numbers group others
     → (aggregate : Agg) (a : Answer) → suits numbers aggregate ≡ true → IsAnswer group aggregate a
     → IsAnswer others aggregate a
 IsAnswer-alike numbers group others alike agg.CountAll a suit is = is ∙ ap answer.Count alike.as_many
@@ -165,6 +165,7 @@ IsAnswer-alike numbers group others alike (agg.VarSamp m) a suit is =
     subst (λ values. IsVarianceAnswer true values a) (alike.same m (ltb-true m numbers suit)) is
 IsAnswer-alike numbers group others alike (agg.Values m) a suit is =
     subst (λ values. AreValues values a) (alike.same m (ltb-true m numbers suit)) is
+IsAnswer-alike numbers group others alike (agg.Texts m) a suit is = absurd (false≢true suit)
 
 AreAnswers-alike : (numbers : ℕ) (group others : List Fact) → AreAlike numbers group others → (aggregates : List Agg)
     (answers : List Answer) → list_all (suits numbers) aggregates ≡ true → AreAnswers group aggregates answers
@@ -240,7 +241,7 @@ counted-alike number other texts measures group facts within all apart others = 
     by_texts numbers m above = values_of-text numbers texts measures m group of_group above
 
 -- the groups of a key by two numberings that tell the texts apart
-groups-alike : (number other : List ℕ → ℤ) (texts measures : ℕ) (facts : List Fact) (key : Key)
+pub groups-alike : (number other : List ℕ → ℤ) (texts measures : ℕ) (facts : List Fact) (key : Key)
     → ((fact : Fact) → Contains facts fact → length fact.measures ≡ measures)
     → TellsApart number (texts_counted (suc texts) facts) → TellsApart other (texts_counted (suc texts) facts)
     → AreAlike measures (group_of key (map (counted_by number (suc texts)) facts))

@@ -20,7 +20,7 @@ use Rattle.cube_core.specs.TextPlaces.{AreTextPlaces, at_places, beside_places}
 use Rattle.cube_core.specs.TextsDocument.{columns_with_texts, counted_of_measures, text_column}
 use Rattle.cube_core.specs.declared.aggregate.Agg.{Agg}
 use Rattle.cube_core.specs.declared.aggregate.Agg.TheVariants.{CountAll, Count, Sum, Min, Max, Avg, CountDistinct}
-use Rattle.cube_core.specs.declared.aggregate.Agg.TheVariants.{PercentileDisc, SumOfSquares, VarPop, VarSamp, Values}
+use Rattle.cube_core.specs.declared.aggregate.Agg.TheVariants.{PercentileDisc, SumOfSquares, VarPop, VarSamp, Values, Texts}
 use Rattle.cube_core.specs.declared.feed_columns.FeedColumns.{FeedColumns}
 use Rattle.cube_core.proofs.TextPlaceLaws.{at_places-length, at_places-none, beside_places-length, beside_places-none}
 use Rattle.cube_core.proofs.TextPlaceLaws.{parted-IsPermutation}
@@ -107,6 +107,7 @@ is_aggregate_of-suits numbers (SumOfSquares m) is = is
 is_aggregate_of-suits numbers (VarPop m) is = is
 is_aggregate_of-suits numbers (VarSamp m) is = is
 is_aggregate_of-suits numbers (Values m) is = is
+is_aggregate_of-suits numbers (Texts m) is = is
 
 pub are_aggregates_of-suit : (numbers : ℕ) (aggregates : List Agg)
     → list_all (is_aggregate_of numbers) aggregates ≡ true → list_all (suits numbers) aggregates ≡ true

@@ -1,12 +1,14 @@
 -- The answers of the aggregates over a group of facts (SQL:1999, aggregate functions:
 -- COUNT of no value is 0, the others of no value are null).
 use Rattle.std.specs.Prelude.{◌≡◌, ◌↔◌, ◌<◌, ◌≤◌, ◌≤ℤ◌, ◌+◌, ◌-◌, ◌*◌, ◌/◌, ◌^◌, ℕ, ℤ, max, List, [], ◌∷◌, length}
-use Rattle.std.specs.Prelude.{Contains, Bool, true, false, replicate}
+use Rattle.std.specs.Prelude.{pos, Contains, Bool, true, false, replicate}
 use Rattle.std.specs.List.{AllByRecursion, AllZip, count_by, flat_map}
 use Rattle.std.specs.List.Sorted.{IsStrictlySortedBy}
-use Rattle.std.specs.Ordering.{int_cmp, int_eq, is_lt, is_le}
+use Rattle.std.specs.Cmp.Lexicographic.{slice_cmp}
+use Rattle.std.specs.Ordering.{int_cmp, int_eq, is_lt, is_le, nat_cmp}
 use Rattle.cube_core.specs.Fraction.{IsInLowestTerms}
 use Rattle.cube_core.specs.Group.{values_of, total_of}
+use Rattle.cube_core.specs.TextPlaces.{text_number}
 use Rattle.cube_core.specs.Variance.{IsVariance, freedom_of, squares_of}
 use Rattle.cube_core.specs.declared.aggregate.Agg.{Agg}
 use Rattle.cube_core.specs.declared.aggregate.Agg.TheVariants as agg
@@ -84,6 +86,7 @@ IsVarianceAnswer is_sample values (answer.Whole z) = ⊥
 IsVarianceAnswer is_sample values (answer.Ratio p q) = ⊥
 IsVarianceAnswer is_sample values (answer.Squares n) = ⊥
 IsVarianceAnswer is_sample values (answer.Values held) = ⊥
+IsVarianceAnswer is_sample values (answer.Texts held) = ⊥
 
 -- how often a number stands among values
 abbrev pub times_among : List ℤ → ℤ → ℕ
@@ -103,6 +106,20 @@ pub record AreHeld (values : List ℤ) (held : List (ℤ × ℕ)) : Type 0 where
 abbrev pub AreValues : List ℤ → Answer → Type 0
 AreValues values a = (held : List (ℤ × ℕ)) × (a ≡ answer.Values held) × AreHeld values held
 
+-- the numbers that stand for texts which are held so often, each as many times
+abbrev pub numbers_held : List (List ℕ × ℕ) → List ℤ
+numbers_held held = flat_map (λ pair. replicate pair.1 (pos (text_number pair.0))) held
+
+-- each different text in the order of bytes, with how often its number stands among the values: once at least
+pub record AreTextsHeld (values : List ℤ) (held : List (List ℕ × ℕ)) : Type 0 where
+  pub ascending : IsStrictlySortedBy (λ pair other. slice_cmp nat_cmp pair.0 other.0) held
+  pub some : AllByRecursion (λ pair. 0 < pair.1) held
+  pub same : (x : ℤ) → times_among (numbers_held held) x ≡ times_among values x
+
+-- the texts themselves that the values stand for, none where there is none (this project's choice)
+abbrev pub AreTexts : List ℤ → Answer → Type 0
+AreTexts values a = (held : List (List ℕ × ℕ)) × (a ≡ answer.Texts held) × AreTextsHeld values held
+
 -- the answer of an aggregate over a group of facts
 abbrev pub IsAnswer : List Fact → Agg → Answer → Type 0
 IsAnswer group agg.CountAll a = a ≡ answer.Count (length group)
@@ -117,6 +134,7 @@ IsAnswer group (agg.SumOfSquares m) a = IsSumOfSquares (values_of m group) a
 IsAnswer group (agg.VarPop m) a = IsVarianceAnswer false (values_of m group) a
 IsAnswer group (agg.VarSamp m) a = IsVarianceAnswer true (values_of m group) a
 IsAnswer group (agg.Values m) a = AreValues (values_of m group) a
+IsAnswer group (agg.Texts m) a = AreTexts (values_of m group) a
 
 -- the answers of a list of aggregates over a group of facts, in the order of the list
 abbrev pub AreAnswers : List Fact → List Agg → List Answer → Type 0

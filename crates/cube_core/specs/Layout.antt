@@ -12,7 +12,7 @@ use Rattle.cube_core.specs.declared.key.Key.{Key}
 use Rattle.cube_core.specs.declared.shard.Shard.{Shard}
 use Rattle.cube_core.specs.declared.aggregate.Agg.{Agg}
 use Rattle.cube_core.specs.declared.aggregate.Agg.TheVariants.{CountAll, Count, Sum, Min, Max, Avg}
-use Rattle.cube_core.specs.declared.aggregate.Agg.TheVariants.{CountDistinct, PercentileDisc, SumOfSquares, VarPop, VarSamp, Values}
+use Rattle.cube_core.specs.declared.aggregate.Agg.TheVariants.{CountDistinct, PercentileDisc, SumOfSquares, VarPop, VarSamp, Values, Texts}
 
 -- a schema: the names of the dimensions, behind which those of the texts stand that are counted, and of the measures, the
 -- aggregates, each with its spelling,
@@ -80,7 +80,7 @@ names_of s = s.dimensions ++ s.measures
 abbrev pub is_level : ℕ → ℕ → Bool
 is_level units places = nat_le places 4 && nat_le units (10 ^ places)
 
--- whether an aggregate is of one of so many measures, and a percentile of a level too
+-- whether an aggregate is of one of so many measures, and a percentile of a level too; that of all texts is none of a schema
 abbrev pub is_aggregate_of : ℕ → Agg → Bool
 is_aggregate_of measures CountAll = true
 is_aggregate_of measures (Count m) = nat_lt m measures
@@ -94,6 +94,7 @@ is_aggregate_of measures (SumOfSquares m) = nat_lt m measures
 is_aggregate_of measures (VarPop m) = nat_lt m measures
 is_aggregate_of measures (VarSamp m) = nat_lt m measures
 is_aggregate_of measures (Values m) = nat_lt m measures
+is_aggregate_of measures (Texts m) = false
 
 -- whether an aggregate may be of what it is of, where numbers stand in so many places and texts behind them: a count and a
 -- distinct count are of either, the others of numbers
@@ -110,6 +111,7 @@ suits numbers (SumOfSquares m) = nat_lt m numbers
 suits numbers (VarPop m) = nat_lt m numbers
 suits numbers (VarSamp m) = nat_lt m numbers
 suits numbers (Values m) = nat_lt m numbers
+suits numbers (Texts m) = false
 
 -- an aggregate of a measure, as a schema spells it
 abbrev pub spelled_with : List ℕ → List (List ℕ) → ℕ → List ℕ
@@ -144,6 +146,7 @@ spelling_of measures (SumOfSquares m) = spelled_with (codes "sum_of_squares") me
 spelling_of measures (VarPop m) = spelled_with (codes "var_pop") measures m
 spelling_of measures (VarSamp m) = spelled_with (codes "var_samp") measures m
 spelling_of measures (Values m) = spelled_with (codes "values") measures m
+spelling_of measures (Texts m) = spelled_with (codes "values") measures m
 
 -- whether a byte may stand between the fields of a feed: an ASCII character, neither a quote nor a line's end
 abbrev pub is_delimiter : ℕ → Bool
@@ -219,6 +222,7 @@ needs_each (SumOfSquares m) = true
 needs_each (VarPop m) = true
 needs_each (VarSamp m) = true
 needs_each (Values m) = true
+needs_each (Texts m) = true
 needs_each _ = false
 
 -- whether a cell of a schema needs each number that it counts, and not only a summary of them

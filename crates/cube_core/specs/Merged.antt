@@ -1,12 +1,12 @@
 -- The merged rows of cubes over parts of the facts: each key of any of them once, with what its answers make together
 -- (Gray et al. 1997: COUNT, SUM, MIN and MAX are distributive, AVG is algebraic, made of SUM and COUNT, as a variance is of
 -- these and the sum of the squares; distinct counts and percentiles are holistic, made of all values).
-use Rattle.std.specs.Prelude.{◌≡◌, ◌↔◌, ◌-◌, ◌*◌, ⊤, Bool, true, false, ℕ, zero, suc, ℤ, List, [], ◌∷◌, map, filter, get_or, sum_by, slice_get, Contains}
+use Rattle.std.specs.Prelude.{◌≡◌, ◌↔◌, ◌-◌, ◌*◌, ◌==◌, ⊤, Bool, true, false, ℕ, zero, suc, ℤ, List, [], ◌∷◌, map, filter, get_or, sum_by, slice_get, Contains}
 use Rattle.std.specs.Prelude.{Option, Some, None}
 use Rattle.std.specs.List.{AllByRecursion, AllZip, filter_map, flat_map}
 use Rattle.std.specs.List.Sorted.{IsStrictlySortedBy}
 use Rattle.std.specs.Ordering.{is_eq}
-use Rattle.cube_core.specs.Answer.{IsSum, IsLeast, IsGreatest, IsDistinctCount, IsPercentile, AreValues, values_held}
+use Rattle.cube_core.specs.Answer.{IsSum, IsLeast, IsGreatest, IsDistinctCount, IsPercentile, AreValues, AreTexts, values_held, numbers_held}
 use Rattle.cube_core.specs.Cube.{key_of}
 use Rattle.cube_core.specs.Fraction.{IsInLowestTerms}
 use Rattle.cube_core.specs.Group.{total_of}
@@ -15,7 +15,7 @@ use Rattle.cube_core.specs.Wide.{IsReduced}
 use Rattle.cube_core.specs.Order.{key_cmp}
 use Rattle.cube_core.specs.declared.aggregate.Agg.{Agg}
 use Rattle.cube_core.specs.declared.aggregate.Agg.TheVariants.{CountAll, Count, Sum, Min, Max, Avg}
-use Rattle.cube_core.specs.declared.aggregate.Agg.TheVariants.{CountDistinct, PercentileDisc, SumOfSquares, VarPop, VarSamp, Values}
+use Rattle.cube_core.specs.declared.aggregate.Agg.TheVariants.{CountDistinct, PercentileDisc, SumOfSquares, VarPop, VarSamp, Values, Texts}
 use Rattle.cube_core.specs.declared.aggregate.Answer.{Answer}
 use Rattle.cube_core.specs.declared.aggregate.Answer.TheVariants as answer
 use Rattle.cube_core.specs.declared.key.Key.{Key}
@@ -30,6 +30,7 @@ count_answered (answer.Ratio p q) = 0
 count_answered (answer.Squares n) = 0
 count_answered (answer.Variance p q) = 0
 count_answered (answer.Values held) = 0
+count_answered (answer.Texts held) = 0
 
 -- the number that an answer is, if it is one
 abbrev pub number_in : Answer → Option ℤ
@@ -40,6 +41,7 @@ number_in (answer.Ratio p q) = None
 number_in (answer.Squares n) = None
 number_in (answer.Variance p q) = None
 number_in (answer.Values held) = None
+number_in (answer.Texts held) = None
 
 -- the sum of squares that an answer is, if it is one
 abbrev pub squares_in : Answer → Option ℕ
@@ -50,10 +52,12 @@ squares_in (answer.Whole z) = None
 squares_in (answer.Ratio p q) = None
 squares_in (answer.Variance p q) = None
 squares_in (answer.Values held) = None
+squares_in (answer.Texts held) = None
 
--- the values that an answer holds, each as often as it says; none of any other
+-- the values that an answer holds, each as often as it says, and of texts the numbers that stand for them; none of any other
 abbrev pub values_answered : Answer → List ℤ
 values_answered (answer.Values held) = values_held held
+values_answered (answer.Texts held) = numbers_held held
 values_answered answer.Null = []
 values_answered (answer.Count n) = []
 values_answered (answer.Whole z) = []
@@ -101,6 +105,7 @@ MakesAnswer (SumOfSquares m) parts a = IsSumOfAll (squares_among parts) a
 MakesAnswer (VarPop m) parts a = ⊤
 MakesAnswer (VarSamp m) parts a = ⊤
 MakesAnswer (Values m) parts a = AreValues (values_among parts) a
+MakesAnswer (Texts m) parts a = AreTexts (values_among parts) a
 
 -- the mean of so many values with this sum, as a fraction in lowest terms, null where there is none
 abbrev pub IsMeanOf : ℤ → ℕ → Answer → Type 0
@@ -117,6 +122,7 @@ IsVarianceOf is_sample count total squares (answer.Whole z) = ⊥
 IsVarianceOf is_sample count total squares (answer.Ratio p q) = ⊥
 IsVarianceOf is_sample count total squares (answer.Squares n) = ⊥
 IsVarianceOf is_sample count total squares (answer.Values held) = ⊥
+IsVarianceOf is_sample count total squares (answer.Texts held) = ⊥
 
 -- the answers of rows at a place
 abbrev pub column : ℕ → List Row → List Answer
@@ -140,10 +146,17 @@ IsMadeVariance is_sample given rows m a =
     × IsVarianceOf is_sample (sum_of_counts (column counts rows)) (total_of (numbers_of (column sums rows)))
     (sum_of_squares (column squares rows)) a
 
+-- whether an aggregate is that of all values of a measure, numbers or texts
+abbrev pub is_all_of : ℕ → Agg → Bool
+is_all_of m (Values n) = m == n
+is_all_of m (Texts n) = m == n
+is_all_of m _ = false
+
 -- the distinct count that the rows' values of a measure make
 abbrev pub IsMadeDistinct : List Agg → List Row → ℕ → Answer → Type 0
 IsMadeDistinct given rows m a =
-    (values : ℕ) × (slice_get given values ≡ Some (Values m)) × IsDistinctCount (values_among (column values rows)) a
+    (values : ℕ) × (agg : Agg) × (slice_get given values ≡ Some agg) × (is_all_of m agg ≡ true)
+    × IsDistinctCount (values_among (column values rows)) a
 
 -- the percentile that they make
 abbrev pub IsMadePercentile : ℕ → ℕ → List Agg → List Row → ℕ → Answer → Type 0

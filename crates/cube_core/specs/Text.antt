@@ -5,13 +5,13 @@ use Rattle.std.specs.Prelude.{length, get_or, map, take, drop, replicate, codes,
 use Rattle.std.specs.Prelude.{if◌then◌else◌}
 use Rattle.std.specs.Fmt.{signed_decimal}
 use Rattle.std.specs.List.{flat_map, range_with_len}
-use Rattle.csv.specs.Writing.{row_text, default_writer}
+use Rattle.csv.specs.Writing.{row_text, default_writer, escaped}
 use Rattle.cube_core.specs.Layout.{Layout, cube_dimensions, decimals_of}
 use Rattle.cube_core.specs.Takes.{null_text}
 use Rattle.cube_core.specs.Wide.{long_decimal}
 use Rattle.cube_core.specs.declared.aggregate.Agg.{Agg}
 use Rattle.cube_core.specs.declared.aggregate.Agg.TheVariants.{CountAll, Count, Sum, Min, Max, Avg}
-use Rattle.cube_core.specs.declared.aggregate.Agg.TheVariants.{CountDistinct, PercentileDisc, SumOfSquares, VarPop, VarSamp, Values}
+use Rattle.cube_core.specs.declared.aggregate.Agg.TheVariants.{CountDistinct, PercentileDisc, SumOfSquares, VarPop, VarSamp, Values, Texts}
 use Rattle.cube_core.specs.declared.aggregate.Answer.{Answer}
 use Rattle.cube_core.specs.declared.aggregate.Answer.TheVariants as answer
 use Rattle.cube_core.specs.declared.change.Refusal.{Refusal}
@@ -62,6 +62,7 @@ digits_of s (SumOfSquares m) = digits_of_measure s m
 digits_of s (VarPop m) = digits_of_measure s m
 digits_of s (VarSamp m) = digits_of_measure s m
 digits_of s (Values m) = digits_of_measure s m
+digits_of s (Texts m) = 0
 
 -- digits with zeros before them, so that there are at least so many
 abbrev pub padded : ℕ → List ℕ → List ℕ
@@ -106,13 +107,29 @@ long_fraction_text k p q = let common = common_with_ten k p in
 abbrev pub held_text : ℕ → ℤ × ℕ → List ℕ
 held_text k held = signed_units_text k held.0 ++ codes "*" ++ decimal held.1
 
--- values with how often each is held, a space between two
-abbrev pub values_text : ℕ → List (ℤ × ℕ) → List ℕ
-values_text k [] = []
-values_text k (held ∷ others) = held_text k held ++ flat_map (λ other. codes " " ++ held_text k other) others
+-- the texts of some elements, a space between two
+abbrev pub spaced : {A : Type 0} → (A → List ℕ) → List A → List ℕ
+spaced text [] = []
+spaced text (x ∷ others) = text x ++ flat_map (λ other. codes " " ++ text other) others
 
--- what a row shows of an answer in units of 10^-k: the null text, a number, a fraction, or values; squares and variances are
--- in units of 10^-2k
+-- values with how often each is held
+abbrev pub values_text : ℕ → List (ℤ × ℕ) → List ℕ
+values_text k held = spaced (held_text k) held
+
+-- a text in quotes, each quote in it doubled
+abbrev pub quoted_text : List ℕ → List ℕ
+quoted_text text = 34 ∷ escaped default_writer text ++ 34 ∷ []
+
+-- a text in quotes and how often it is held, a star between
+abbrev pub held_quoted : List ℕ × ℕ → List ℕ
+held_quoted held = quoted_text held.0 ++ codes "*" ++ decimal held.1
+
+-- texts with how often each is held
+abbrev pub texts_text : List (List ℕ × ℕ) → List ℕ
+texts_text held = spaced held_quoted held
+
+-- what a row shows of an answer in units of 10^-k: the null text, a number, a fraction, values, or texts; squares and
+-- variances are in units of 10^-2k
 abbrev pub answer_text : ℕ → Answer → List ℕ
 answer_text k answer.Null = null_text
 answer_text k (answer.Count n) = decimal n
@@ -121,6 +138,7 @@ answer_text k (answer.Ratio p q) = fraction_text k p q
 answer_text k (answer.Squares n) = long_units_text (2 * k) n
 answer_text k (answer.Variance p q) = long_fraction_text (2 * k) p q
 answer_text k (answer.Values held) = values_text k held
+answer_text k (answer.Texts held) = texts_text held
 
 -- how many digits stand behind the point of the numbers that each of a schema's aggregates is of
 abbrev pub digits_of_answers : Layout → List ℕ

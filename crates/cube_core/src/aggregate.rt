@@ -2,6 +2,7 @@
 
 use crate::sequence::Sequence;
 use crate::squares::Squares;
+use crate::text::Text;
 use crate::wide::Wide;
 
 /// An aggregate of a group of facts. The numbers are those of measures, from 0.
@@ -37,6 +38,9 @@ pub enum Agg {
     VarSamp(usize),
     /// `values(m)`: each different value of the measure, with how often it is held.
     Values(usize),
+    /// `values(m)` of a text that is counted: each different text, with how often it is held. Only the partial form of a
+    /// schema has it.
+    Texts(usize),
 }
 
 /// What an aggregate says of a group of facts.
@@ -57,4 +61,6 @@ pub enum Answer {
     Variance { p: Wide, q: u128 },
     /// Values: each different one, in ascending order, and how often it is held.
     Values(Sequence<(i64, u64)>),
+    /// Texts: each different one, in the order of bytes, and how often it is held.
+    Texts(Sequence<(Text, u64)>),
 }

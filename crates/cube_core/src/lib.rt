@@ -40,6 +40,7 @@ pub use fraction::reduced;
 pub use hash_key::HashKey;
 pub use key::{Coord, CoordRef, Key, Row, covers};
 pub use partial::{Field, Partial};
+pub use partial_form::Form;
 pub use pattern::{Pattern, only_record};
 pub use query::QueryFault;
 pub use schema::Schema;

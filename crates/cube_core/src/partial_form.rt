@@ -1,76 +1,174 @@
-//! The partial form of a schema, under which cubes can be merged.
-ghost use Rattle.std.specs.Prelude.{◌≡◌, ◌++◌, codes, IfOk, OnOk, get_or, [], map};
+//! How a cube is printed: under the own form of its schema, or the partial one, under which cubes can be merged.
+ghost use Rattle.std.specs.Prelude.{◌≡◌, ◌≤◌, ◌++◌, codes, IfOk, OnOk, get_or, [], length, map};
+ghost use Rattle.std.specs.List.{fold};
 ghost use Rattle.std.specs.String.{string_bytes};
-ghost use Rattle.cube_core.specs.Layout.{spelling_of, spelled_with, last_digit, level_text, percentile_opening};
-ghost use Rattle.cube_core.specs.PartialForm.{AnswersPartial, has_aggregate, partial_aggregates, with_aggregate, with_mean_parts, with_parts, with_variance_parts};
+ghost use Rattle.cube_core.specs.Layout.{counted_names, cube_dimensions, number_of_dimensions, spelling_of, spelled_with, last_digit, level_text, percentile_opening};
+ghost use Rattle.cube_core.specs.PartialForm.{AnswersPartial, AreOfForm, IsForm, IsFormOf, all_of, has_aggregate, is_aggregate, with_aggregate, with_mean_parts, with_parts, with_variance_parts};
+ghost use Rattle.cube_core.specs.Text.{digits_of};
 
 use crate::aggregate::Agg;
-use crate::feed_columns::copy_columns;
 use crate::schema::Schema;
 use crate::schema_fault::SchemaFault;
 use crate::text::{Text, copy_texts};
 use std::alloc::{AllocError, Global};
+use std::marker::Model;
 
 // The most aggregates of a schema: 16 of its document, and 4 for each measure.
 const MOST_AGGREGATES: usize = 32;
 
+/// How a cube of a schema is printed: with the schema's own aggregates, or with those of its partial form.
+///
+/// Contracts see it as the schema with these aggregates in place of its own.
+#[derive(Drop)]
+pub struct Form<'s> {
+    schema: &'s Schema,
+    aggregates: Vec<Agg>,
+    aggregate_texts: Vec<Text>,
+}
+
+impl<'s> Model for Form<'s> {
+    ghost use Rattle.cube_core.specs.Layout.{Layout};
+    ghost use Rattle.cube_core.specs.PartialForm.{IsFormOf};
+
+    ghost Value = { Layout };
+
+    ghost view = { λ f. record f.schema.now {
+      aggregates = f.aggregates.items;
+      aggregate_texts = f.aggregate_texts.items;
+    } };
+
+    ghost invariant = { λ f. IsFormOf f.schema.now (record f.schema.now {
+      aggregates = f.aggregates.items;
+      aggregate_texts = f.aggregate_texts.items;
+    }) };
+}
+
 impl Schema {
-    /// The partial form: the same schema with more aggregates, after its own for each `avg(m)` in their order `sum(m)`
-    /// and `count(m)`, for each variance of m these and `sum_of_squares(m)`, and for each distinct count and each percentile
+    /// The form with the schema's own aggregates. The only error is that memory ran out.
+    pub fn form(&self, alloc: Global) -> Result<Form<'_>, AllocError>
+        ensures { IfOk result (λ form. form ≡ self.now) }
+    {
+        Ok(Form {
+            schema: self,
+            aggregates: Vec::from_slice(alloc, &self.aggregates)?,
+            aggregate_texts: copy_texts(alloc, &self.aggregate_texts)?,
+        })
+    }
+
+    /// The partial form: it has more aggregates, after the schema's own for each `avg(m)` in their order `sum(m)` and
+    /// `count(m)`, for each variance of m these and `sum_of_squares(m)`, and for each distinct count and each percentile
     /// of m `values(m)`, where they aren't there yet. All of these can be made again from the sums, the counts, the sums of
-    /// squares and the values of several cubes. The partial form of a partial form is itself.
+    /// squares and the values of several cubes.
     ///
-    /// The error is that memory ran out, `Texts` where there are texts that are counted, or `Aggregates` where there
-    /// would be more than 32, which never happens to the schema of a document nor to its partial form.
-    pub fn partial(&self, alloc: Global) -> Result<Schema, SchemaFault>
+    /// The error is that memory ran out, or `Aggregates` where there would be more than 32, which never happens to the
+    /// schema of a document.
+    pub fn partial_form(&self, alloc: Global) -> Result<Form<'_>, SchemaFault>
         ensures { AnswersPartial self.now result }
     {
-        if !self.text_places.is_empty() {
-            return Err(SchemaFault::Texts);
-        }
-        let aggregates = partial_aggregates(alloc, &self.aggregates)?;
+        let aggregates = partial_aggregates(alloc, self.measures.len(), &self.aggregates)?;
         if aggregates.len() > MOST_AGGREGATES {
             return Err(SchemaFault::Aggregates);
         }
-        Ok(Schema {
-            dimensions: copy_texts(alloc, &self.dimensions)?,
-            measures: copy_texts(alloc, &self.measures)?,
-            aggregate_texts: spellings_of(alloc, &self.measures, &aggregates)?,
+        let names = self.counted_names(alloc)?;
+        Ok(Form {
+            schema: self,
+            aggregate_texts: spellings_of(alloc, &names, &aggregates)?,
             aggregates,
-            max_records: self.max_records,
-            grouping_sets: Vec::from_slice(alloc, &self.grouping_sets)?,
-            version: self.version,
-            shard: self.shard,
-            max_record_bytes: self.max_record_bytes,
-            columns: copy_columns(alloc, &self.columns)?,
-            decimals: Vec::from_slice(alloc, &self.decimals)?,
-            text_places: Vec::new(alloc),
-            hash_key: self.hash_key,
         })
     }
 }
 
+impl<'s> Form<'s> {
+    /// The schema.
+    pub fn schema(&self) -> &Schema
+        ensures { IsFormOf result.now self.now }
+    {
+        self.schema
+    }
+
+    /// The aggregates, in order, 1 to 32.
+    pub fn aggregates(&self) -> &[Agg]
+        ensures value { result.now ≡ self.now.aggregates }
+        ensures form { IsForm self.now }
+    {
+        &self.aggregates
+    }
+
+    /// The spellings of the aggregates, in their order.
+    pub fn aggregate_texts(&self) -> &[Text]
+        ensures { result.now ≡ self.now.aggregate_texts }
+    {
+        &self.aggregate_texts
+    }
+
+    /// How many dimensions the cube has, 1 to 8.
+    pub fn number_of_dimensions(&self) -> usize
+        ensures { result ≡ number_of_dimensions self.now }
+    {
+        self.schema.number_of_dimensions()
+    }
+
+    /// The names of the dimensions of the cube, 1 to 8.
+    pub fn cube_dimensions(&self) -> &[Text]
+        ensures value { result.now ≡ cube_dimensions self.now }
+        ensures some { 1 ≤ length result.now }
+    {
+        self.schema.cube_dimensions()
+    }
+
+    /// The masks of the grouping sets, in ascending order.
+    pub fn grouping_sets(&self) -> &[u8]
+        ensures { result.now ≡ self.now.grouping_sets }
+    {
+        self.schema.grouping_sets()
+    }
+
+    /// How many digits stand behind the point of the numbers that an aggregate is of, 0 to 18: as many as its measure may
+    /// have. A count has none, and a sum of squares shows twice as many.
+    pub fn digits_of(&self, aggregate: &Agg) -> u8
+        ensures value { result ≡ digits_of self.now aggregate.now }
+        ensures few { result ≤ 18 }
+    {
+        self.schema.digits_of(aggregate)
+    }
+}
+
 // The aggregates, and then what each mean, each variance, each distinct count and each percentile among them is made of.
-fn partial_aggregates(alloc: Global, aggregates: &[Agg]) -> Result<Vec<Agg>, AllocError>
-    ensures { IfOk result (λ all. all.items ≡ partial_aggregates aggregates.now) }
+// So many numbers stand before the texts.
+fn partial_aggregates(
+    alloc: Global,
+    numbers: usize,
+    aggregates: &[Agg],
+) -> Result<Vec<Agg>, AllocError>
+    ensures { IfOk result (λ all. all.items ≡ fold (with_parts numbers) aggregates.now aggregates.now) }
 {
     let mut all = Vec::from_slice(alloc, aggregates)?;
     for aggregate in aggregates {
-        add_parts(&mut all, aggregate)?;
+        add_parts(numbers, &mut all, aggregate)?;
     }
     Ok(all)
 }
 
-fn add_parts(aggregates: &mut Vec<Agg>, aggregate: &Agg) -> Result<(), AllocError>
-    ensures { OnOk result (aggregates.new.items ≡ with_parts aggregates.old.items aggregate.now) }
+fn add_parts(numbers: usize, aggregates: &mut Vec<Agg>, aggregate: &Agg) -> Result<(), AllocError>
+    ensures { OnOk result (aggregates.new.items ≡ with_parts numbers aggregates.old.items aggregate.now) }
 {
     match aggregate {
         Agg::Avg(measure) => add_mean_parts(aggregates, *measure),
         Agg::VarPop(measure) | Agg::VarSamp(measure) => add_variance_parts(aggregates, *measure),
-        Agg::CountDistinct(measure) | Agg::PercentileDisc { measure, .. } => {
-            add_missing(aggregates, Agg::Values(*measure))
-        }
+        Agg::CountDistinct(measure) => add_missing(aggregates, all_of(numbers, *measure)),
+        Agg::PercentileDisc { measure, .. } => add_missing(aggregates, Agg::Values(*measure)),
         _ => Ok(()),
+    }
+}
+
+// The aggregate of all values of what aggregates are of, where so many numbers stand first and texts behind them.
+fn all_of(numbers: usize, measure: usize) -> Agg
+    ensures { result ≡ all_of numbers measure }
+{
+    if measure < numbers {
+        Agg::Values(measure)
+    } else {
+        Agg::Texts(measure)
     }
 }
 
@@ -100,7 +198,15 @@ fn add_missing(aggregates: &mut Vec<Agg>, aggregate: Agg) -> Result<(), AllocErr
 fn has_aggregate(aggregate: &Agg, aggregates: &[Agg]) -> bool
     ensures { result ≡ has_aggregate aggregate.now aggregates.now }
 {
-    aggregates.iter().any(|other| aggregate == other)
+    aggregates
+        .iter()
+        .any(|other| is_aggregate(aggregate, other))
+}
+
+fn is_aggregate(one: &Agg, other: &Agg) -> bool
+    ensures { result ≡ is_aggregate one.now other.now }
+{
+    one == other
 }
 
 // How a schema spells these aggregates.
@@ -143,7 +249,9 @@ fn spelling_of(alloc: Global, measures: &[Text], aggregate: &Agg) -> Result<Text
         Agg::SumOfSquares(measure) => spelled_with(alloc, "sum_of_squares", measures, *measure),
         Agg::VarPop(measure) => spelled_with(alloc, "var_pop", measures, *measure),
         Agg::VarSamp(measure) => spelled_with(alloc, "var_samp", measures, *measure),
-        Agg::Values(measure) => spelled_with(alloc, "values", measures, *measure),
+        Agg::Values(measure) | Agg::Texts(measure) => {
+            spelled_with(alloc, "values", measures, *measure)
+        }
     }
 }
 

@@ -292,7 +292,7 @@ impl Schema {
         ensures few { result ≤ 18 }
     {
         match aggregate {
-            Agg::CountAll | Agg::Count(_) | Agg::CountDistinct(_) => 0,
+            Agg::CountAll | Agg::Count(_) | Agg::CountDistinct(_) | Agg::Texts(_) => 0,
             Agg::Sum(measure)
             | Agg::Min(measure)
             | Agg::Max(measure)
@@ -349,8 +349,8 @@ impl Schema {
         })
     }
 
-    // What aggregates are of: the measures, and then the texts that are counted.
-    fn counted_names(&self, alloc: Global) -> Result<Vec<Text>, AllocError>
+    /// What aggregates are of: the measures, and then the texts that are counted. The only error is that memory ran out.
+    pub(crate) fn counted_names(&self, alloc: Global) -> Result<Vec<Text>, AllocError>
         ensures { IfOk result (λ names. names.items ≡ counted_names self.now) }
     {
         let mut names = copy_texts(alloc, &self.measures)?;
@@ -477,7 +477,8 @@ fn needs_each(aggregate: &Agg) -> bool
         | Agg::SumOfSquares(_)
         | Agg::VarPop(_)
         | Agg::VarSamp(_)
-        | Agg::Values(_) => true,
+        | Agg::Values(_)
+        | Agg::Texts(_) => true,
         Agg::CountAll | Agg::Count(_) | Agg::Sum(_) | Agg::Min(_) | Agg::Max(_) | Agg::Avg(_) =>
             false,
     }

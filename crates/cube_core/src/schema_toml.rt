@@ -379,6 +379,7 @@ fn suits(numbers: usize, aggregate: &Agg) -> bool
         | Agg::VarPop(measure)
         | Agg::VarSamp(measure)
         | Agg::Values(measure) => *measure < numbers,
+        Agg::Texts(_) => false,
     }
 }
 

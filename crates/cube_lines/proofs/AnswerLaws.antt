@@ -1,7 +1,8 @@
 -- The comparison that answers derive tells whether they are the same.
-use Rattle.std.proofs.Common.{◌≡◌, ◌&&◌, ◌/◌, ◌%◌, ◌^◌, ℕ, ℤ, arith, false, true, refl, ap, ap₂, sym, rules}
+use Rattle.std.proofs.Common.{◌≡◌, ◌&&◌, ◌/◌, ◌%◌, ◌^◌, ℕ, ℤ, List, arith, false, true, refl, ap, ap₂, sym, rules}
 use Rattle.std.specs.Prelude.{nat_eq}
 use Rattle.std.specs.Bool.{Decides}
+use Rattle.std.specs.Cmp.Lexicographic.{pointwise}
 use Rattle.std.specs.Ordering.{int_eq}
 use Rattle.std.proofs.lemmas.Bool.{and_from, and_parts}
 use Rattle.std.proofs.lemmas.Bool.Decides.{Decides-eqb, Decides-int_eq}
@@ -20,6 +21,20 @@ pair-Decides (x, n) (y, k) = (
       ((Decides-int_eq x y).1 (ap (λ (pair : ℤ × ℕ). pair.0) same))
       ((Decides-eqb n k).1 (ap (λ (pair : ℤ × ℕ). pair.1) same)),
 )
+
+-- pairs of a text and a count
+pub text_pair-Decides : (a b : List ℕ × ℕ) → Decides (pointwise nat_eq a.0 b.0 && nat_eq a.1 b.1) (a ≡ b)
+text_pair-Decides (x, n) (y, k) = (
+  λ on.
+      let parts = and_parts (pointwise nat_eq x y) (nat_eq n k) on in
+      ap₂ (λ (t : List ℕ) (m : ℕ). (t, m)) ((text-Decides x y).0 parts.0) ((Decides-eqb n k).0 parts.1),
+  λ same. and_from (pointwise nat_eq x y) (nat_eq n k)
+      ((text-Decides x y).1 (ap (λ (pair : List ℕ × ℕ). pair.0) same))
+      ((Decides-eqb n k).1 (ap (λ (pair : List ℕ × ℕ). pair.1) same)),
+)
+  where
+    text-Decides : (xs ys : List ℕ) → Decides (pointwise nat_eq xs ys) (xs ≡ ys)
+    text-Decides xs ys = slice_eq-Decides Decides-eqb xs ys (pointwise nat_eq xs ys) refl
 
 -- answers that compare equal are the same
 pub Answer-eq : (a b : Answer) → (AnswerPartialEq.eq-value).it a b ≡ true → a ≡ b
@@ -46,3 +61,6 @@ Answer-eq (answer.Variance p q) (answer.Variance r s) h =
 Answer-eq (answer.Variance p q) b h = let clash : false ≡ true = h in absurd (cc)
 Answer-eq (answer.Values xs) (answer.Values ys) h = ap answer.Values ((slice_eq-Decides pair-Decides xs ys true (sym h)).0 refl)
 Answer-eq (answer.Values xs) b h = let clash : false ≡ true = h in absurd (cc)
+Answer-eq (answer.Texts xs) (answer.Texts ys) h =
+    ap answer.Texts ((slice_eq-Decides text_pair-Decides xs ys true (sym h)).0 refl)
+Answer-eq (answer.Texts xs) b h = let clash : false ≡ true = h in absurd (cc)

@@ -7,4 +7,6 @@ pub mod PieceLaws
 pub mod ScaleLaws
 pub mod TextLaws
 pub mod UnitTextLaws
+pub mod SpacedLaws
+pub mod TextsLaws
 mod ValuesLaws

@@ -14,6 +14,8 @@ mod long_units;
 mod parse;
 mod scale;
 mod text;
+mod texts_parse;
+mod texts_text;
 mod units;
 mod values_parse;
 mod values_text;
@@ -21,4 +23,5 @@ mod write;
 
 pub use parse::{empty_row, parse_row};
 pub use text::{end_line, push_answer, push_answers, push_field, push_header, push_line};
+pub use texts_text::push_held_text;
 pub use write::{WriteFault, send_pieces, write_whole};

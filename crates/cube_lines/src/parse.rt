@@ -12,8 +12,9 @@ ghost use Rattle.cube_lines.specs.Parts.{EndsLine, key_parts, part, parts};
 use crate::long_parse::{squares_answer, variance_answer};
 use crate::scale::unscaled;
 use crate::text::{needs_byte, needs_quotes};
+use crate::texts_parse::texts_answer;
 use crate::values_parse::values_answer;
-use cube_core::{Agg, Answer, Coord, Key, Row, Schema, Sequence, Text};
+use cube_core::{Agg, Answer, Coord, Form, Key, Row, Sequence, Text};
 use std::alloc::{AllocError, Global};
 
 /// A row of no coordinate and no answer; it takes no memory.
@@ -30,28 +31,28 @@ pub fn empty_row(alloc: Global) -> Row {
 /// line show its key; None where it is that of no row. The only error is that memory ran out.
 pub fn parse_row(
     alloc: Global,
-    schema: &Schema,
+    form: &Form<'_>,
     text: &[u8],
     spare: Row,
 ) -> Result<Option<(Row, usize)>, AllocError>
     ensures line { IfOk result (λ found. IfSome found (λ read.
-        text.now ≡ parts (row_fields schema.now read.0))) }
+        text.now ≡ parts (row_fields form.now read.0))) }
     ensures ended { IfOk result (λ found. IfSome found (λ read.
-        1 ≤ length read.0.key.coords → EndsLine text.now (row_line schema.now read.0))) }
+        1 ≤ length read.0.key.coords → EndsLine text.now (row_line form.now read.0))) }
     ensures key { IfOk result (λ found. IfSome found (λ read.
         take read.1 text.now ≡ key_parts read.0.key)) }
 {
     let Row { key, answers } = spare;
     let mut coords = key.coords.into_vec();
     let mut answers = answers.into_vec();
-    let width = schema.number_of_dimensions();
+    let width = form.number_of_dimensions();
     let Some(flags) = parse_coords(alloc, text, width, &mut coords)? else {
         return Ok(None);
     };
     let Some(numbers) = parse_groupings(flags, coords.as_mut_slice()) else {
         return Ok(None);
     };
-    if !parse_answers(alloc, numbers, schema, &mut answers)? {
+    if !parse_answers(alloc, numbers, form, &mut answers)? {
         return Ok(None);
     }
     let row = Row {
@@ -144,9 +145,9 @@ fn parse_quoted(alloc: Global, text: &[u8]) -> Result<Option<(Coord, usize)>, Al
     }
 }
 
-// Puts what stands between quotes, the first of which is the first byte, at the end of an empty list, each two quotes as
-// one, and gives the place after the last of them.
-fn unquote(text: &[u8], field: &mut Vec<u8>) -> Result<Option<usize>, AllocError>
+/// Puts what stands between quotes, the first of which is the first byte, at the end of an empty list, each two quotes as
+/// one, and gives the place after the last of them.
+pub(crate) fn unquote(text: &[u8], field: &mut Vec<u8>) -> Result<Option<usize>, AllocError>
     requires some { 1 ≤ length text.now }
     requires empty { field.old.items ≡ [] }
     ensures inside { IfOk result (λ found. IfSome found (λ end. end ≤ length text.now)) }
@@ -226,21 +227,21 @@ fn put_flag(coord: &mut Coord, is_all: bool) -> bool
     }
 }
 
-// Puts the answers to a schema's aggregates in place of what the list holds; false where the text isn't theirs and no more.
+// Puts the answers to a form's aggregates in place of what the list holds; false where the text isn't theirs and no more.
 fn parse_answers(
     alloc: Global,
     text: &[u8],
-    schema: &Schema,
+    form: &Form<'_>,
     answers: &mut Vec<Answer>,
 ) -> Result<bool, AllocError>
     ensures { IfOk result (λ is_read. is_read ≡ true →
-        text.now ≡ parts (answer_texts (digits_of_answers schema.now) answers.new.items)) }
+        text.now ≡ parts (answer_texts (digits_of_answers form.now) answers.new.items)) }
 {
     answers.clear();
-    let aggregates = schema.aggregates();
+    let aggregates = form.aggregates();
     let mut rest = text;
     for aggregate in aggregates {
-        let digits = schema.digits_of(aggregate);
+        let digits = form.digits_of(aggregate);
         let Some((answer, after)) = parse_answer(alloc, aggregate, digits, rest)? else {
             return Ok(false);
         };
@@ -273,6 +274,7 @@ fn parse_answer<'t>(
         Agg::SumOfSquares(_) => Ok(squares_answer(digits, text)),
         Agg::VarPop(_) | Agg::VarSamp(_) => Ok(variance_answer(digits, text)),
         Agg::Values(_) => values_answer(alloc, digits, text),
+        Agg::Texts(_) => texts_answer(alloc, digits, text),
     }
 }
 

@@ -4,42 +4,43 @@
 //! again and again in the same memory, and of a printed cube most fields are known to need no quotes.
 ghost use Rattle.std.specs.Prelude.{◌≡◌, ◌≤◌, ◌*◌, ◌∷◌, [], ◌++◌, decimal, length, map, true, false, ℕ, List, OnOk};
 ghost use Rattle.csv.specs.Writing.{default_writer, escaped, needs_byte, needs_quotes};
-ghost use Rattle.cube_core.specs.Text.{answer_text, answer_texts, coord_text, digits_of_answers, fraction_text, grouping_text, header_fields, grouping_name, line, long_fraction_text, long_units_text, signed_units_text, values_text};
+ghost use Rattle.cube_core.specs.Text.{answer_text, answer_texts, coord_text, digits_of_answers, fraction_text, grouping_text, header_fields, grouping_name, line, long_fraction_text, long_units_text, signed_units_text, texts_text, values_text};
 ghost use Rattle.cube_core.specs.declared.key.Key.{Key};
 ghost use Rattle.cube_lines.specs.Parts.{AddsParts, EndsLine, key_parts};
 
 use crate::long_units::{push_long_fraction, push_long_units};
+use crate::texts_text::push_held_texts;
 use crate::units::{push_fraction, push_units};
 use crate::values_text::push_values;
-use cube_core::{Answer, Schema, Squares, Text, Wide};
+use cube_core::{Answer, Form, Squares, Text, Wide};
 use itoa::Buffer;
 use std::alloc::{AllocError, Global};
 
-/// Puts the line of a row of a schema at the end of the text, of what it shows of its key, each field with a comma, and of its
+/// Puts the line of a row of a form at the end of the text, of what it shows of its key, each field with a comma, and of its
 /// answers. The only error is that memory ran out, and then a part of the line may stand there.
 pub fn push_line(
     text: &mut Vec<u8>,
-    schema: &Schema,
+    form: &Form<'_>,
     key: &[u8],
     answers: &[Answer],
 ) -> Result<(), AllocError>
     ensures { OnOk result ((of : Key) → 1 ≤ length of.coords → key.now ≡ key_parts of →
         text.new.items ≡ text.old.items ++ line (map coord_text of.coords ++ map grouping_text of.coords
-        ++ answer_texts (digits_of_answers schema.now) answers.now)) }
+        ++ answer_texts (digits_of_answers form.now) answers.now)) }
 {
     text.extend_from_slice(key)?;
-    push_answers(text, schema, answers)?;
+    push_answers(text, form, answers)?;
     end_line(text)
 }
 
-/// Puts the header line of a schema at the end of the text. The only error is that memory ran out, and then a part of the
+/// Puts the header line of a form at the end of the text. The only error is that memory ran out, and then a part of the
 /// line may stand there.
-pub fn push_header(alloc: Global, text: &mut Vec<u8>, schema: &Schema) -> Result<(), AllocError>
-    ensures { OnOk result (text.new.items ≡ text.old.items ++ line (header_fields schema.now)) }
+pub fn push_header(alloc: Global, text: &mut Vec<u8>, form: &Form<'_>) -> Result<(), AllocError>
+    ensures { OnOk result (text.new.items ≡ text.old.items ++ line (header_fields form.now)) }
 {
-    push_texts(text, schema.cube_dimensions())?;
-    push_grouping_names(alloc, text, schema.cube_dimensions())?;
-    push_texts(text, schema.aggregate_texts())?;
+    push_texts(text, form.cube_dimensions())?;
+    push_grouping_names(alloc, text, form.cube_dimensions())?;
+    push_texts(text, form.aggregate_texts())?;
     end_line(text)
 }
 
@@ -61,20 +62,20 @@ fn push_texts(text: &mut Vec<u8>, texts: &[Text]) -> Result<(), AllocError>
     Ok(())
 }
 
-/// Puts what a row shows of answers under a schema, each with a comma. The only error is that memory ran out, and then a part
+/// Puts what a row shows of answers under a form, each with a comma. The only error is that memory ran out, and then a part
 /// of it may stand there.
 pub fn push_answers(
     text: &mut Vec<u8>,
-    schema: &Schema,
+    form: &Form<'_>,
     answers: &[Answer],
 ) -> Result<(), AllocError>
-    ensures { OnOk result (AddsParts (answer_texts (digits_of_answers schema.now) answers.now)
+    ensures { OnOk result (AddsParts (answer_texts (digits_of_answers form.now) answers.now)
         text.old.items text.new.items) }
 {
-    let aggregates = schema.aggregates();
+    let aggregates = form.aggregates();
     let mut number = Buffer::new();
     for place in 0..aggregates.len().min(answers.len()) {
-        let digits = schema.digits_of(&aggregates[place]);
+        let digits = form.digits_of(&aggregates[place]);
         push_answer(text, &mut number, digits, &answers[place])?;
     }
     Ok(())
@@ -100,6 +101,7 @@ pub fn push_answer(
         Answer::Squares(squares) => push_squares(text, number, digits, *squares),
         Answer::Variance { p, q } => push_variance(text, number, digits, *p, *q),
         Answer::Values(held) => push_held_values(text, number, digits, held.as_slice()),
+        Answer::Texts(held) => push_texts_held(text, number, held.as_slice()),
     }
 }
 
@@ -179,6 +181,24 @@ fn push_held_values(
     ensures { OnOk result (AddsParts (values_text digits held.now ∷ []) text.old.items text.new.items) }
 {
     push_values(text, number, digits, held)?;
+    text.push(b',')?;
+    Ok(())
+}
+
+fn push_texts_held(
+    text: &mut Vec<u8>,
+    number: &mut Buffer,
+    held: &[(Text, u64)],
+) -> Result<(), AllocError>
+    ensures { OnOk result (AddsParts (texts_text held.now ∷ []) text.old.items text.new.items) }
+{
+    if held.is_empty() {
+        text.push(b',')?;
+        return Ok(());
+    }
+    text.push(b'"')?;
+    push_held_texts(text, number, held)?;
+    text.push(b'"')?;
     text.push(b',')?;
     Ok(())
 }

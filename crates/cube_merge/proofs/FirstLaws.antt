@@ -25,7 +25,7 @@ use Rattle.cube_core.specs.Text.{header_fields, line, row_line}
 use Rattle.cube_core.specs.declared.aggregate.Agg.{Agg}
 use Rattle.cube_core.specs.declared.aggregate.Agg.TheVariants.{CountAll, Count, Sum, Min, Max, Avg}
 use Rattle.cube_core.specs.declared.aggregate.Agg.TheVariants.{CountDistinct, PercentileDisc, SumOfSquares}
-use Rattle.cube_core.specs.declared.aggregate.Agg.TheVariants.{VarPop, VarSamp, Values}
+use Rattle.cube_core.specs.declared.aggregate.Agg.TheVariants.{VarPop, VarSamp, Values, Texts}
 use Rattle.cube_core.specs.declared.aggregate.Answer.{Answer}
 use Rattle.cube_core.specs.declared.aggregate.Answer.TheVariants as answer
 use Rattle.cube_core.specs.declared.key.Key.{Key}
@@ -206,6 +206,7 @@ worth (answer.Ratio p q) = pos 0
 worth (answer.Squares n) = pos 0
 worth (answer.Variance p q) = pos 0
 worth (answer.Values held) = pos 0
+worth (answer.Texts held) = pos 0
 
 total-cons : (a : Answer) (answers : List Answer)
     → total_of (numbers_of (a ∷ answers)) ≡ worth a +ℤ total_of (numbers_of answers)
@@ -217,6 +218,7 @@ total-cons (answer.Ratio p q) answers = omega (arith, ints)
 total-cons (answer.Squares n) answers = omega (arith, ints)
 total-cons (answer.Variance p q) answers = omega (arith, ints)
 total-cons (answer.Values held) answers = omega (arith, ints)
+total-cons (answer.Texts held) answers = omega (arith, ints)
 
 total-Reordered : {xs ys : List Answer} → Reordered xs ys → total_of (numbers_of xs) ≡ total_of (numbers_of ys)
 total-Reordered none = refl
@@ -263,6 +265,7 @@ AreInRange-IsPermutation given rows others same fit place agg there = by_agg agg
   by_agg (VarPop m) h = tt
   by_agg (VarSamp m) h = tt
   by_agg (Values m) h = subst (λ n. n < 2 ^ 64) values h
+  by_agg (Texts m) h = subst (λ n. n < 2 ^ 64) values h
 
 -- of no row nothing is too large
 none-in_range : (agg : Agg) → IsInRange agg []
@@ -278,6 +281,7 @@ none-in_range (SumOfSquares m) = lit< tt
 none-in_range (VarPop m) = tt
 none-in_range (VarSamp m) = tt
 none-in_range (Values m) = lit< tt
+none-in_range (Texts m) = lit< tt
 
 pub AreTooLarge-some : (given : List Agg) (rows : List Row) → AreTooLarge given rows → 0 < length rows
 AreTooLarge-some given [] large = absurd (large.too_large (none-in_range large.agg))

@@ -15,7 +15,7 @@ use Rattle.cube_core.specs.Merged.{IsSumOfAll, numbers_of, squares_among, square
 use Rattle.cube_core.specs.declared.aggregate.Agg.{Agg}
 use Rattle.cube_core.specs.declared.aggregate.Agg.TheVariants.{CountAll, Count, Sum, Min, Max, Avg}
 use Rattle.cube_core.specs.declared.aggregate.Agg.TheVariants.{CountDistinct, PercentileDisc, SumOfSquares}
-use Rattle.cube_core.specs.declared.aggregate.Agg.TheVariants.{VarPop, VarSamp, Values}
+use Rattle.cube_core.specs.declared.aggregate.Agg.TheVariants.{VarPop, VarSamp, Values, Texts}
 use Rattle.cube_core.specs.declared.aggregate.Answer.{Answer}
 use Rattle.cube_core.specs.declared.aggregate.Answer.TheVariants as answer
 use Rattle.cube_core.specs.declared.key.Row.{Row}
@@ -78,6 +78,7 @@ sum_answered-number (answer.Ratio p q) number is = let clash : None ≡ Some num
 sum_answered-number (answer.Squares n) number is = let clash : None ≡ Some number = is in absurd (cc)
 sum_answered-number (answer.Variance p q) number is = let clash : None ≡ Some number = is in absurd (cc)
 sum_answered-number (answer.Values held) number is = let clash : None ≡ Some number = is in absurd (cc)
+sum_answered-number (answer.Texts held) number is = let clash : None ≡ Some number = is in absurd (cc)
 
 pub sum_answered-none : (a : Answer) → number_in a ≡ None → pos 0 ≡ sum_answered a
 sum_answered-none (answer.Whole z) is = let clash : Some z ≡ None = is in absurd (cc)
@@ -87,6 +88,7 @@ sum_answered-none (answer.Ratio p q) is = refl
 sum_answered-none (answer.Squares n) is = refl
 sum_answered-none (answer.Variance p q) is = refl
 sum_answered-none (answer.Values held) is = refl
+sum_answered-none (answer.Texts held) is = refl
 
 module _ (R : ℤ → ℤ → Type 0) where
   AllByRecursion-push : (m : ℤ) (xs : List ℤ) (x : ℤ) → AllByRecursion (R m) xs → R m x
@@ -205,6 +207,7 @@ IsMerged-Made given rows (Min m) made place are is = (place, is, are place (Min 
 IsMerged-Made given rows (Max m) made place are is = (place, is, are place (Max m) is)
 IsMerged-Made given rows (SumOfSquares m) made place are is = (place, is, are place (SumOfSquares m) is)
 IsMerged-Made given rows (Values m) made place are is = (place, is, are place (Values m) is)
+IsMerged-Made given rows (Texts m) made place are is = (place, is, are place (Texts m) is)
 
 pub IsMerged-Mean : (given : List Agg) (rows : List Row) (agg : Agg) (made : List Answer) (sums counts : ℕ) (a : Answer)
     → AreMadeOfRows given rows made → IsSourceOf given agg (source.Mean sums counts)
@@ -231,6 +234,7 @@ IsMerged-Mean given rows (SumOfSquares m) made sums counts a are is mean = absur
 IsMerged-Mean given rows (VarPop m) made sums counts a are is mean = absurd is
 IsMerged-Mean given rows (VarSamp m) made sums counts a are is mean = absurd is
 IsMerged-Mean given rows (Values m) made sums counts a are is mean = absurd is
+IsMerged-Mean given rows (Texts m) made sums counts a are is mean = absurd is
 
 -- one more source
 pub AllZip-take : {X Y : Type 0} (R : X → Y → Type 0) (xs : List X) (ys : List Y) (i : ℕ) (d : X) (y : Y)
@@ -262,6 +266,7 @@ without-count (answer.Ratio p q) = refl
 without-count (answer.Squares n) = refl
 without-count (answer.Variance p q) = refl
 without-count (answer.Values held) = refl
+without-count (answer.Texts held) = refl
 
 without-number : (a : Answer) → number_in (without_values a) ≡ number_in a
 without-number answer.Null = refl
@@ -271,6 +276,7 @@ without-number (answer.Ratio p q) = refl
 without-number (answer.Squares n) = refl
 without-number (answer.Variance p q) = refl
 without-number (answer.Values held) = refl
+without-number (answer.Texts held) = refl
 
 without-squares : (a : Answer) → squares_in (without_values a) ≡ squares_in a
 without-squares answer.Null = refl
@@ -280,6 +286,7 @@ without-squares (answer.Ratio p q) = refl
 without-squares (answer.Squares n) = refl
 without-squares (answer.Variance p q) = refl
 without-squares (answer.Values held) = refl
+without-squares (answer.Texts held) = refl
 
 sum_of_counts-without : (parts : List Answer) → sum_of_counts (map without_values parts) ≡ sum_of_counts parts
 sum_of_counts-without parts =
@@ -297,54 +304,60 @@ squares_among-without [] = refl
 squares_among-without (a ∷ parts) = ap₂ cons_option (without-squares a) (squares_among-without parts)
 
 pub MakesAnswer-without : (agg : Agg) (parts : List Answer) (a : Answer) → ((m : ℕ) → agg ≡ Values m → ⊥)
+    → ((m : ℕ) → agg ≡ Texts m → ⊥)
     → MakesAnswer agg (map without_values parts) a → MakesAnswer agg parts a
-MakesAnswer-without CountAll parts a other makes = makes ∙ ap answer.Count (sum_of_counts-without parts)
-MakesAnswer-without (Count m) parts a other makes = makes ∙ ap answer.Count (sum_of_counts-without parts)
-MakesAnswer-without (Sum m) parts a other makes = subst (λ ns. IsSum ns a) (numbers_of-without parts) makes
-MakesAnswer-without (Min m) parts a other makes = subst (λ ns. IsLeast ns a) (numbers_of-without parts) makes
-MakesAnswer-without (Max m) parts a other makes = subst (λ ns. IsGreatest ns a) (numbers_of-without parts) makes
-MakesAnswer-without (Avg m) parts a other makes = tt
-MakesAnswer-without (CountDistinct m) parts a other makes = tt
-MakesAnswer-without (PercentileDisc m units places) parts a other makes = tt
-MakesAnswer-without (SumOfSquares m) parts a other makes =
+MakesAnswer-without CountAll parts a other texts makes = makes ∙ ap answer.Count (sum_of_counts-without parts)
+MakesAnswer-without (Count m) parts a other texts makes = makes ∙ ap answer.Count (sum_of_counts-without parts)
+MakesAnswer-without (Sum m) parts a other texts makes = subst (λ ns. IsSum ns a) (numbers_of-without parts) makes
+MakesAnswer-without (Min m) parts a other texts makes = subst (λ ns. IsLeast ns a) (numbers_of-without parts) makes
+MakesAnswer-without (Max m) parts a other texts makes = subst (λ ns. IsGreatest ns a) (numbers_of-without parts) makes
+MakesAnswer-without (Avg m) parts a other texts makes = tt
+MakesAnswer-without (CountDistinct m) parts a other texts makes = tt
+MakesAnswer-without (PercentileDisc m units places) parts a other texts makes = tt
+MakesAnswer-without (SumOfSquares m) parts a other texts makes =
     subst (λ ns. IsSumOfAll ns a) (squares_among-without parts) makes
-MakesAnswer-without (VarPop m) parts a other makes = tt
-MakesAnswer-without (VarSamp m) parts a other makes = tt
-MakesAnswer-without (Values m) parts a other makes = absurd (other m refl)
+MakesAnswer-without (VarPop m) parts a other texts makes = tt
+MakesAnswer-without (VarSamp m) parts a other texts makes = tt
+MakesAnswer-without (Values m) parts a other texts makes = absurd (other m refl)
+MakesAnswer-without (Texts m) parts a other texts makes = absurd (texts m refl)
 
 -- and are in range as they are
 IsInRange-same : (agg : Agg) (parts : List Answer) → ((m : ℕ) → agg ≡ Values m → ⊥)
+    → ((m : ℕ) → agg ≡ Texts m → ⊥)
     → IsInRange agg (map without_values parts) ↔ IsInRange agg parts
-IsInRange-same CountAll parts other = (
+IsInRange-same CountAll parts other texts = (
   subst (λ n. n < 2 ^ 64) (sum_of_counts-without parts),
   subst (λ n. n < 2 ^ 64) (sym (sum_of_counts-without parts)),
 )
-IsInRange-same (Count m) parts other = (
+IsInRange-same (Count m) parts other texts = (
   subst (λ n. n < 2 ^ 64) (sum_of_counts-without parts),
   subst (λ n. n < 2 ^ 64) (sym (sum_of_counts-without parts)),
 )
-IsInRange-same (Sum m) parts other = (
+IsInRange-same (Sum m) parts other texts = (
   subst (λ ns. FitsSigned w128 (total_of ns)) (numbers_of-without parts),
   subst (λ ns. FitsSigned w128 (total_of ns)) (sym (numbers_of-without parts)),
 )
-IsInRange-same (Min m) parts other = (λ h. h, λ h. h)
-IsInRange-same (Max m) parts other = (λ h. h, λ h. h)
-IsInRange-same (Avg m) parts other = (λ h. h, λ h. h)
-IsInRange-same (CountDistinct m) parts other = (λ h. h, λ h. h)
-IsInRange-same (PercentileDisc m units places) parts other = (λ h. h, λ h. h)
-IsInRange-same (SumOfSquares m) parts other = (
+IsInRange-same (Min m) parts other texts = (λ h. h, λ h. h)
+IsInRange-same (Max m) parts other texts = (λ h. h, λ h. h)
+IsInRange-same (Avg m) parts other texts = (λ h. h, λ h. h)
+IsInRange-same (CountDistinct m) parts other texts = (λ h. h, λ h. h)
+IsInRange-same (PercentileDisc m units places) parts other texts = (λ h. h, λ h. h)
+IsInRange-same (SumOfSquares m) parts other texts = (
   subst (λ (ns : List ℕ). sum_by (λ n. n) ns < 2 ^ 192) (squares_among-without parts),
   subst (λ (ns : List ℕ). sum_by (λ n. n) ns < 2 ^ 192) (sym (squares_among-without parts)),
 )
-IsInRange-same (VarPop m) parts other = (λ h. h, λ h. h)
-IsInRange-same (VarSamp m) parts other = (λ h. h, λ h. h)
-IsInRange-same (Values m) parts other = absurd (other m refl)
+IsInRange-same (VarPop m) parts other texts = (λ h. h, λ h. h)
+IsInRange-same (VarSamp m) parts other texts = (λ h. h, λ h. h)
+IsInRange-same (Values m) parts other texts = absurd (other m refl)
+IsInRange-same (Texts m) parts other texts = absurd (texts m refl)
 
 pub IsInRange-without : (agg : Agg) (parts : List Answer) → ((m : ℕ) → agg ≡ Values m → ⊥)
+    → ((m : ℕ) → agg ≡ Texts m → ⊥)
     → IsInRange agg (map without_values parts) → IsInRange agg parts
-IsInRange-without agg parts other = (IsInRange-same agg parts other).0
+IsInRange-without agg parts other texts = (IsInRange-same agg parts other texts).0
 
 pub IsUnmade-without : (agg : Agg) (parts : List Answer) (unmade : Unmade) → ((m : ℕ) → agg ≡ Values m → ⊥)
+    → ((m : ℕ) → agg ≡ Texts m → ⊥)
     → IsUnmade agg (map without_values parts) unmade → IsUnmade agg parts unmade
-IsUnmade-without agg parts Memory other is = tt
-IsUnmade-without agg parts (TooLarge place) other is = λ fits. is ((IsInRange-same agg parts other).1 fits)
+IsUnmade-without agg parts Memory other texts is = tt
+IsUnmade-without agg parts (TooLarge place) other texts is = λ fits. is ((IsInRange-same agg parts other texts).1 fits)

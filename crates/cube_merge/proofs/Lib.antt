@@ -3,6 +3,7 @@ mod SourceLaws
 mod GatherLaws
 mod SquaresLaws
 pub mod ValuesLaws
+mod TextsLaws
 mod JointLaws
 pub mod MergedLaws
 mod StepLaws

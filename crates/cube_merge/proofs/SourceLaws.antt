@@ -2,17 +2,20 @@
 use Rattle.std.proofs.Common.{◌≡◌, ◌==◌, ◌&&◌, ◌∷◌, [], ℕ, zero, suc, Bool, true, false, List, Some, None, refl}
 use Rattle.std.proofs.Common.{get_or, length, sym, subst, slice_get}
 use Rattle.std.specs.Prelude.{All, nat_lt}
-use Rattle.std.proofs.lemmas.Bool.{and_from, and_parts, eq-eqb, or_left, or_right}
+use Rattle.std.specs.List.{list_all}
+use Rattle.std.proofs.lemmas.Bool.{and_from, and_parts, eq-eqb, false≢true, or_left, or_right}
+use Rattle.std.proofs.lemmas.Bool.Decides.{Decides-eqb}
 use Rattle.std.proofs.lemmas.List.Elements.{All-get_or}
 use Rattle.std.proofs.lemmas.List.Sums.{AllPass-from_list_all}
-use Rattle.cube_core.specs.Layout.{IsSchema, Layout, counted_names, is_aggregate_of, is_level}
-use Rattle.cube_core.specs.PartialForm.{has_aggregate, is_aggregate}
+use Rattle.cube_core.specs.Layout.{Layout, counted_names, is_level}
+use Rattle.cube_core.specs.Merged.{is_all_of}
+use Rattle.cube_core.specs.PartialForm.{IsForm, has_aggregate, is_aggregate}
 use Rattle.cube_core.specs.declared.aggregate.Agg.{Agg}
 use Rattle.cube_core.specs.declared.aggregate.Agg.TheVariants.{CountAll, Count, Sum, Min, Max, Avg}
 use Rattle.cube_core.specs.declared.aggregate.Agg.TheVariants.{CountDistinct, PercentileDisc, SumOfSquares}
-use Rattle.cube_core.specs.declared.aggregate.Agg.TheVariants.{VarPop, VarSamp, Values}
+use Rattle.cube_core.specs.declared.aggregate.Agg.TheVariants.{VarPop, VarSamp, Values, Texts}
 use Rattle.cube_merge.specs.Source.{HasLevel, IsDistinctSource, IsMadeSource, IsMeanSource, IsPercentileSource}
-use Rattle.cube_merge.specs.Source.{IsSourceOf, IsVarianceSource, can_be_made, can_make_variance}
+use Rattle.cube_merge.specs.Source.{IsSourceOf, IsVarianceSource, can_be_made, can_make_variance, has_all}
 use Rattle.cube_merge.specs.declared.source.Source.{Source}
 use Rattle.cube_merge.specs.declared.source.Source.TheVariants.{Made, Mean, Variance, Distinct, Percentile}
 
@@ -28,6 +31,7 @@ is_aggregate-self (SumOfSquares m) = eq-eqb m m refl
 is_aggregate-self (VarPop m) = eq-eqb m m refl
 is_aggregate-self (VarSamp m) = eq-eqb m m refl
 is_aggregate-self (Values m) = eq-eqb m m refl
+is_aggregate-self (Texts m) = eq-eqb m m refl
 is_aggregate-self (PercentileDisc m units places) =
     and_from (m == m && units == units) (places == places)
     (and_from (m == m) (units == units) (eq-eqb m m refl) (eq-eqb units units refl)) (eq-eqb places places refl)
@@ -76,9 +80,34 @@ can_make-from of_sample given m (Mean sums counts) is = absurd is
 can_make-from of_sample given m (Distinct values) is = absurd is
 can_make-from of_sample given m (Percentile units places values) is = absurd is
 
+-- all values or all texts of a measure, at a place
+has_all-at : (given : List Agg) (m place : ℕ) (agg : Agg) → slice_get given place ≡ Some agg → is_all_of m agg ≡ true
+    → has_all given m ≡ true
+has_all-at given m place (Values n) stands is =
+    let same : m ≡ n = (Decides-eqb m n).0 is in
+    or_left (has_aggregate (Values m) given) (has_aggregate (Texts m) given)
+    (has_aggregate-at given place (Values m)
+    (subst (λ (k : ℕ). slice_get given place ≡ Some (Values k)) (sym same) stands))
+has_all-at given m place (Texts n) stands is =
+    let same : m ≡ n = (Decides-eqb m n).0 is in
+    or_right (has_aggregate (Values m) given) (has_aggregate (Texts m) given)
+    (has_aggregate-at given place (Texts m)
+    (subst (λ (k : ℕ). slice_get given place ≡ Some (Texts k)) (sym same) stands))
+has_all-at given m place CountAll stands is = absurd (false≢true is)
+has_all-at given m place (Count n) stands is = absurd (false≢true is)
+has_all-at given m place (Sum n) stands is = absurd (false≢true is)
+has_all-at given m place (Min n) stands is = absurd (false≢true is)
+has_all-at given m place (Max n) stands is = absurd (false≢true is)
+has_all-at given m place (Avg n) stands is = absurd (false≢true is)
+has_all-at given m place (CountDistinct n) stands is = absurd (false≢true is)
+has_all-at given m place (PercentileDisc n units places) stands is = absurd (false≢true is)
+has_all-at given m place (SumOfSquares n) stands is = absurd (false≢true is)
+has_all-at given m place (VarPop n) stands is = absurd (false≢true is)
+has_all-at given m place (VarSamp n) stands is = absurd (false≢true is)
+
 can_make-distinct : (given : List Agg) (m : ℕ) (source : Source) → IsDistinctSource given m source
-    → has_aggregate (Values m) given ≡ true
-can_make-distinct given m (Distinct values) is = has_aggregate-at given values (Values m) is
+    → has_all given m ≡ true
+can_make-distinct given m (Distinct values) (agg, stands, is) = has_all-at given m values agg stands is
 can_make-distinct given m (Made place) is = absurd is
 can_make-distinct given m (Mean sums counts) is = absurd is
 can_make-distinct given m (Variance is_sample counts sums squares) is = absurd is
@@ -107,25 +136,37 @@ IsSourceOf-can given (Min m) source is = can_make-own given (Min m) source is
 IsSourceOf-can given (Max m) source is = can_make-own given (Max m) source is
 IsSourceOf-can given (SumOfSquares m) source is = can_make-own given (SumOfSquares m) source is
 IsSourceOf-can given (Values m) source is = can_make-own given (Values m) source is
+IsSourceOf-can given (Texts m) source is = can_make-own given (Texts m) source is
 
--- the percentiles of a schema are at levels
-HasLevel-of : (measures : ℕ) (agg : Agg) → is_aggregate_of measures agg ≡ true → HasLevel agg
-HasLevel-of measures (PercentileDisc m units places) is = (and_parts (nat_lt m measures) (is_level units places) is).1
-HasLevel-of measures CountAll is = tt
-HasLevel-of measures (Count m) is = tt
-HasLevel-of measures (Sum m) is = tt
-HasLevel-of measures (Min m) is = tt
-HasLevel-of measures (Max m) is = tt
-HasLevel-of measures (Avg m) is = tt
-HasLevel-of measures (CountDistinct m) is = tt
-HasLevel-of measures (SumOfSquares m) is = tt
-HasLevel-of measures (VarPop m) is = tt
-HasLevel-of measures (VarSamp m) is = tt
-HasLevel-of measures (Values m) is = tt
+-- aggregates that pass a test are at levels, where the percentiles that pass it are
+HasLevel-by : (passes : Agg → Bool)
+    → ((m units places : ℕ) → passes (PercentileDisc m units places) ≡ true → is_level units places ≡ true) → (agg : Agg)
+    → passes agg ≡ true → HasLevel agg
+HasLevel-by passes levels (PercentileDisc m units places) is = levels m units places is
+HasLevel-by passes levels CountAll is = tt
+HasLevel-by passes levels (Count m) is = tt
+HasLevel-by passes levels (Sum m) is = tt
+HasLevel-by passes levels (Min m) is = tt
+HasLevel-by passes levels (Max m) is = tt
+HasLevel-by passes levels (Avg m) is = tt
+HasLevel-by passes levels (CountDistinct m) is = tt
+HasLevel-by passes levels (SumOfSquares m) is = tt
+HasLevel-by passes levels (VarPop m) is = tt
+HasLevel-by passes levels (VarSamp m) is = tt
+HasLevel-by passes levels (Values m) is = tt
+HasLevel-by passes levels (Texts m) is = tt
 
-pub HasLevel-all : (s : Layout) → IsSchema s → All HasLevel s.aggregates
-HasLevel-all s schema k d inside =
-    let of_measures : Agg → Bool = is_aggregate_of (length (counted_names s)) in
-    HasLevel-of (length (counted_names s)) (get_or s.aggregates k d)
-    (All-get_or (λ (agg : Agg). of_measures agg ≡ true) s.aggregates k d inside
-    (AllPass-from_list_all of_measures s.aggregates schema.aggregates_are_of_measures))
+HasLevel-passed : (passes : Agg → Bool) (aggregates : List Agg)
+    → ((m units places : ℕ) → passes (PercentileDisc m units places) ≡ true → is_level units places ≡ true)
+    → list_all passes aggregates ≡ true → All HasLevel aggregates
+HasLevel-passed passes aggregates levels all k d inside =
+    HasLevel-by passes levels (get_or aggregates k d)
+    (All-get_or (λ (agg : Agg). passes agg ≡ true) aggregates k d inside (AllPass-from_list_all passes aggregates all))
+
+-- those of a form are
+pub HasLevel-all : (form : Layout) → IsForm form → All HasLevel form.aggregates
+HasLevel-all form (s, is) = HasLevel-passed _ form.aggregates
+    (λ m units places passed.
+    let of : nat_lt m (length (counted_names s)) && is_level units places ≡ true = (and_parts _ _ passed).0 in
+    (and_parts (nat_lt m (length (counted_names s))) (is_level units places) of).1)
+    is.are.may

@@ -10,7 +10,7 @@ use Rattle.cube_core.specs.Merged.{numbers_of, squares_among, squares_in, sum_of
 use Rattle.cube_core.specs.declared.aggregate.Agg.{Agg}
 use Rattle.cube_core.specs.declared.aggregate.Agg.TheVariants.{CountAll, Count, Sum, Min, Max, Avg}
 use Rattle.cube_core.specs.declared.aggregate.Agg.TheVariants.{CountDistinct, PercentileDisc, SumOfSquares}
-use Rattle.cube_core.specs.declared.aggregate.Agg.TheVariants.{VarPop, VarSamp, Values}
+use Rattle.cube_core.specs.declared.aggregate.Agg.TheVariants.{VarPop, VarSamp, Values, Texts}
 use Rattle.cube_core.specs.declared.aggregate.Answer.{Answer}
 use Rattle.cube_core.specs.declared.aggregate.Answer.TheVariants as answer
 use Rattle.cube_core.specs.declared.key.Row.{Row}
@@ -34,6 +34,7 @@ sum_of_squares-by (a ∷ answers) =
     first (answer.Ratio p q) = omega arith
     first (answer.Variance p q) = omega arith
     first (answer.Values held) = omega arith
+    first (answer.Texts held) = omega arith
 
 -- the first of them and the next one are within the whole sum
 pub sum_of_squares-within : (answers : List Answer) (i : ℕ) (d : Answer) → i < length answers
@@ -57,6 +58,7 @@ squares_answered-some (answer.Whole z) n is = let clash : None ≡ Some n = is i
 squares_answered-some (answer.Ratio p q) n is = let clash : None ≡ Some n = is in absurd (cc)
 squares_answered-some (answer.Variance p q) n is = let clash : None ≡ Some n = is in absurd (cc)
 squares_answered-some (answer.Values held) n is = let clash : None ≡ Some n = is in absurd (cc)
+squares_answered-some (answer.Texts held) n is = let clash : None ≡ Some n = is in absurd (cc)
 
 pub squares_answered-none : (a : Answer) → squares_in a ≡ None → squares_answered a ≡ 0
 squares_answered-none (answer.Squares k) is = let clash : Some k ≡ None = is in absurd (cc)
@@ -66,6 +68,7 @@ squares_answered-none (answer.Whole z) is = refl
 squares_answered-none (answer.Ratio p q) is = refl
 squares_answered-none (answer.Variance p q) is = refl
 squares_answered-none (answer.Values held) is = refl
+squares_answered-none (answer.Texts held) is = refl
 
 -- an answer that is no sum of squares
 pub squares_in-other : (a : Answer) → ((n : ℕ) → a ≡ answer.Squares n → ⊥) → squares_in a ≡ None
@@ -76,6 +79,7 @@ squares_in-other (answer.Ratio p q) other = refl
 squares_in-other (answer.Squares n) other = absurd (other n refl)
 squares_in-other (answer.Variance p q) other = refl
 squares_in-other (answer.Values held) other = refl
+squares_in-other (answer.Texts held) other = refl
 
 pub squares_answered-other : (a : Answer) → ((n : ℕ) → a ≡ answer.Squares n → ⊥) → squares_answered a ≡ 0
 squares_answered-other answer.Null other = refl
@@ -85,6 +89,7 @@ squares_answered-other (answer.Ratio p q) other = refl
 squares_answered-other (answer.Squares n) other = absurd (other n refl)
 squares_answered-other (answer.Variance p q) other = refl
 squares_answered-other (answer.Values held) other = refl
+squares_answered-other (answer.Texts held) other = refl
 
 -- ---- one more answer
 squares_among-push : (parts : List Answer) (a : Answer)
@@ -175,3 +180,4 @@ IsMerged-Variance given rows (PercentileDisc m units places) made is_sample coun
     absurd is
 IsMerged-Variance given rows (SumOfSquares m) made is_sample counts sums squares a are is variance = absurd is
 IsMerged-Variance given rows (Values m) made is_sample counts sums squares a are is variance = absurd is
+IsMerged-Variance given rows (Texts m) made is_sample counts sums squares a are is variance = absurd is

@@ -1,22 +1,24 @@
 -- What values that are listed tell of the values themselves, and the answers that are theirs.
-use Rattle.std.proofs.Common.{◌≡◌, ◌<◌, ◌+◌, ◌^◌, ◌++◌, ◌∷◌, [], ◌&&◌, ℕ, ℤ, Bool, true, List, Some, None, length, replicate}
+use Rattle.std.proofs.Common.{◌≡◌, ◌<◌, ◌^◌, ◌++◌, ◌∷◌, [], ◌&&◌, ℕ, ℤ, Bool, true, List, Some, None, length, replicate}
 use Rattle.std.proofs.Common.{zero, suc, get_or, length-append, refl, sym, ap, ◌∙◌, subst, arith, lit<}
 use Rattle.std.specs.Prelude.{nat_eq}
 use Rattle.std.specs.Cmp.Lexicographic.{pointwise}
 use Rattle.std.specs.List.Sorted.{IsStrictlySortedBy}
 use Rattle.std.specs.Ordering.{int_eq}
+use Rattle.std.proofs.lemmas.Bool.{false≢true}
 use Rattle.std.proofs.lemmas.Slice.Eq.{slice_eq-Decides}
 use Rattle.std.proofs.lemmas.List.{length-replicate}
 use Rattle.cube_core.specs.Answer.{AreHeld, AreValues, IsAnswer, IsDistinctCount, IsMean, IsPercentile, IsSum, IsSumOfSquares}
 use Rattle.cube_core.specs.Answer.{IsVarianceAnswer, StandsAt, percentile_place, times_among, values_held}
 use Rattle.cube_core.specs.Group.{total_of, values_of}
 use Rattle.cube_core.specs.Layout.{is_level}
-use Rattle.cube_core.specs.Merged.{IsMeanOf, IsMerged, IsVarianceOf, column, values_among, values_answered}
+use Rattle.cube_core.specs.Merged.{IsMeanOf, IsMerged, IsVarianceOf, MakesAnswer, column, is_all_of, values_among}
+use Rattle.cube_core.specs.Merged.{values_answered}
 use Rattle.cube_core.specs.Variance.{squares_of}
 use Rattle.cube_core.specs.declared.aggregate.Agg.{Agg}
 use Rattle.cube_core.specs.declared.aggregate.Agg.TheVariants.{CountAll, Count, Sum, Min, Max, Avg}
 use Rattle.cube_core.specs.declared.aggregate.Agg.TheVariants.{CountDistinct, PercentileDisc, SumOfSquares}
-use Rattle.cube_core.specs.declared.aggregate.Agg.TheVariants.{VarPop, VarSamp, Values}
+use Rattle.cube_core.specs.declared.aggregate.Agg.TheVariants.{VarPop, VarSamp, Values, Texts}
 use Rattle.cube_core.specs.declared.aggregate.Answer.{Answer}
 use Rattle.cube_core.specs.declared.aggregate.Answer.TheVariants as answer
 use Rattle.cube_core.specs.declared.fact.Fact.{Fact}
@@ -45,14 +47,16 @@ unfolding IsStrictlySortedBy
 AreListed-none = record { in_order = record { ascending = tt; some = tt; same = λ x. refl }; few = lit< tt }
 
 -- no other answer lists any
-pub values_answered-other : (a : Answer) → ((held : Bag) → a ≡ answer.Values held → ⊥) → values_answered a ≡ []
-values_answered-other answer.Null other = refl
-values_answered-other (answer.Count n) other = refl
-values_answered-other (answer.Whole z) other = refl
-values_answered-other (answer.Ratio p q) other = refl
-values_answered-other (answer.Squares n) other = refl
-values_answered-other (answer.Variance p q) other = refl
-values_answered-other (answer.Values held) other = absurd (other held refl)
+pub values_answered-other : (a : Answer) → ((held : Bag) → a ≡ answer.Values held → ⊥)
+    → ((held : List (List ℕ × ℕ)) → a ≡ answer.Texts held → ⊥) → values_answered a ≡ []
+values_answered-other answer.Null other texts = refl
+values_answered-other (answer.Count n) other texts = refl
+values_answered-other (answer.Whole z) other texts = refl
+values_answered-other (answer.Ratio p q) other texts = refl
+values_answered-other (answer.Squares n) other texts = refl
+values_answered-other (answer.Variance p q) other texts = refl
+values_answered-other (answer.Values held) other texts = absurd (other held refl)
+values_answered-other (answer.Texts held) other texts = absurd (texts held refl)
 
 -- some pair lists some value
 pub AreListed-some : (held : Bag) → AreListed held → 0 < length held → 0 < length (values_held held)
@@ -91,6 +95,7 @@ IsVarianceAnswer-IsVarianceOf is_sample values (answer.Whole z) is = absurd is
 IsVarianceAnswer-IsVarianceOf is_sample values (answer.Ratio p q) is = absurd is
 IsVarianceAnswer-IsVarianceOf is_sample values (answer.Squares n) is = absurd is
 IsVarianceAnswer-IsVarianceOf is_sample values (answer.Values held) is = absurd is
+IsVarianceAnswer-IsVarianceOf is_sample values (answer.Texts held) is = absurd is
 
 -- the percentile at a place where some value stands
 pub IsPercentile-some : (units places : ℕ) (values : List ℤ) (v : ℤ) → 0 < length values
@@ -117,6 +122,11 @@ IsDistinctCount-same_times xs ys a same (numbers, sorted, are, is) = (
   ),
   is,
 )
+
+-- of no value
+pub IsDistinctCount-none : IsDistinctCount [] (answer.Count 0)
+unfolding IsStrictlySortedBy
+IsDistinctCount-none = ([], tt, λ x. (λ there. there, λ there. there), refl)
 
 -- the values themselves, listed by the same pairs
 pub AreValues-same : (held others : Bag) (b : Bool) → b ≡ pointwise (λ p q. int_eq p.0 q.0 && nat_eq p.1 q.1) others held
@@ -157,6 +167,8 @@ IsOfValues-IsAnswerOf values m agg a answers is group are = by_agg agg is answer
       subst (λ (vs : List ℤ). IsAnswerOf vs (VarSamp k) a) (values_of-same k m group values of are) h
   by_agg (Values k) of h =
       subst (λ (vs : List ℤ). IsAnswerOf vs (Values k) a) (values_of-same k m group values of are) h
+  by_agg (Texts k) of h =
+      subst (λ (vs : List ℤ). IsAnswerOf vs (Texts k) a) (values_of-same k m group values of are) h
 
 -- ---- what is made of the values that answers list
 -- the pairs of each answer that was made list values
@@ -175,12 +187,34 @@ pub IsMerged-Distinct : (given : List Agg) (rows : List Row) (agg : Agg) (made :
     → IsDistinctCount (values_answered (get_or made values answer.Null)) a → IsMerged given rows agg a
 IsMerged-Distinct given rows (CountDistinct m) made values a are is count =
     let all : List ℤ = values_among (column values rows) in
-    let (held, listed, times) = are values (Values m) is in (
+    let one : Answer = get_or made values answer.Null in (
       values,
-      is,
-      IsDistinctCount-same_times (values_held held) all a times.same
-          (subst (λ (vs : List ℤ). IsDistinctCount vs a) (ap values_answered listed) count),
+      is.0,
+      is.1,
+      is.2,
+      IsDistinctCount-same_times (values_answered one) all a
+          (same_times is.0 one is.2 (are values is.0 is.1)) count,
     )
+  where
+    -- what is made of all values or of all texts lists each as often as they stand there
+    same_times : (given_agg : Agg) (one : Answer) → is_all_of m given_agg ≡ true
+        → MakesAnswer given_agg (column values rows) one
+        → (x : ℤ) → times_among (values_answered one) x ≡ times_among (values_among (column values rows)) x
+    same_times (Values n) one of (held, listed, times) x =
+        ap (λ (b : Answer). times_among (values_answered b) x) listed ∙ times.same x
+    same_times (Texts n) one of (held, listed, times) x =
+        ap (λ (b : Answer). times_among (values_answered b) x) listed ∙ times.same x
+    same_times CountAll one of makes x = absurd (false≢true of)
+    same_times (Count n) one of makes x = absurd (false≢true of)
+    same_times (Sum n) one of makes x = absurd (false≢true of)
+    same_times (Min n) one of makes x = absurd (false≢true of)
+    same_times (Max n) one of makes x = absurd (false≢true of)
+    same_times (Avg n) one of makes x = absurd (false≢true of)
+    same_times (CountDistinct n) one of makes x = absurd (false≢true of)
+    same_times (PercentileDisc n units places) one of makes x = absurd (false≢true of)
+    same_times (SumOfSquares n) one of makes x = absurd (false≢true of)
+    same_times (VarPop n) one of makes x = absurd (false≢true of)
+    same_times (VarSamp n) one of makes x = absurd (false≢true of)
 IsMerged-Distinct given rows CountAll made values a are is count = absurd is
 IsMerged-Distinct given rows (Count m) made values a are is count = absurd is
 IsMerged-Distinct given rows (Sum m) made values a are is count = absurd is
@@ -192,11 +226,13 @@ IsMerged-Distinct given rows (SumOfSquares m) made values a are is count = absur
 IsMerged-Distinct given rows (VarPop m) made values a are is count = absurd is
 IsMerged-Distinct given rows (VarSamp m) made values a are is count = absurd is
 IsMerged-Distinct given rows (Values m) made values a are is count = absurd is
+IsMerged-Distinct given rows (Texts m) made values a are is count = absurd is
 
 -- a merged percentile
 pub IsMerged-Percentile : (given : List Agg) (rows : List Row) (agg : Agg) (made : List Answer) (units places values : ℕ)
     (a : Answer) → AreMadeOfRows given rows made → IsSourceOf given agg (source.Percentile units places values)
-    → (is_level units places ≡ true → IsPercentile units places (values_answered (get_or made values answer.Null)) a)
+    → ((held : Bag) → get_or made values answer.Null ≡ answer.Values held → is_level units places ≡ true
+    → IsPercentile units places (values_held held) a)
     → IsMerged given rows agg a
 IsMerged-Percentile given rows (PercentileDisc m of_units of_places) made units places values a are is stands =
     let all : List ℤ = values_among (column values rows) in
@@ -204,7 +240,7 @@ IsMerged-Percentile given rows (PercentileDisc m of_units of_places) made units 
       values,
       is.3,
       rw (sym is.0, sym is.1) (IsPercentile-same_times units places (values_held held) all a times.same
-          (subst (λ (vs : List ℤ). IsPercentile units places vs a) (ap values_answered listed) (stands is.2))),
+          (stands held listed is.2)),
     )
 IsMerged-Percentile given rows CountAll made units places values a are is stands = absurd is
 IsMerged-Percentile given rows (Count m) made units places values a are is stands = absurd is
@@ -217,3 +253,4 @@ IsMerged-Percentile given rows (SumOfSquares m) made units places values a are i
 IsMerged-Percentile given rows (VarPop m) made units places values a are is stands = absurd is
 IsMerged-Percentile given rows (VarSamp m) made units places values a are is stands = absurd is
 IsMerged-Percentile given rows (Values m) made units places values a are is stands = absurd is
+IsMerged-Percentile given rows (Texts m) made units places values a are is stands = absurd is

@@ -5,7 +5,7 @@ use Rattle.std.specs.Prelude.{◌==◌, Option, Some, None, IfSome, FitsSigned, 
 use Rattle.std.specs.Int.{w64, w128, IsGcd}
 use Rattle.std.specs.List.{AllByRecursion, AllZip, list_all}
 use Rattle.std.specs.Str.{bytes_eq}
-use Rattle.cube_core.specs.Answer.{AreHeld, IsAnswer, values_held}
+use Rattle.cube_core.specs.Answer.{AreHeld, AreTextsHeld, IsAnswer, numbers_held, values_held}
 use Rattle.cube_core.specs.Group.{values_of}
 use Rattle.cube_core.specs.GroupingSet.{is_all_coord}
 use Rattle.cube_core.specs.Layout.{Layout, keeps, number_of_dimensions}
@@ -14,7 +14,7 @@ use Rattle.cube_core.specs.Takes.{null_text}
 use Rattle.cube_core.specs.declared.aggregate.Agg.{Agg}
 use Rattle.cube_core.specs.declared.aggregate.Agg.TheVariants.{CountAll, Count, Sum, Min, Max, Avg}
 use Rattle.cube_core.specs.declared.aggregate.Agg.TheVariants.{CountDistinct, PercentileDisc, SumOfSquares}
-use Rattle.cube_core.specs.declared.aggregate.Agg.TheVariants.{VarPop, VarSamp, Values}
+use Rattle.cube_core.specs.declared.aggregate.Agg.TheVariants.{VarPop, VarSamp, Values, Texts}
 use Rattle.cube_core.specs.declared.aggregate.Answer.{Answer}
 use Rattle.cube_core.specs.declared.aggregate.Answer.TheVariants as answer
 use Rattle.cube_core.specs.declared.fact.Fact.{Fact}
@@ -78,6 +78,17 @@ abbrev pub ListsValues : Answer → Type 0
 ListsValues (answer.Values held) = AreListed held × AllByRecursion (λ pair. FitsSigned w64 pair.0) held
 ListsValues _ = ⊥
 
+-- pairs list texts: each is behind the one before it in the order of bytes and held once at least, and they are fewer
+-- than 2^64 together
+pub record AreTextsListed (held : List (List ℕ × ℕ)) : Type 0 where
+  pub in_order : AreTextsHeld (numbers_held held) held
+  pub few : length (numbers_held held) < 2 ^ 64
+
+-- an answer lists texts
+abbrev pub ListsTexts : Answer → Type 0
+ListsTexts (answer.Texts held) = AreTextsListed held
+ListsTexts _ = ⊥
+
 -- an answer is of the kind of this aggregate's
 abbrev pub IsOfKind : Agg → Answer → Type 0
 IsOfKind CountAll a = IsCount a
@@ -92,6 +103,7 @@ IsOfKind (SumOfSquares m) a = IsSquares a
 IsOfKind (VarPop m) a = IsVarianceFraction a
 IsOfKind (VarSamp m) a = IsVarianceFraction a
 IsOfKind (Values m) a = ListsValues a
+IsOfKind (Texts m) a = ListsTexts a
 
 -- an answer isn't a count of 0
 abbrev pub IsNoZero : Answer → Type 0
@@ -102,6 +114,7 @@ IsNoZero (answer.Ratio p q) = ⊤
 IsNoZero (answer.Squares n) = ⊤
 IsNoZero (answer.Variance p q) = ⊤
 IsNoZero (answer.Values held) = ⊤
+IsNoZero (answer.Texts held) = ⊤
 
 -- an answer, where it is one to `count(*)`, isn't 0
 abbrev pub CountsFacts : Agg → Answer → Type 0
@@ -117,6 +130,7 @@ CountsFacts (SumOfSquares m) a = ⊤
 CountsFacts (VarPop m) a = ⊤
 CountsFacts (VarSamp m) a = ⊤
 CountsFacts (Values m) a = ⊤
+CountsFacts (Texts m) a = ⊤
 
 -- a least answer isn't above a greatest one, where both are numbers
 abbrev pub IsInOrder : Answer → Answer → Type 0
@@ -138,6 +152,7 @@ IsAtLeast m least (SumOfSquares other) a = ⊤
 IsAtLeast m least (VarPop other) a = ⊤
 IsAtLeast m least (VarSamp other) a = ⊤
 IsAtLeast m least (Values other) a = ⊤
+IsAtLeast m least (Texts other) a = ⊤
 
 -- an answer, where it is one to a least value, isn't above the greatest value of its measure among answers
 abbrev pub IsWithin : List Agg → List Answer → Agg → Answer → Type 0
@@ -153,6 +168,7 @@ IsWithin aggregates answers (SumOfSquares m) a = ⊤
 IsWithin aggregates answers (VarPop m) a = ⊤
 IsWithin aggregates answers (VarSamp m) a = ⊤
 IsWithin aggregates answers (Values m) a = ⊤
+IsWithin aggregates answers (Texts m) a = ⊤
 
 -- no least value among answers is above the greatest value of its measure
 abbrev pub AreInOrder : List Agg → List Answer → Type 0
@@ -167,6 +183,7 @@ tells_none (answer.Ratio p q) = false
 tells_none (answer.Squares n) = false
 tells_none (answer.Variance p q) = false
 tells_none (answer.Values held) = length held == 0
+tells_none (answer.Texts held) = length held == 0
 
 -- the measure that an aggregate is of, if it is of one
 abbrev pub measure_of : Agg → Option ℕ
@@ -182,6 +199,7 @@ measure_of (SumOfSquares m) = Some m
 measure_of (VarPop m) = Some m
 measure_of (VarSamp m) = Some m
 measure_of (Values m) = Some m
+measure_of (Texts m) = Some m
 
 -- an answer, where it is one of this measure, is null, or a count of 0
 abbrev pub TellsNone : ℕ → Agg → Answer → Type 0
@@ -202,6 +220,7 @@ tells_no_value (PercentileDisc m units places) a = tells_none a
 tells_no_value (SumOfSquares m) a = tells_none a
 tells_no_value (VarPop m) a = tells_none a
 tells_no_value (Values m) a = tells_none a
+tells_no_value (Texts m) a = tells_none a
 
 -- where an answer tells that its measure has no value, each of that measure among answers is null, or a count of 0
 abbrev pub IsNoneAmong : List Agg → List Answer → Agg → Answer → Type 0
@@ -240,6 +259,7 @@ number_of (SumOfSquares m) = m % 4 * 10 + 7
 number_of (VarPop m) = m % 4 * 10 + 8
 number_of (VarSamp m) = m % 4 * 10 + 9
 number_of (Values m) = m % 4 * 10 + 10
+number_of (Texts m) = m % 4 * 10 + 10
 number_of (PercentileDisc m units places) = m % 4 * 16 + units % 16 + 41
 
 -- an answer is the one at the place of its aggregate
@@ -267,6 +287,7 @@ sum_answered (answer.Ratio p q) = pos 0
 sum_answered (answer.Squares n) = pos 0
 sum_answered (answer.Variance p q) = pos 0
 sum_answered (answer.Values held) = pos 0
+sum_answered (answer.Texts held) = pos 0
 
 -- the sum of squares that an answer is; 0 of any other
 abbrev pub squares_answered : Answer → ℕ
@@ -277,6 +298,7 @@ squares_answered (answer.Whole z) = 0
 squares_answered (answer.Ratio p q) = 0
 squares_answered (answer.Variance p q) = 0
 squares_answered (answer.Values held) = 0
+squares_answered (answer.Texts held) = 0
 
 -- a mean of a measure is this sum by this answer, where that is the measure's count
 abbrev pub IsMeanByCount : ℕ → Answer → Answer → Agg → Answer → Type 0
@@ -292,6 +314,7 @@ IsMeanByCount m mean sum (SumOfSquares other) a = ⊤
 IsMeanByCount m mean sum (VarPop other) a = ⊤
 IsMeanByCount m mean sum (VarSamp other) a = ⊤
 IsMeanByCount m mean sum (Values other) a = ⊤
+IsMeanByCount m mean sum (Texts other) a = ⊤
 
 -- a mean of a measure is this answer, where that is the measure's sum, by the measure's count among answers
 abbrev pub IsMeanOfSum : List Agg → List Answer → ℕ → Answer → Agg → Answer → Type 0
@@ -307,6 +330,7 @@ IsMeanOfSum aggregates answers m mean (SumOfSquares other) a = ⊤
 IsMeanOfSum aggregates answers m mean (VarPop other) a = ⊤
 IsMeanOfSum aggregates answers m mean (VarSamp other) a = ⊤
 IsMeanOfSum aggregates answers m mean (Values other) a = ⊤
+IsMeanOfSum aggregates answers m mean (Texts other) a = ⊤
 
 -- an answer, where it is a mean, is the sum by the count of its measure among answers
 abbrev pub IsMeanAmong : List Agg → List Answer → Agg → Answer → Type 0
@@ -322,6 +346,7 @@ IsMeanAmong aggregates answers (SumOfSquares m) a = ⊤
 IsMeanAmong aggregates answers (VarPop m) a = ⊤
 IsMeanAmong aggregates answers (VarSamp m) a = ⊤
 IsMeanAmong aggregates answers (Values m) a = ⊤
+IsMeanAmong aggregates answers (Texts m) a = ⊤
 
 -- each mean is the sum by the count of its measure, where these stand beside it
 abbrev pub AreMeans : List Agg → List Answer → Type 0
@@ -350,6 +375,7 @@ IsVarianceAmong aggregates answers (CountDistinct m) a = ⊤
 IsVarianceAmong aggregates answers (PercentileDisc m units places) a = ⊤
 IsVarianceAmong aggregates answers (SumOfSquares m) a = ⊤
 IsVarianceAmong aggregates answers (Values m) a = ⊤
+IsVarianceAmong aggregates answers (Texts m) a = ⊤
 
 -- each variance is that of the count, the sum and the sum of squares of its measure, where these stand beside it
 abbrev pub AreVariances : List Agg → List Answer → Type 0
@@ -360,9 +386,10 @@ abbrev pub IsOfValues : List ℤ → ℕ → Agg → Answer → Type 0
 IsOfValues values m agg a =
     measure_of agg ≡ Some m → (group : List Fact) → values_of m group ≡ values → IsAnswer group agg a
 
--- where an answer lists values, each answer of this measure among answers is that of these
+-- where an answer lists values or texts, each answer of this measure among answers is that of these
 abbrev pub AreOfList : List Agg → List Answer → ℕ → Answer → Type 0
 AreOfList aggregates answers m (answer.Values held) = AllZip (IsOfValues (values_held held) m) aggregates answers
+AreOfList aggregates answers m (answer.Texts held) = AllZip (IsOfValues (numbers_held held) m) aggregates answers
 AreOfList aggregates answers m answer.Null = ⊤
 AreOfList aggregates answers m (answer.Count n) = ⊤
 AreOfList aggregates answers m (answer.Whole z) = ⊤
@@ -370,9 +397,10 @@ AreOfList aggregates answers m (answer.Ratio p q) = ⊤
 AreOfList aggregates answers m (answer.Squares n) = ⊤
 AreOfList aggregates answers m (answer.Variance p q) = ⊤
 
--- the same of an answer, where it is one to the values of a measure
+-- the same of an answer, where it is one to the values of a measure, numbers or texts
 abbrev pub IsListAmong : List Agg → List Answer → Agg → Answer → Type 0
 IsListAmong aggregates answers (Values m) a = AreOfList aggregates answers m a
+IsListAmong aggregates answers (Texts m) a = AreOfList aggregates answers m a
 IsListAmong aggregates answers CountAll a = ⊤
 IsListAmong aggregates answers (Count m) a = ⊤
 IsListAmong aggregates answers (Sum m) a = ⊤
@@ -385,13 +413,13 @@ IsListAmong aggregates answers (SumOfSquares m) a = ⊤
 IsListAmong aggregates answers (VarPop m) a = ⊤
 IsListAmong aggregates answers (VarSamp m) a = ⊤
 
--- where the values of a measure are listed, each other answer of it is that of these values
+-- where the values of a measure are listed, numbers or texts, each other answer of it is that of these values
 abbrev pub AreOfValues : List Agg → List Answer → Type 0
 AreOfValues aggregates answers = AllZip (IsListAmong aggregates answers) aggregates answers
 
 -- answers don't gainsay one another: an aggregate that stands twice has the same answer, a mean is its sum by its
 -- count, a variance is that of its count, its sum and its sum of squares, and each answer of a measure whose values are
--- listed is that of these values
+-- listed, numbers or texts, is that of these values
 pub record AreConsistent (aggregates : List Agg) (answers : List Answer) : Type 0 where
   pub alike : AreAlike aggregates answers
   pub means : AreMeans aggregates answers

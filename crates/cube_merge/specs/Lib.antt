@@ -7,5 +7,6 @@ pub mod Source
 pub mod Lawful
 pub mod Merging
 pub mod Joint
+pub mod Joined
 pub mod Front
 pub mod Faults

@@ -6,7 +6,7 @@ use Rattle.cube_core.specs.declared.aggregate.Agg.{Agg}
 use Rattle.cube_core.specs.declared.aggregate.Answer.{Answer}
 use Rattle.cube_core.specs.declared.aggregate.Answer.TheVariants as answer
 use Rattle.cube_core.specs.declared.key.Row.{Row}
-use Rattle.cube_merge.specs.Lawful.{AreListed}
+use Rattle.cube_merge.specs.Lawful.{AreListed, AreTextsListed}
 use Rattle.cube_merge.specs.Range.{IsInRange}
 use Rattle.cube_merge.specs.declared.fault.Unmade.{Unmade}
 use Rattle.cube_merge.specs.declared.fault.Unmade.TheVariants.{Memory, TooLarge}
@@ -20,9 +20,10 @@ AreMadeOfRows given rows made = (place : ℕ) (agg : Agg) → slice_get given pl
 abbrev pub JoinsAnswer : Agg → Answer → Answer → Answer → Type 0
 JoinsAnswer agg old a new = (parts : List Answer) → MakesAnswer agg parts old → MakesAnswer agg (parts ++ a ∷ []) new
 
--- an answer, with null in place of values
+-- an answer, with null in place of values and of texts
 abbrev pub without_values : Answer → Answer
 without_values (answer.Values held) = answer.Null
+without_values (answer.Texts held) = answer.Null
 without_values answer.Null = answer.Null
 without_values (answer.Count n) = answer.Count n
 without_values (answer.Whole z) = answer.Whole z
@@ -30,9 +31,10 @@ without_values (answer.Ratio p q) = answer.Ratio p q
 without_values (answer.Squares n) = answer.Squares n
 without_values (answer.Variance p q) = answer.Variance p q
 
--- the pairs of an answer list values, where it has pairs
+-- the pairs of an answer list values or texts, where it has pairs
 abbrev pub IsOrderly : Answer → Type 0
 IsOrderly (answer.Values held) = AreListed held
+IsOrderly (answer.Texts held) = AreTextsListed held
 IsOrderly answer.Null = ⊤
 IsOrderly (answer.Count n) = ⊤
 IsOrderly (answer.Whole z) = ⊤

@@ -7,7 +7,7 @@ use Rattle.cube_core.specs.Merged.{column, sum_of_counts, sum_of_squares, number
 use Rattle.cube_core.specs.declared.aggregate.Agg.{Agg}
 use Rattle.cube_core.specs.declared.aggregate.Agg.TheVariants.{CountAll, Count, Sum, Min, Max, Avg}
 use Rattle.cube_core.specs.declared.aggregate.Agg.TheVariants.{CountDistinct, PercentileDisc, SumOfSquares}
-use Rattle.cube_core.specs.declared.aggregate.Agg.TheVariants.{VarPop, VarSamp, Values}
+use Rattle.cube_core.specs.declared.aggregate.Agg.TheVariants.{VarPop, VarSamp, Values, Texts}
 use Rattle.cube_core.specs.declared.aggregate.Answer.{Answer}
 use Rattle.cube_core.specs.declared.key.Row.{Row}
 
@@ -26,6 +26,7 @@ IsInRange (SumOfSquares m) parts = sum_of_squares parts < 2 ^ 192
 IsInRange (VarPop m) parts = ⊤
 IsInRange (VarSamp m) parts = ⊤
 IsInRange (Values m) parts = length (values_among parts) < 2 ^ 64
+IsInRange (Texts m) parts = length (values_among parts) < 2 ^ 64
 
 -- so is what rows make of each of the given aggregates
 abbrev pub AreInRange : List Agg → List Row → Type 0

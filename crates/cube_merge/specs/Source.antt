@@ -1,11 +1,12 @@
 -- Where the answers of merged rows come from while rows with one key are joined (this project's choice).
-use Rattle.std.specs.Prelude.{◌≡◌, ◌&&◌, ⊤, Bool, true, false, ℕ, List, Some, slice_get}
+use Rattle.std.specs.Prelude.{◌≡◌, ◌&&◌, ◌||◌, ⊤, Bool, true, false, ℕ, List, Some, slice_get}
 use Rattle.std.specs.List.{list_all}
 use Rattle.cube_core.specs.Layout.{is_level}
+use Rattle.cube_core.specs.Merged.{is_all_of}
 use Rattle.cube_core.specs.PartialForm.{has_aggregate}
 use Rattle.cube_core.specs.declared.aggregate.Agg.{Agg}
 use Rattle.cube_core.specs.declared.aggregate.Agg.TheVariants.{Count, Sum, Avg, CountDistinct, PercentileDisc}
-use Rattle.cube_core.specs.declared.aggregate.Agg.TheVariants.{SumOfSquares, VarPop, VarSamp, Values}
+use Rattle.cube_core.specs.declared.aggregate.Agg.TheVariants.{SumOfSquares, VarPop, VarSamp, Values, Texts}
 use Rattle.cube_merge.specs.declared.fault.MergeFault.{MergeFault}
 use Rattle.cube_merge.specs.declared.fault.MergeFault.TheVariants.{Aggregates}
 use Rattle.cube_merge.specs.declared.source.Source.{Source}
@@ -36,7 +37,8 @@ IsVarianceSource of_sample given m _ = ⊥
 
 -- a distinct count of a measure comes from here
 abbrev pub IsDistinctSource : List Agg → ℕ → Source → Type 0
-IsDistinctSource given m (Distinct values) = slice_get given values ≡ Some (Values m)
+IsDistinctSource given m (Distinct values) =
+    (agg : Agg) × (slice_get given values ≡ Some agg) × (is_all_of m agg ≡ true)
 IsDistinctSource given m _ = ⊥
 
 -- a percentile of a measure, at this level, comes from here
@@ -60,14 +62,18 @@ abbrev pub can_make_variance : List Agg → ℕ → Bool
 can_make_variance given m =
     has_aggregate (Count m) given && has_aggregate (Sum m) given && has_aggregate (SumOfSquares m) given
 
--- whether answers to an aggregate can be made of those to the given ones: it stands among them; or it is a mean whose sum
--- and count do, a variance whose count, sum and sum of squares do, or a distinct count or a percentile whose values do,
--- and then it needn't stand there itself
+-- whether all values of a measure stand among the given aggregates, or all texts of it
+abbrev pub has_all : List Agg → ℕ → Bool
+has_all given m = has_aggregate (Values m) given || has_aggregate (Texts m) given
+
+-- whether answers to an aggregate can be made of those to the given ones: it stands among them; or it is a mean whose
+-- sum and count do, a variance whose count, sum and sum of squares do, a distinct count whose values or texts do, or a
+-- percentile whose values do, and then it needn't stand there itself
 abbrev pub can_be_made : List Agg → Agg → Bool
 can_be_made given (Avg m) = has_aggregate (Sum m) given && has_aggregate (Count m) given
 can_be_made given (VarPop m) = can_make_variance given m
 can_be_made given (VarSamp m) = can_make_variance given m
-can_be_made given (CountDistinct m) = has_aggregate (Values m) given
+can_be_made given (CountDistinct m) = has_all given m
 can_be_made given (PercentileDisc m units places) = has_aggregate (Values m) given
 can_be_made given agg = has_aggregate agg given
 

@@ -1,24 +1,27 @@
 //! Whether the answers of a row don't gainsay one another.
 ghost use Rattle.std.specs.Prelude.{◌≡◌, true};
 ghost use Rattle.std.specs.List.{AllZip};
-ghost use Rattle.cube_core.specs.Answer.{values_held};
-ghost use Rattle.cube_merge.specs.Lawful.{AreAlike, AreConsistent, AreListed, AreMeans, AreOfValues, AreVariances, IsAtPlace, IsListAmong, IsMeanAmong};
+ghost use Rattle.cube_core.specs.Merged.{values_answered};
+ghost use Rattle.cube_merge.specs.Lawful.{AreAlike, AreConsistent, AreMeans, AreOfValues, AreVariances, IsAtPlace, IsListAmong, IsMeanAmong};
 ghost use Rattle.cube_merge.specs.Lawful.{IsMeanByCount, IsMeanOfSum, IsOfKind, IsOfValues, IsOnlyAnswer, IsSameAnswer, IsVarianceAmong, IsVarianceBeside};
+ghost use Rattle.cube_merge.specs.Made.{IsOrderly};
+ghost use Rattle.cube_merge.specs.Values.{IsAnswerOf};
 
 use crate::gather::{answer_or, mean_of, variance_of};
 use crate::lawful::measure_of;
 use crate::places::place_in;
 use crate::source::place_of;
+use crate::texts::is_answer_of_texts;
 use crate::values::is_answer_of_values;
-use cube_core::{Agg, Answer, Row, Schema};
+use cube_core::{Agg, Answer, Form, Row};
 
 /// Whether the answers of a row don't gainsay one another, each of which is of its aggregate's kind. The places are those of
-/// the schema's aggregates.
-pub(crate) fn is_row_consistent(schema: &Schema, places: &[usize], row: &Row) -> bool
-    requires { AllZip IsOfKind schema.now.aggregates row.now.answers }
-    ensures { result ≡ true → AreConsistent schema.now.aggregates row.now.answers }
+/// the form's aggregates.
+pub(crate) fn is_row_consistent(form: &Form<'_>, places: &[usize], row: &Row) -> bool
+    requires { AllZip IsOfKind form.now.aggregates row.now.answers }
+    ensures { result ≡ true → AreConsistent form.now.aggregates row.now.answers }
 {
-    are_consistent(schema.aggregates(), places, row.answers.as_slice())
+    are_consistent(form.aggregates(), places, row.answers.as_slice())
 }
 
 fn are_consistent(aggregates: &[Agg], places: &[usize], answers: &[Answer]) -> bool
@@ -260,7 +263,7 @@ fn is_variance(
         )
 }
 
-// Whether the answers of each measure whose values are listed are those of these values.
+// Whether the answers of each measure whose values or texts are listed are those of these.
 fn are_of_values(aggregates: &[Agg], answers: &[Answer]) -> bool
     requires { AllZip IsOfKind aggregates.now answers.now }
     ensures { result ≡ true → AreOfValues aggregates.now answers.now }
@@ -281,37 +284,48 @@ fn is_list_among(aggregates: &[Agg], answers: &[Answer], aggregate: &Agg, answer
     ensures { result ≡ true → IsListAmong aggregates.now answers.now aggregate.now answer.now }
 {
     match (aggregate, answer) {
-        (Agg::Values(measure), Answer::Values(pairs)) => {
-            are_of_list(aggregates, answers, *measure, pairs.as_slice())
+        (Agg::Values(measure), Answer::Values(_)) => {
+            are_of_list(aggregates, answers, *measure, answer)
+        }
+        (Agg::Texts(measure), Answer::Texts(_)) => {
+            are_of_list(aggregates, answers, *measure, answer)
         }
         _ => true,
     }
 }
 
-// Whether each answer of a measure among answers is that of these values.
-fn are_of_list(
-    aggregates: &[Agg],
-    answers: &[Answer],
-    measure: usize,
-    listed: &[(i64, u64)],
-) -> bool
-    requires { AreListed listed.now }
-    ensures { result ≡ true → AllZip (IsOfValues (values_held listed.now) measure) aggregates.now answers.now }
+// Whether each answer of a measure among answers is that of the values or the texts that this one lists.
+fn are_of_list(aggregates: &[Agg], answers: &[Answer], measure: usize, list: &Answer) -> bool
+    requires { IsOrderly list.now }
+    ensures { result ≡ true → AllZip (IsOfValues (values_answered list.now) measure) aggregates.now answers.now }
 {
     if aggregates.len() != answers.len() {
         return false;
     }
     for place in 0..aggregates.len() {
-        if !is_of_values(measure, listed, &aggregates[place], &answers[place]) {
+        if !is_of_values(measure, list, &aggregates[place], &answers[place]) {
             return false;
         }
     }
     true
 }
 
-fn is_of_values(measure: usize, listed: &[(i64, u64)], aggregate: &Agg, answer: &Answer) -> bool
-    requires { AreListed listed.now }
-    ensures { result ≡ true → IsOfValues (values_held listed.now) measure aggregate.now answer.now }
+fn is_of_values(measure: usize, list: &Answer, aggregate: &Agg, answer: &Answer) -> bool
+    requires { IsOrderly list.now }
+    ensures { result ≡ true → IsOfValues (values_answered list.now) measure aggregate.now answer.now }
 {
-    measure_of(aggregate) != Some(measure) || is_answer_of_values(aggregate, listed, answer)
+    measure_of(aggregate) != Some(measure) || is_answer_of_list(aggregate, list, answer)
+}
+
+// Whether an answer to an aggregate is that of the values or the texts of its measure that this one lists; false where
+// it lists none.
+fn is_answer_of_list(aggregate: &Agg, list: &Answer, answer: &Answer) -> bool
+    requires { IsOrderly list.now }
+    ensures { result ≡ true → IsAnswerOf (values_answered list.now) aggregate.now answer.now }
+{
+    match list {
+        Answer::Values(pairs) => is_answer_of_values(aggregate, pairs.as_slice(), answer),
+        Answer::Texts(held) => is_answer_of_texts(aggregate, held.as_slice(), answer),
+        _ => false,
+    }
 }

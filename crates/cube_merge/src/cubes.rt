@@ -13,7 +13,7 @@ use crate::front::Front;
 use crate::input::Input;
 use crate::source::{Source, can_all_be_made, sources_of};
 use crate::step::{Joint, fault_of, join_rows, move_inputs, put_answers};
-use cube_core::{Answer, Row, Schema};
+use cube_core::{Answer, Form, Row};
 use cube_lines::{push_header, push_line, write_whole};
 use std::alloc::{AllocError, Global};
 use std::io::{Read, Write};
@@ -29,14 +29,14 @@ struct Desk {
     text: Vec<u8>,
 }
 
-/// Merges printed cubes: reads the cubes, each printed under the given schema, side by side, and writes the cube of all
+/// Merges printed cubes: reads the cubes, each printed under the given form, side by side, and writes the cube of all
 /// their facts under the wanted one, which has the same dimensions and grouping sets,
 /// and the same digits behind the point of each measure.
 ///
-/// Each aggregate of the wanted schema is one of the given schema's, a mean whose sum and count are, a variance whose
-/// count, sum and sum of squares are, or a distinct count or a percentile whose values are; else the fault is `Aggregates`,
-/// whatever else is wrong. A distinct count and a percentile need the values, also where they are the given schema's. One
-/// line of each input is in memory.
+/// Each aggregate of the wanted form is one of the given form's, a mean whose sum and count are, a variance whose count,
+/// sum and sum of squares are, a distinct count whose values or texts are, or a percentile whose values are; else the
+/// fault is `Aggregates`, whatever else is wrong. A distinct count and a percentile need these, also where they are the
+/// given form's. One line of each input is in memory.
 ///
 /// What was written before a fault was met stays written: it is the first bytes of the text of the rows that were merged
 /// so far, as many as the fault says where the writer failed. The fault that is told is the one met first, where each step
@@ -44,8 +44,8 @@ struct Desk {
 /// flushed.
 pub fn merge<R: Read + Drop, W: Write>(
     alloc: Global,
-    given: &Schema,
-    wanted: &Schema,
+    given: &Form<'_>,
+    wanted: &Form<'_>,
     readers: Vec<R>,
     w: &mut W,
 ) -> Result<(), MergeFault>
@@ -79,8 +79,8 @@ pub fn merge<R: Read + Drop, W: Write>(
 // Merges inputs of which the headers were taken.
 fn merge_inputs<R: Read, W: Write>(
     alloc: Global,
-    given: &Schema,
-    wanted: &Schema,
+    given: &Form<'_>,
+    wanted: &Form<'_>,
     sources: &[Source],
     inputs: &mut [Input<R>],
     w: &mut W,
@@ -97,12 +97,12 @@ fn merge_inputs<R: Read, W: Write>(
     merge_rows(alloc, given, wanted, sources, inputs, &mut desk, w)
 }
 
-// A desk on which the header line of the schema waits.
-fn new_desk(alloc: Global, schema: &Schema) -> Result<Desk, AllocError>
-    ensures { IfOk result (λ desk. desk.text.items ≡ text_of_rows schema.now []) }
+// A desk on which the header line of the form waits.
+fn new_desk(alloc: Global, form: &Form<'_>) -> Result<Desk, AllocError>
+    ensures { IfOk result (λ desk. desk.text.items ≡ text_of_rows form.now []) }
 {
     let mut text = Vec::new(alloc);
-    push_header(alloc, &mut text, schema)?;
+    push_header(alloc, &mut text, form)?;
     Ok(Desk {
         joint: Joint::new(alloc),
         answers: Vec::new(alloc),
@@ -112,7 +112,7 @@ fn new_desk(alloc: Global, schema: &Schema) -> Result<Desk, AllocError>
 
 fn open_inputs<R: Read + Drop>(
     alloc: Global,
-    schema: &Schema,
+    form: &Form<'_>,
     header: &[u8],
     readers: Vec<R>,
 ) -> Result<Vec<Input<R>>, MergeFault>
@@ -122,7 +122,7 @@ fn open_inputs<R: Read + Drop>(
 {
     let mut inputs = Vec::with_capacity(alloc, readers.len())?;
     for reader in readers {
-        let input = open_input(alloc, schema, header, reader, inputs.len())?;
+        let input = open_input(alloc, form, header, reader, inputs.len())?;
         inputs.push(input)?;
     }
     Ok(inputs)
@@ -131,7 +131,7 @@ fn open_inputs<R: Read + Drop>(
 // The input at a place, whose header was taken.
 fn open_input<R: Read + Drop>(
     alloc: Global,
-    schema: &Schema,
+    form: &Form<'_>,
     header: &[u8],
     reader: R,
     place: usize,
@@ -139,7 +139,7 @@ fn open_input<R: Read + Drop>(
     ensures ok { IfOk result (TookHeader R.remaining header.now reader) }
     ensures err { IfErr result (FailsToOpen header.now place (R.remaining reader)) }
 {
-    let Ok(mut input) = Input::new(alloc, schema, reader) else {
+    let Ok(mut input) = Input::new(alloc, form, reader) else {
         return Err(MergeFault::Memory);
     };
     match input.take_header(header) {
@@ -162,8 +162,8 @@ fn all_used(alloc: Global, count: usize) -> Result<Vec<bool>, AllocError>
 // Merges the rows of inputs that took their first line, and writes the merged cube, whose header line waits on the desk.
 fn merge_rows<R: Read, W: Write>(
     alloc: Global,
-    given: &Schema,
-    wanted: &Schema,
+    given: &Form<'_>,
+    wanted: &Form<'_>,
     sources: &[Source],
     inputs: &mut [Input<R>],
     desk: &mut Desk,
@@ -195,8 +195,8 @@ fn merge_rows<R: Read, W: Write>(
 // false where no input has a row.
 fn put_next<R: Read>(
     alloc: Global,
-    given: &Schema,
-    wanted: &Schema,
+    given: &Form<'_>,
+    wanted: &Form<'_>,
     sources: &[Source],
     inputs: &mut [Input<R>],
     front: &mut Front,
@@ -229,8 +229,8 @@ fn put_next<R: Read>(
 // Puts the line of the merged row with the key of the input at a place, which is the least.
 fn put_row<R: Read>(
     alloc: Global,
-    given: &Schema,
-    wanted: &Schema,
+    given: &Form<'_>,
+    wanted: &Form<'_>,
     sources: &[Source],
     inputs: &[Input<R>],
     behind: &[bool],
@@ -271,7 +271,7 @@ fn put_row<R: Read>(
     Ok(())
 }
 
-// The row of an input, where it has a coordinate, as the rows of every schema have.
+// The row of an input, where it has a coordinate, as the rows of every form have.
 fn row_to_merge<R: Read>(input: &Input<R>) -> Option<&Row>
     ensures { IfSome result (λ row. (input.now.row ≡ Some row.now) × (1 ≤ length row.now.key.coords)) }
 {

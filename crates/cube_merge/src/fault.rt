@@ -12,7 +12,7 @@ pub enum InputFault {
     /// The reader failed.
     #[error("M3")]
     Read,
-    /// The first line isn't the header of the schema.
+    /// The first line isn't the header of the form.
     #[error("M4")]
     Header,
     /// A line isn't spelled as a printed cube spells its rows.
@@ -45,7 +45,7 @@ impl From<AllocError> for InputFault {
 pub enum MergeFault {
     /// Memory ran out.
     Memory,
-    /// The wanted schema has an aggregate that the given one's make no answer to.
+    /// The wanted form has an aggregate that the given one's make no answer to.
     Aggregates,
     /// An input, counted from 1, has a fault at a record, where the header is 1.
     Input {

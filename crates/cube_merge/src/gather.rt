@@ -1,23 +1,25 @@
 //! What the answers of parts make of the whole.
 ghost use Rattle.std.specs.Prelude.{◌≡◌, ◌≤◌, ◌<◌, ◌+◌, ◌^◌, ℕ, IfErr, IfOk, IfNone, IfSome, Some, get_or, FitsSigned};
 ghost use Rattle.std.specs.Int.{w128};
-ghost use Rattle.cube_core.specs.Answer.{values_held};
+ghost use Rattle.cube_core.specs.Answer.{numbers_held, values_held};
 ghost use Rattle.cube_core.specs.Merged.{IsMeanOf, IsVarianceOf, MakesAnswer, count_answered, number_in, squares_in, values_answered};
-ghost use Rattle.cube_core.specs.declared.aggregate.Agg.TheVariants.{Values};
+ghost use Rattle.cube_core.specs.declared.aggregate.Agg.TheVariants.{Texts, Values};
 ghost use Rattle.cube_core.specs.declared.aggregate.Answer.{Answer};
-ghost use Rattle.cube_merge.specs.Lawful.{AreListed, squares_answered, sum_answered};
+ghost use Rattle.cube_merge.specs.Lawful.{squares_answered, sum_answered};
 ghost use Rattle.cube_merge.specs.Made.{IsOrderly, IsUnmade, JoinsAnswer, without_values};
 ghost use Rattle.cube_merge.specs.Range.{IsInRange};
 
 use crate::fault::Unmade;
+use crate::texts::push_copies;
 use crate::total::Total;
-use cube_core::{Agg, Answer, Sequence, Squares, reduced, variance_from};
+use cube_core::{Agg, Answer, Sequence, Squares, Text, reduced, variance_from};
 use std::alloc::{AllocError, Global};
 
-/// What the answers to an aggregate make, which isn't `values(m)`; where a count, a sum or a sum of squares is too large for
-/// its type, the place of the answer with which it first is.
+/// What the answers to an aggregate make, which isn't that of all values or of all texts; where a count, a sum or a sum
+/// of squares is too large for its type, the place of the answer with which it first is.
 pub(crate) fn made_of(aggregate: &Agg, answers: &[Answer]) -> Result<Answer, Unmade>
-    requires { (m : ℕ) → aggregate.now ≡ Values m → ⊥ }
+    requires values { (m : ℕ) → aggregate.now ≡ Values m → ⊥ }
+    requires texts { (m : ℕ) → aggregate.now ≡ Texts m → ⊥ }
     ensures made { IfOk result (MakesAnswer aggregate.now answers.now) }
     ensures orderly { IfOk result IsOrderly }
     ensures fits { IfOk result (λ _. IsInRange aggregate.now answers.now) }
@@ -31,7 +33,7 @@ pub(crate) fn made_of(aggregate: &Agg, answers: &[Answer]) -> Result<Answer, Unm
         Agg::SumOfSquares(_) => squares_of(answers),
         Agg::Avg(_) | Agg::CountDistinct(_) | Agg::PercentileDisc { .. } => Ok(Answer::Null),
         Agg::VarPop(_) | Agg::VarSamp(_) => Ok(Answer::Null),
-        Agg::Values(_) => unreachable!(),
+        Agg::Values(_) | Agg::Texts(_) => unreachable!(),
     }
 }
 
@@ -261,14 +263,25 @@ fn squares_in(answer: &Answer) -> Option<Squares>
     Some(*squares)
 }
 
-/// The pairs of an answer; none where it lists no values.
-pub(crate) fn pairs_of(answer: &Answer) -> &[(i64, u64)]
-    ensures values { values_held result.now ≡ values_answered answer.now }
-    ensures listed { IsOrderly answer.now → AreListed result.now }
+/// The pairs of the values that an answer lists; None where it lists texts.
+pub(crate) fn pairs_of(answer: &Answer) -> Option<&[(i64, u64)]>
+    ensures { IfSome result (λ pairs. values_held pairs.now ≡ values_answered answer.now) }
 {
     match answer {
-        Answer::Values(pairs) => pairs.as_slice(),
-        _ => &[],
+        Answer::Values(pairs) => Some(pairs.as_slice()),
+        Answer::Texts(_) => None,
+        _ => Some(&[]),
+    }
+}
+
+/// The pairs of the texts that an answer lists; None where it lists values.
+pub(crate) fn texts_of(answer: &Answer) -> Option<&[(Text, u64)]>
+    ensures { IfSome result (λ held. numbers_held held.now ≡ values_answered answer.now) }
+{
+    match answer {
+        Answer::Texts(held) => Some(held.as_slice()),
+        Answer::Values(_) => None,
+        _ => Some(&[]),
     }
 }
 
@@ -291,16 +304,21 @@ pub(crate) fn copy_of(alloc: Global, answer: &Answer) -> Result<Answer, AllocErr
             let copy = Vec::from_slice(alloc, pairs.as_slice())?;
             Ok(Answer::Values(Sequence::from_vec(copy)))
         }
+        Answer::Texts(held) => {
+            let mut copy = Vec::new(alloc);
+            push_copies(alloc, held.as_slice(), &mut copy)?;
+            Ok(Answer::Texts(Sequence::from_vec(copy)))
+        }
         _ => Ok(without_values(answer)),
     }
 }
 
-/// A copy, but that null stands in place of values; it takes no memory.
+/// A copy, but that null stands in place of values and of texts; it takes no memory.
 pub(crate) fn without_values(answer: &Answer) -> Answer
     ensures { result ≡ without_values answer.now }
 {
     match answer {
-        Answer::Null | Answer::Values(_) => Answer::Null,
+        Answer::Null | Answer::Values(_) | Answer::Texts(_) => Answer::Null,
         Answer::Count(count) => Answer::Count(*count),
         Answer::Whole(number) => Answer::Whole(*number),
         Answer::Ratio { p, q } => Answer::Ratio { p: *p, q: *q },

@@ -11,7 +11,7 @@ use crate::fault::InputFault;
 use crate::lawful::is_total;
 use crate::places::places_of;
 use crate::read::{read_line, read_row};
-use cube_core::{Row, Schema};
+use cube_core::{Form, Row};
 use cube_lines::empty_row;
 use std::alloc::Global;
 use std::cmp::Ordering;
@@ -29,7 +29,7 @@ pub(crate) struct Input<R: Read> {
     row: Option<Row>,
     spare: Row,
     lines: u64,
-    // The places of the schema's aggregates.
+    // The places of the form's aggregates.
     places: Vec<usize>,
 }
 
@@ -47,13 +47,13 @@ impl<R: Read> Model for Input<R> {
 }
 
 impl<R: Read + Drop> Input<R> {
-    /// An input of what a reader gives, a cube of the schema, of which nothing is read.
-    pub(crate) fn new(alloc: Global, schema: &Schema, reader: R) -> Result<Input<R>, InputFault>
+    /// An input of what a reader gives, a cube of the form, of which nothing is read.
+    pub(crate) fn new(alloc: Global, form: &Form<'_>, reader: R) -> Result<Input<R>, InputFault>
         ensures left { IfOk result (λ input. input.left ≡ R.remaining reader) }
         ensures row { IfOk result (λ input. input.row ≡ None) }
         ensures lines { IfOk result (λ input. input.lines ≡ 0) }
     {
-        let places = places_of(alloc, schema.aggregates())?;
+        let places = places_of(alloc, form.aggregates())?;
         let Ok(reader) = BufReader::with_capacity(alloc, 65536, reader) else {
             return Err(InputFault::Memory);
         };
@@ -92,7 +92,7 @@ impl<R: Read> Input<R> {
         self.lines
     }
 
-    /// Takes the header line of a schema.
+    /// Takes the header line of a form.
     pub(crate) fn take_header(&mut self, header: &[u8]) -> Result<(), InputFault>
         ensures line { OnOk result (Consumes self.old.left self.new.left header.now) }
         ensures row { self.new.row ≡ None }
@@ -113,25 +113,25 @@ impl<R: Read> Input<R> {
     pub(crate) fn move_on(
         &mut self,
         alloc: Global,
-        schema: &Schema,
+        form: &Form<'_>,
         is_used: bool,
     ) -> Result<(), InputFault>
-        ensures ok { OnOk result (Moves schema.now is_used self.old self.new) }
+        ensures ok { OnOk result (Moves form.now is_used self.old self.new) }
         ensures err { IfErr result (λ fault. (is_used ≡ true)
-            × FailsToMove schema.now self.old fault self.new.lines) }
+            × FailsToMove form.now self.old fault self.new.lines) }
     {
         if is_used {
-            return self.advance(alloc, schema);
+            return self.advance(alloc, form);
         }
         Ok(())
     }
 
-    fn advance(&mut self, alloc: Global, schema: &Schema) -> Result<(), InputFault>
-        ensures ok { OnOk result (TakesLine schema.now self.old self.new) }
-        ensures err { IfErr result (λ fault. FailsToMove schema.now self.old fault self.new.lines) }
+    fn advance(&mut self, alloc: Global, form: &Form<'_>) -> Result<(), InputFault>
+        ensures ok { OnOk result (TakesLine form.now self.old self.new) }
+        ensures err { IfErr result (λ fault. FailsToMove form.now self.old fault self.new.lines) }
     {
         let before = self.row.take();
-        let taken = self.take_line(alloc, schema, &before);
+        let taken = self.take_line(alloc, form, &before);
         put_spare(&mut self.spare, before);
         taken
     }
@@ -140,13 +140,13 @@ impl<R: Read> Input<R> {
     fn take_line(
         &mut self,
         alloc: Global,
-        schema: &Schema,
+        form: &Form<'_>,
         before: &Option<Row>,
     ) -> Result<(), InputFault>
         requires { self.old.row ≡ None }
-        ensures ok { OnOk result (TakesLine schema.now
+        ensures ok { OnOk result (TakesLine form.now
             (record { left = self.old.left; row = before.now; lines = self.old.lines }) self.new) }
-        ensures err { IfErr result (λ fault. FailsToMove schema.now
+        ensures err { IfErr result (λ fault. FailsToMove form.now
             (record { left = self.old.left; row = before.now; lines = self.old.lines }) fault self.new.lines) }
     {
         let Some(lines) = self.lines.checked_add(1) else {
@@ -155,14 +155,14 @@ impl<R: Read> Input<R> {
         self.lines = lines;
         read_line(&mut self.reader, &mut self.line)?;
         if self.line.is_empty() {
-            if !is_complete(schema, before) {
+            if !is_complete(form, before) {
                 return Err(InputFault::Incomplete);
             }
             return Ok(());
         }
         let spare = mem::replace(&mut self.spare, empty_row(alloc));
         let places = self.places.as_slice();
-        let Some((row, key_len)) = read_row(alloc, schema, places, &mut self.line, spare)? else {
+        let Some((row, key_len)) = read_row(alloc, form, places, &mut self.line, spare)? else {
             return Err(InputFault::Line);
         };
         self.key_len = key_len;
@@ -184,12 +184,12 @@ fn put_spare(spare: &mut Row, row: Option<Row>)
 }
 
 // Whether a row may be the last of a cube: it is the grand total, where that is kept.
-fn is_complete(schema: &Schema, row: &Option<Row>) -> bool
-    ensures complete { result ≡ true → MayEnd schema.now row.now }
-    ensures lacks { result ≡ false → Contains schema.now.grouping_sets 0
+fn is_complete(form: &Form<'_>, row: &Option<Row>) -> bool
+    ensures complete { result ≡ true → MayEnd form.now row.now }
+    ensures lacks { result ≡ false → Contains form.now.grouping_sets 0
         × IfSome row.now (λ row. list_all is_all_coord row.key.coords ≡ false) }
 {
-    let keeps_total = schema.grouping_sets().contains(&0);
+    let keeps_total = form.grouping_sets().contains(&0);
     match row {
         Some(row) => !keeps_total || is_total(row),
         None => !keeps_total,

@@ -2,9 +2,10 @@
 ghost use Rattle.std.specs.Prelude.{◌≡◌, ◌<◌, FitsSigned, true, unsigned_abs};
 ghost use Rattle.std.specs.Int.{IsGcd, w64};
 ghost use Rattle.std.specs.List.{AllByRecursion, AllZip};
-ghost use Rattle.cube_merge.specs.Lawful.{AreListed, IsCount, IsFraction, IsNumber, IsOfKind, IsSquares, IsValue, IsVarianceFraction, ListsValues};
+ghost use Rattle.cube_merge.specs.Lawful.{AreListed, AreTextsListed, IsCount, IsFraction, IsNumber, IsOfKind, IsSquares, IsValue, IsVarianceFraction, ListsTexts, ListsValues};
 
-use cube_core::{Agg, Answer, is_reduced, reduced};
+use crate::texts;
+use cube_core::{Agg, Answer, Text, is_reduced, reduced};
 use cube_values::held;
 
 /// Whether these are answers to the aggregates, each of its kind.
@@ -33,6 +34,7 @@ fn is_of_kind(aggregate: &Agg, answer: &Answer) -> bool
         Agg::SumOfSquares(_) => is_squares(answer),
         Agg::VarPop(_) | Agg::VarSamp(_) => is_variance_fraction(answer),
         Agg::Values(_) => lists_values(answer),
+        Agg::Texts(_) => lists_texts(answer),
     }
 }
 
@@ -49,7 +51,8 @@ fn is_count(answer: &Answer) -> bool
         | Answer::Ratio { .. }
         | Answer::Squares(_)
         | Answer::Variance { .. }
-        | Answer::Values(_) => false,
+        | Answer::Values(_)
+        | Answer::Texts(_) => false,
     }
 }
 
@@ -66,7 +69,8 @@ fn is_number(answer: &Answer) -> bool
         | Answer::Ratio { .. }
         | Answer::Squares(_)
         | Answer::Variance { .. }
-        | Answer::Values(_) => false,
+        | Answer::Values(_)
+        | Answer::Texts(_) => false,
     }
 }
 
@@ -83,7 +87,8 @@ fn is_value(answer: &Answer) -> bool
         | Answer::Ratio { .. }
         | Answer::Squares(_)
         | Answer::Variance { .. }
-        | Answer::Values(_) => false,
+        | Answer::Values(_)
+        | Answer::Texts(_) => false,
     }
 }
 
@@ -97,7 +102,8 @@ fn is_fraction(answer: &Answer) -> bool
         | Answer::Whole(_)
         | Answer::Squares(_)
         | Answer::Variance { .. }
-        | Answer::Values(_) => false,
+        | Answer::Values(_)
+        | Answer::Texts(_) => false,
     }
 }
 
@@ -124,7 +130,8 @@ fn is_squares(answer: &Answer) -> bool
         | Answer::Whole(_)
         | Answer::Ratio { .. }
         | Answer::Variance { .. }
-        | Answer::Values(_) => false,
+        | Answer::Values(_)
+        | Answer::Texts(_) => false,
     }
 }
 
@@ -138,7 +145,8 @@ fn is_variance_fraction(answer: &Answer) -> bool
         | Answer::Whole(_)
         | Answer::Ratio { .. }
         | Answer::Squares(_)
-        | Answer::Values(_) => false,
+        | Answer::Values(_)
+        | Answer::Texts(_) => false,
     }
 }
 
@@ -153,8 +161,31 @@ fn lists_values(answer: &Answer) -> bool
         | Answer::Whole(_)
         | Answer::Ratio { .. }
         | Answer::Squares(_)
-        | Answer::Variance { .. } => false,
+        | Answer::Variance { .. }
+        | Answer::Texts(_) => false,
     }
+}
+
+// Whether an answer lists texts: in the order of bytes, each held once at least, and no more than 64 bits can count.
+fn lists_texts(answer: &Answer) -> bool
+    ensures { result ≡ true → ListsTexts answer.now }
+{
+    match answer {
+        Answer::Texts(held) => are_texts_listed(held.as_slice()),
+        Answer::Null
+        | Answer::Count(_)
+        | Answer::Whole(_)
+        | Answer::Ratio { .. }
+        | Answer::Squares(_)
+        | Answer::Variance { .. }
+        | Answer::Values(_) => false,
+    }
+}
+
+fn are_texts_listed(held: &[(Text, u64)]) -> bool
+    ensures { result ≡ true → AreTextsListed held.now }
+{
+    texts::are_in_order(held) && texts::count_of(held).is_some()
 }
 
 fn are_listed(pairs: &[(i64, u64)]) -> bool

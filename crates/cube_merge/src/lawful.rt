@@ -2,42 +2,50 @@
 ghost use Rattle.std.specs.Prelude.{◌≡◌, length, true};
 ghost use Rattle.std.specs.List.{AllZip, list_all};
 ghost use Rattle.cube_core.specs.GroupingSet.{is_all_coord};
-ghost use Rattle.cube_core.specs.Layout.{number_of_dimensions};
+ghost use Rattle.cube_core.specs.Layout.{keeps, number_of_dimensions};
 ghost use Rattle.cube_merge.specs.Lawful.{AreInOrder, AreNoneTogether, CountsFacts, IsAtLeast, IsInOrder, IsLawfulRow, IsNoneAmong, IsOfKind, IsRightRow};
 ghost use Rattle.cube_merge.specs.Lawful.{IsWithin, TellsNone, has_no_null_text, is_no_null_text, measure_of, tells_no_value, tells_none};
 
 use crate::consistent::is_row_consistent;
 use crate::kind::are_of_kind;
-use cube_core::{Agg, Answer, Coord, Key, Row, Schema};
+use cube_core::{Agg, Answer, Coord, Form, Key, Row};
 
-/// Whether a printed cube of the schema can have this row, as far as the row alone tells: that it is a row of the schema, its
-/// grouping set, and that its answers don't gainsay one another. The places are those of the schema's aggregates.
-pub(crate) fn is_right(schema: &Schema, places: &[usize], row: &Row) -> bool
-    ensures { result ≡ true → IsRightRow schema.now row.now }
+/// Whether a printed cube of the form can have this row, as far as the row alone tells: that it is a row of the schema, its
+/// grouping set, and that its answers don't gainsay one another. The places are those of the form's aggregates.
+pub(crate) fn is_right(form: &Form<'_>, places: &[usize], row: &Row) -> bool
+    ensures { result ≡ true → IsRightRow form.now row.now }
 {
-    is_lawful(schema, row) && is_row_consistent(schema, places, row)
+    is_lawful(form, row) && is_row_consistent(form, places, row)
 }
 
-fn is_lawful(schema: &Schema, row: &Row) -> bool
-    ensures { result ≡ true → IsLawfulRow schema.now row.now }
+fn is_lawful(form: &Form<'_>, row: &Row) -> bool
+    ensures { result ≡ true → IsLawfulRow form.now row.now }
 {
-    if !is_row_of(schema, row) {
+    if !is_row_of(form, row) {
         return false;
     }
-    schema.keeps(&row.key)
-        && is_row_in_order(schema, row)
-        && is_row_none_together(schema, row)
-        && (is_total(row) || count_facts(schema.aggregates(), row.answers.as_slice()))
+    keeps(form, &row.key)
+        && is_row_in_order(form, row)
+        && is_row_none_together(form, row)
+        && (is_total(row) || count_facts(form.aggregates(), row.answers.as_slice()))
 }
 
-fn is_row_of(schema: &Schema, row: &Row) -> bool
-    ensures coords { result ≡ true → length row.now.key.coords ≡ number_of_dimensions schema.now }
-    ensures told { result ≡ true → has_no_null_text row.now.key ≡ true }
-    ensures answers { result ≡ true → AllZip IsOfKind schema.now.aggregates row.now.answers }
+// Whether the schema keeps the grouping set of a key, which has a coordinate for each dimension.
+fn keeps(form: &Form<'_>, key: &Key) -> bool
+    requires { length key.now.coords ≡ number_of_dimensions form.now }
+    ensures { result ≡ keeps form.now key.now }
 {
-    row.key.coords.len() == schema.number_of_dimensions()
+    form.schema().keeps(key)
+}
+
+fn is_row_of(form: &Form<'_>, row: &Row) -> bool
+    ensures coords { result ≡ true → length row.now.key.coords ≡ number_of_dimensions form.now }
+    ensures told { result ≡ true → has_no_null_text row.now.key ≡ true }
+    ensures answers { result ≡ true → AllZip IsOfKind form.now.aggregates row.now.answers }
+{
+    row.key.coords.len() == form.number_of_dimensions()
         && has_no_null_text(&row.key)
-        && are_of_kind(schema.aggregates(), row.answers.as_slice())
+        && are_of_kind(form.aggregates(), row.answers.as_slice())
 }
 
 fn has_no_null_text(key: &Key) -> bool
@@ -101,10 +109,10 @@ fn counts_facts(aggregate: &Agg, answer: &Answer) -> bool
 
 // Whether the answers of a measure in a row are null together, and exactly where its count is 0, but for the variance of
 // a sample.
-fn is_row_none_together(schema: &Schema, row: &Row) -> bool
-    ensures { result ≡ true → AreNoneTogether schema.now.aggregates row.now.answers }
+fn is_row_none_together(form: &Form<'_>, row: &Row) -> bool
+    ensures { result ≡ true → AreNoneTogether form.now.aggregates row.now.answers }
 {
-    are_none_together(schema.aggregates(), row.answers.as_slice())
+    are_none_together(form.aggregates(), row.answers.as_slice())
 }
 
 fn are_none_together(aggregates: &[Agg], answers: &[Answer]) -> bool
@@ -180,6 +188,7 @@ pub(crate) fn measure_of(aggregate: &Agg) -> Option<usize>
         | Agg::VarPop(measure)
         | Agg::VarSamp(measure)
         | Agg::Values(measure)
+        | Agg::Texts(measure)
         | Agg::PercentileDisc { measure, .. } => Some(*measure),
     }
 }
@@ -192,6 +201,7 @@ fn tells_none(answer: &Answer) -> bool
         Answer::Null => true,
         Answer::Count(count) => *count == 0,
         Answer::Values(pairs) => pairs.is_empty(),
+        Answer::Texts(held) => held.is_empty(),
         Answer::Whole(_) | Answer::Ratio { .. } | Answer::Squares(_) | Answer::Variance { .. } => {
             false
         }
@@ -199,10 +209,10 @@ fn tells_none(answer: &Answer) -> bool
 }
 
 // Whether no least value of a row is above the greatest value of its measure.
-fn is_row_in_order(schema: &Schema, row: &Row) -> bool
-    ensures { result ≡ true → AreInOrder schema.now.aggregates row.now.answers }
+fn is_row_in_order(form: &Form<'_>, row: &Row) -> bool
+    ensures { result ≡ true → AreInOrder form.now.aggregates row.now.answers }
 {
-    are_in_order(schema.aggregates(), row.answers.as_slice())
+    are_in_order(form.aggregates(), row.answers.as_slice())
 }
 
 fn are_in_order(aggregates: &[Agg], answers: &[Answer]) -> bool

@@ -13,6 +13,7 @@ mod places;
 mod read;
 mod source;
 mod step;
+mod texts;
 mod total;
 mod values;
 

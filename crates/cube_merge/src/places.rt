@@ -30,7 +30,8 @@ pub(crate) fn place_in(places: &[usize], aggregate: &Agg) -> usize
     }
 }
 
-// The number of an aggregate; those of the four measures of a schema differ, and those of percentiles mostly.
+// The number of an aggregate; those of the four measures of a schema differ, and those of percentiles mostly. Of a
+// measure values and texts have one number, as no schema has both.
 fn number_of(aggregate: &Agg) -> usize
     ensures { result ≡ number_of aggregate.now }
 {
@@ -45,7 +46,7 @@ fn number_of(aggregate: &Agg) -> usize
         Agg::SumOfSquares(measure) => *measure % 4 * 10 + 7,
         Agg::VarPop(measure) => *measure % 4 * 10 + 8,
         Agg::VarSamp(measure) => *measure % 4 * 10 + 9,
-        Agg::Values(measure) => *measure % 4 * 10 + 10,
+        Agg::Values(measure) | Agg::Texts(measure) => *measure % 4 * 10 + 10,
         Agg::PercentileDisc { measure, units, .. } => {
             *measure % 4 * 16 + usize::from(*units) % 16 + 41
         }

@@ -11,35 +11,35 @@ ghost use Rattle.cube_merge.specs.NextLine.{IsNextLine, is_quoted_after, is_quot
 
 use crate::fault::InputFault;
 use crate::lawful::is_right;
-use cube_core::{Row, Schema};
+use cube_core::{Form, Row};
 use cube_lines::parse_row;
 use std::alloc::{AllocError, Global};
 use std::io;
 use std::io::{BufRead, BufReader, ErrorKind, Read};
 
 /// The row whose printed line a line is, in the memory of a spare row, and how many bytes of the line show its key; None
-/// where it is that of no right row. The places are those of the schema's aggregates. The line gets a comma in place of its
+/// where it is that of no right row. The places are those of the form's aggregates. The line gets a comma in place of its
 /// end.
 pub(crate) fn read_row(
     alloc: Global,
-    schema: &Schema,
+    form: &Form<'_>,
     places: &[usize],
     line: &mut Vec<u8>,
     spare: Row,
 ) -> Result<Option<(Row, usize)>, AllocError>
-    ensures line { IfOk result (λ found. IfSome found (λ read. row_line schema.now read.0 ≡ line.old.items)) }
-    ensures of_schema { IfOk result (λ found. IfSome found (λ read. IsRightRow schema.now read.0)) }
+    ensures line { IfOk result (λ found. IfSome found (λ read. row_line form.now read.0 ≡ line.old.items)) }
+    ensures of_schema { IfOk result (λ found. IfSome found (λ read. IsRightRow form.now read.0)) }
     ensures key { IfOk result (λ found. IfSome found (λ read.
         take read.1 line.new.items ≡ key_parts read.0.key)) }
 {
-    let _ = schema.number_of_dimensions();
+    let _ = form.cube_dimensions();
     if !end_by_comma(line)? {
         return Ok(None);
     }
-    let Some((row, key_len)) = parse_row(alloc, schema, line.as_slice(), spare)? else {
+    let Some((row, key_len)) = parse_row(alloc, form, line.as_slice(), spare)? else {
         return Ok(None);
     };
-    if !is_right(schema, places, &row) {
+    if !is_right(form, places, &row) {
         return Ok(None);
     }
     Ok(Some((row, key_len)))

@@ -1,16 +1,19 @@
 //! Where the answers to the wanted aggregates come from.
-ghost use Rattle.std.specs.Prelude.{◌≡◌, All, IfNone, IfOk, IfSome, Some, slice_get, true, false, List};
+ghost use Rattle.std.specs.Prelude.{◌≡◌, All, IfNone, IfOk, IfSome, Some, slice_get, true, false, ℕ, ℤ, List};
 ghost use Rattle.std.specs.List.{AllZip, list_all};
-ghost use Rattle.cube_core.specs.Answer.{IsDistinctCount, IsPercentile};
+ghost use Rattle.cube_core.specs.Answer.{IsDistinctCount, IsPercentile, values_held};
 ghost use Rattle.cube_core.specs.Layout.{is_level};
 ghost use Rattle.cube_core.specs.Merged.{IsMerged, values_answered};
 ghost use Rattle.cube_merge.specs.Made.{AreMadeOfRows, AreOrderly, IsOrderly};
-ghost use Rattle.cube_merge.specs.Source.{HasLevel, IsSourceOf, IsVarianceSource, can_be_made, can_make_variance};
+ghost use Rattle.cube_merge.specs.Source.{HasLevel, IsDistinctSource, IsSourceOf, IsVarianceSource, can_be_made, can_make_variance, has_all};
 ghost use Rattle.cube_core.specs.PartialForm.{has_aggregate};
 ghost use Rattle.cube_core.specs.declared.aggregate.Agg.{Agg};
+ghost use Rattle.cube_core.specs.declared.aggregate.Answer.TheVariants.{Values};
 ghost use Rattle.cube_core.specs.declared.key.Row.{Row};
+ghost use Rattle.cube_merge.specs.declared.source.Source.TheVariants.{Distinct};
 
-use crate::gather::{answer_or, copy_of, mean_of, pairs_of, variance_of};
+use crate::gather::{answer_or, copy_of, mean_of, variance_of};
+use crate::texts;
 use crate::values::{distinct_count_of, percentile_of};
 use cube_core::{Agg, Answer};
 use std::alloc::{AllocError, Global};
@@ -32,7 +35,7 @@ pub(crate) enum Source {
         sums: usize,
         squares: usize,
     },
-    /// How many different values those at a place make.
+    /// How many different values or texts those at a place make.
     Distinct {
         values: usize,
     },
@@ -107,9 +110,10 @@ fn source_of(given: &[Agg], wanted: &Agg) -> Option<Source>
         | Agg::Min(_)
         | Agg::Max(_)
         | Agg::SumOfSquares(_)
-        | Agg::Values(_) => Some(Source::Made(place_of(given, wanted)?)),
+        | Agg::Values(_)
+        | Agg::Texts(_) => Some(Source::Made(place_of(given, wanted)?)),
         Agg::CountDistinct(measure) => Some(Source::Distinct {
-            values: place_of(given, &Agg::Values(*measure))?,
+            values: place_of_all(given, *measure)?,
         }),
         Agg::PercentileDisc {
             measure,
@@ -133,6 +137,17 @@ fn variance_source(given: &[Agg], measure: usize, is_sample: bool) -> Option<Sou
         sums: place_of(given, &Agg::Sum(measure))?,
         squares: place_of(given, &Agg::SumOfSquares(measure))?,
     })
+}
+
+// The first place where all values of a measure stand, or all texts of it.
+fn place_of_all(given: &[Agg], measure: usize) -> Option<usize>
+    ensures some { IfSome result (λ place. IsDistinctSource given.now measure (Distinct place)) }
+    ensures none { IfNone result (has_all given.now measure ≡ false) }
+{
+    match place_of(given, &Agg::Values(measure)) {
+        Some(place) => Some(place),
+        None => place_of(given, &Agg::Texts(measure)),
+    }
 }
 
 /// The first place where an aggregate stands.
@@ -186,20 +201,28 @@ pub(crate) fn answer_from(
     }
 }
 
-// How many different values an answer lists.
+// How many different values or texts an answer lists.
 fn distinct_count_at(answer: &Answer) -> Answer
     requires { IsOrderly answer.now }
     ensures { IsDistinctCount (values_answered answer.now) result }
 {
-    distinct_count_of(pairs_of(answer))
+    match answer {
+        Answer::Values(pairs) => distinct_count_of(pairs.as_slice()),
+        Answer::Texts(held) => texts::distinct_count_of(held.as_slice()),
+        _ => Answer::Count(0),
+    }
 }
 
-// The percentile of the values that an answer lists; null where its level is above 1.
+// The percentile of the values that an answer lists; null where it lists none, or its level is above 1.
 fn percentile_at(units: u16, places: u8, answer: &Answer) -> Answer
     requires { IsOrderly answer.now }
-    ensures { is_level units places ≡ true → IsPercentile units places (values_answered answer.now) result }
+    ensures { (held : List (ℤ × ℕ)) → answer.now ≡ Values held → is_level units places ≡ true →
+        IsPercentile units places (values_held held) result }
 {
-    match percentile_of(units, places, pairs_of(answer)) {
+    let Answer::Values(pairs) = answer else {
+        return Answer::Null;
+    };
+    match percentile_of(units, places, pairs.as_slice()) {
         Some(percentile) => percentile,
         None => Answer::Null,
     }

@@ -1,10 +1,10 @@
 //! One step of a merge: the rows with the least key make one more row.
-ghost use Rattle.std.specs.Prelude.{◌≡◌, ◌≤◌, ◌<◌, ◌+◌, ◌++◌, ◌^◌, ℕ, List, IfErr, IfOk, MatchOption, OnOk, length, map, get_or, option_map, option_to_list, true};
+ghost use Rattle.std.specs.Prelude.{◌≡◌, ◌≤◌, ◌<◌, ◌+◌, ◌++◌, ◌^◌, ℕ, List, IfErr, IfOk, IfSome, MatchOption, OnOk, length, map, get_or, option_map, option_to_list, true};
 ghost use Rattle.std.specs.List.{AllZip};
 ghost use Rattle.std.specs.Ordering.{is_eq};
 ghost use Rattle.cube_core.specs.Order.{key_cmp};
 ghost use Rattle.cube_core.specs.declared.aggregate.Agg.{Agg};
-ghost use Rattle.cube_core.specs.Answer.{AreValues, values_held};
+ghost use Rattle.cube_core.specs.Answer.{AreTexts, AreValues, numbers_held, values_held};
 ghost use Rattle.cube_core.specs.Merged.{IsMerged, MakesAnswer, column, values_among};
 ghost use Rattle.cube_core.specs.declared.key.Row.{Row};
 ghost use Rattle.cube_merge.specs.Made.{AreMadeOfRows, AreOrderly, IsOrderly, IsUnmade, without_values};
@@ -17,10 +17,11 @@ ghost use Rattle.cube_merge.specs.Merging.{AllMove, AreUses, IsBelow, IsNotBelow
 
 use crate::fault::{InputFault, MergeFault, Unmade};
 use crate::front::is_behind;
-use crate::gather::{answer_or, made_of, pairs_of, without_values};
+use crate::gather::{answer_or, made_of, pairs_of, texts_of, without_values};
 use crate::input::Input;
 use crate::source::{Source, answer_from};
-use cube_core::{Agg, Answer, Key, Row, Schema, Sequence};
+use crate::texts;
+use cube_core::{Agg, Answer, Form, Key, Row, Sequence, Text};
 use cube_values::held;
 use std::alloc::{AllocError, Global};
 use std::cmp::Ordering;
@@ -178,6 +179,7 @@ fn make_answer<R: Read>(
 {
     match aggregate {
         Agg::Values(_) => joined_values(alloc, inputs, places, at),
+        Agg::Texts(_) => joined_texts(alloc, inputs, places, at),
         _ => {
             put_column(inputs, places, at, answers)?;
             made_of(aggregate, answers.as_slice())
@@ -217,7 +219,9 @@ fn joined_pairs<R: Read>(
     let mut joined = Vec::new(alloc);
     let mut count: u64 = 0;
     for place in 0..places.len() {
-        let pairs = pairs_at(row_at(inputs, places[place]), at);
+        let Some(pairs) = pairs_at(row_at(inputs, places[place]), at) else {
+            return Err(Unmade::Memory);
+        };
         let Some(more) = count_with(count, pairs) else {
             return Err(Unmade::TooLarge(place));
         };
@@ -227,16 +231,18 @@ fn joined_pairs<R: Read>(
     Ok(joined)
 }
 
-// The pairs of the answer at a place of a row, where there is a row.
-fn pairs_at(row: Option<&Row>, at: usize) -> &[(i64, u64)]
-    ensures { values_held result.now ≡ values_among (column at (option_to_list (option_map (λ row. row.now) row.entry))) }
+// The pairs of the answer at a place of a row, where there is a row; None where it lists texts, as no answer to values
+// does.
+fn pairs_at(row: Option<&Row>, at: usize) -> Option<&[(i64, u64)]>
+    ensures { IfSome result (λ pairs.
+        values_held pairs.now ≡ values_among (column at (option_to_list (option_map (λ row. row.now) row.entry)))) }
 {
     let Some(row) = row else {
-        return &[];
+        return Some(&[]);
     };
     match row.answers.as_slice().get(at) {
         Some(answer) => pairs_of(answer),
-        None => &[],
+        None => Some(&[]),
     }
 }
 
@@ -248,8 +254,68 @@ fn count_with(count: u64, pairs: &[(i64, u64)]) -> Option<u64>
     count.checked_add(held::count_of(pairs)?)
 }
 
-// Puts the answers at a place of the rows of the inputs at these places, with null in place of values, in place of what the
-// list holds.
+// The texts that the answers at a place of the rows of the inputs at these places list, put together in order.
+fn joined_texts<R: Read>(
+    alloc: Global,
+    inputs: &[Input<R>],
+    places: &[usize],
+    at: usize,
+) -> Result<Answer, Unmade>
+    ensures made { IfOk result (AreTexts (values_among (column at (rows_of inputs.now places.now)))) }
+    ensures orderly { IfOk result IsOrderly }
+    ensures fits { IfOk result (λ _.
+        IsInRange (Agg.Texts 0) (column at (rows_of inputs.now places.now))) }
+    ensures err { IfErr result (IsUnmade (Agg.Texts 0) (column at (rows_of inputs.now places.now))) }
+{
+    let copies = joined_copies(alloc, inputs, places, at)?;
+    let held = texts::in_order(alloc, copies)?;
+    Ok(Answer::Texts(Sequence::from_vec(held)))
+}
+
+// Copies of the pairs of these answers, one after another.
+fn joined_copies<R: Read>(
+    alloc: Global,
+    inputs: &[Input<R>],
+    places: &[usize],
+    at: usize,
+) -> Result<Vec<(Text, u64)>, Unmade>
+    ensures texts { IfOk result (λ copies.
+        numbers_held copies.items ≡ values_among (column at (rows_of inputs.now places.now))) }
+    ensures fits { IfOk result (λ copies. length (numbers_held copies.items) < 2 ^ 64) }
+    ensures err { IfErr result (IsUnmade (Agg.Texts 0) (column at (rows_of inputs.now places.now))) }
+{
+    let mut joined = Vec::new(alloc);
+    let mut count: u64 = 0;
+    for place in 0..places.len() {
+        let Some(held) = texts_at(row_at(inputs, places[place]), at) else {
+            return Err(Unmade::Memory);
+        };
+        let Some(more) = texts::count_with(count, held) else {
+            return Err(Unmade::TooLarge(place));
+        };
+        count = more;
+        texts::push_copies(alloc, held, &mut joined)?;
+    }
+    Ok(joined)
+}
+
+// The texts of the answer at a place of a row, where there is a row; None where it lists values, as no answer to texts
+// does.
+fn texts_at(row: Option<&Row>, at: usize) -> Option<&[(Text, u64)]>
+    ensures { IfSome result (λ held.
+        numbers_held held.now ≡ values_among (column at (option_to_list (option_map (λ row. row.now) row.entry)))) }
+{
+    let Some(row) = row else {
+        return Some(&[]);
+    };
+    match row.answers.as_slice().get(at) {
+        Some(answer) => texts_of(answer),
+        None => Some(&[]),
+    }
+}
+
+// Puts the answers at a place of the rows of the inputs at these places, with null in place of values and of texts, in
+// place of what the list holds.
 fn put_column<R: Read>(
     inputs: &[Input<R>],
     places: &[usize],
@@ -266,7 +332,7 @@ fn put_column<R: Read>(
     Ok(())
 }
 
-// Adds the answer of a row at a place, with null in place of values, where there is a row.
+// Adds the answer of a row at a place, with null in place of values and of texts, where there is a row.
 fn push_answer(answers: &mut Vec<Answer>, row: Option<&Row>, at: usize) -> Result<(), AllocError>
     ensures { OnOk result (answers.new.items ≡ answers.old.items
         ++ map without_values (column at (option_to_list (option_map (λ row. row.now) row.entry)))) }
@@ -321,16 +387,16 @@ pub(crate) fn put_answers(
 /// Takes the next line of each input whose line was used, inputs ascending.
 pub(crate) fn move_inputs<R: Read>(
     alloc: Global,
-    schema: &Schema,
+    form: &Form<'_>,
     inputs: &mut [Input<R>],
     used: &[bool],
 ) -> Result<(), MergeFault>
     requires { length used.now ≡ length inputs.old }
-    ensures ok { OnOk result (AllMove schema.now used.now inputs.old inputs.new) }
-    ensures err { IfErr result (FailsToMoveAll schema.now used.now inputs.old) }
+    ensures ok { OnOk result (AllMove form.now used.now inputs.old inputs.new) }
+    ensures err { IfErr result (FailsToMoveAll form.now used.now inputs.old) }
 {
     for place in 0..inputs.len() {
-        if let Err(fault) = inputs[place].move_on(alloc, schema, used[place]) {
+        if let Err(fault) = inputs[place].move_on(alloc, form, used[place]) {
             return Err(fault_of(fault, place, inputs[place].lines()));
         }
     }

@@ -24,14 +24,14 @@ pub(crate) fn is_answer_of_values(aggregate: &Agg, listed: &[(i64, u64)], answer
     }
 }
 
-// The answer to an aggregate whose measure has these values; None of `count(*)`, of the values themselves, and of a
-// percentile whose level is above 1 or has more than four digits behind the point.
+// The answer to an aggregate whose measure has these values; None of `count(*)`, of the values themselves, of texts, and
+// of a percentile whose level is above 1 or has more than four digits behind the point.
 fn answer_of_values(aggregate: &Agg, listed: &[(i64, u64)]) -> Option<Answer>
     requires { AreListed listed.now }
     ensures { IfSome result (IsAnswerOf (values_held listed.now) aggregate.now) }
 {
     match aggregate {
-        Agg::CountAll | Agg::Values(_) => None,
+        Agg::CountAll | Agg::Values(_) | Agg::Texts(_) => None,
         Agg::Count(_) => Some(Answer::Count(count_of_values(listed))),
         Agg::Sum(_) => Some(sum_of_values(listed)),
         Agg::Min(_) => Some(least_of_values(listed)),

@@ -15,7 +15,6 @@ use Rattle.cube_core.specs.Layout.{Layout}
 use Rattle.cube_core.specs.Text.{answer_texts, coord_text, digits_of_answers, grouping_text}
 use Rattle.cube_cells.specs.BottomUp.{TakesAll, under_keys}
 use Rattle.cube_cells.specs.Codes.{Dictionaries, all_code, coords_at, kept_codes, key_at}
-use Rattle.cube_cells.specs.Cube.{Lattice}
 use Rattle.cube_cells.specs.Levels.{mask_of_codes}
 use Rattle.cube_cells.specs.Tally.{Tally}
 use Rattle.cube_cells.specs.Walk.{key_in}
@@ -29,6 +28,7 @@ use Rattle.cube_text.specs.Brief.{rows_in, rows_of, rows_under, rows_with}
 use Rattle.cube_text.specs.Kept.{AreNextTexts, lines_of}
 use Rattle.cube_text.specs.Rows.{line_with}
 use Rattle.cube_text.specs.Shown.{AreShown}
+use Rattle.cube_text.specs.Telling.{ToldCells}
 use Rattle.cube_text.specs.declared.brief.BriefGroup.{BriefGroup}
 use Rattle.cube_text.specs.declared.shown.Shown.{Shown}
 
@@ -163,15 +163,15 @@ brief_text-piece dictionaries pieces i start old new inside so_far adds =
     (sym (flat_map-next (λ (rows : Brief). rows) pieces i [] inside)))
 
 -- the line of a row that shows the answers of a cell
-pub brief_line-IsEnding : (s : Layout) (dictionaries : Dictionaries) (codes : Codes) (cell : Tally) (ending : List ℕ)
-    (is : IsEnding s cell ending) → 1 ≤ length dictionaries
-    → brief_line dictionaries (codes, ending) ≡ line_with (digits_of_answers s)
-    (record { key = key_at dictionaries codes.codes; answers = is.answers })
-brief_line-IsEnding s dictionaries codes cell ending is some =
+pub brief_line-IsEnding : (form : Layout) (texts : List (List ℕ)) (dictionaries : Dictionaries) (codes : Codes)
+    (cell : Tally) (ending : List ℕ) (is : IsEnding form texts cell ending) → 1 ≤ length dictionaries
+    → brief_line dictionaries (codes, ending) ≡ line_with (digits_of_answers form)
+    (record { key = key_at dictionaries codes.codes; answers = is.told })
+brief_line-IsEnding form texts dictionaries codes cell ending is some =
     let coords = coords_at dictionaries codes.codes in
     let a = map coord_text coords in
     let b = map grouping_text coords in
-    let c = answer_texts (digits_of_answers s) is.answers in
+    let c = answer_texts (digits_of_answers form) is.told in
     let key = key_parts (key_at dictionaries codes.codes) in
     let long : length coords ≡ length dictionaries = length-coords_at dictionaries codes.codes in
     EndsLine-keyed a b c [] key key (key ++ parts c) (key ++ ending)
@@ -227,22 +227,22 @@ AreNextTexts-made dictionaries shown pieces count texts made within are long eac
 
 -- ---- cells
 -- the rows of a cell under each of some keys
-pub TakesAll-rows_under : (finest : Lattice) (cell : Tally) (keys : List Codes) (ending : List ℕ) (rows : Brief)
-    (old new : RowsOver) → IsEnding finest.schema cell ending → old ≡ record { finest = finest; rows = rows }
-    → new ≡ record { finest = finest; rows = rows ++ rows_under ending keys }
+pub TakesAll-rows_under : (t : ToldCells) (cell : Tally) (keys : List Codes) (ending : List ℕ) (rows : Brief)
+    (old new : RowsOver) → IsEnding t.form t.texts cell ending → old ≡ record { cells = t; rows = rows }
+    → new ≡ record { cells = t; rows = rows ++ rows_under ending keys }
     → TakesAll TakesRow old (under_keys cell keys) new
-TakesAll-rows_under finest cell [] ending rows old new is old_is new_is =
-    new_is ∙ ap (λ (l : Brief). record { finest = finest; rows = l }) (append-nil rows) ∙ sym old_is
-TakesAll-rows_under finest cell (codes ∷ keys) ending rows old new is old_is new_is =
+TakesAll-rows_under t cell [] ending rows old new is old_is new_is =
+    new_is ∙ ap (λ (l : Brief). record { cells = t; rows = l }) (append-nil rows) ∙ sym old_is
+TakesAll-rows_under t cell (codes ∷ keys) ending rows old new is old_is new_is =
     let more : Brief = rows ++ (codes, ending) ∷ [] in
-    let mid : RowsOver = record { finest = finest; rows = more } in
+    let mid : RowsOver = record { cells = t; rows = more } in
     let first : TakesRow old codes cell mid = rw old_is (record {
       same = refl;
       adds = λ width. record { ending = ending; is = is; added = refl };
     }) in (
       mid,
       first,
-      TakesAll-rows_under finest cell keys ending more mid new is refl
-          (new_is ∙ ap (λ (l : Brief). record { finest = finest; rows = l })
+      TakesAll-rows_under t cell keys ending more mid new is refl
+          (new_is ∙ ap (λ (l : Brief). record { cells = t; rows = l })
           (sym (append_assoc rows ((codes, ending) ∷ []) (rows_under ending keys)))),
     )

@@ -3,19 +3,17 @@
 use Rattle.std.specs.Prelude.{◌≡◌, ◌≤◌, ◌++◌, ◌∷◌, [], ℕ, List, All, length, map, slice_range}
 use Rattle.std.specs.List.{flat_map}
 use Rattle.cube_core.specs.Layout.{Layout}
-use Rattle.cube_core.specs.Printed.{IsPrinted}
 use Rattle.cube_core.specs.Text.{answer_texts, digits_of_answers, header_fields, line}
 use Rattle.cube_core.specs.declared.aggregate.Answer.{Answer}
 use Rattle.cube_core.specs.declared.fact.Fact.{Fact}
 use Rattle.cube_cells.specs.Codes.{Dictionaries, key_at}
-use Rattle.cube_cells.specs.Cube.{Lattice}
 use Rattle.cube_cells.specs.Fill.{IsCubeOfAll}
 use Rattle.cube_cells.specs.Levels.{mask_of_codes}
-use Rattle.cube_cells.specs.Rows.{AreAnswersOf}
 use Rattle.cube_cells.specs.Tally.{Tally}
 use Rattle.cube_cells.specs.Walk.{key_in}
 use Rattle.cube_cells.specs.declared.cube.codes.Codes.{Codes}
 use Rattle.cube_lines.specs.Parts.{key_parts, parts}
+use Rattle.cube_text.specs.Telling.{AreToldOf, IsToldText, ToldCells}
 use Rattle.cube_text.specs.declared.brief.BriefGroup.{BriefGroup}
 
 -- rows, each as the codes of its key and the end of its line
@@ -58,31 +56,31 @@ pub record IsWithin (size : ℕ) (group : BriefGroup) : Type 0 where
   pub within : group.end ≤ size
 
 -- a line ends so that shows the answers of a cell: with their texts, a comma behind each but the last, and LF
-pub record IsEnding (s : Layout) (cell : Tally) (ending : List ℕ) : Type 0 where
-  pub answers : List Answer
-  pub are : AreAnswersOf s.aggregates cell answers
+pub record IsEnding (form : Layout) (texts : List (List ℕ)) (cell : Tally) (ending : List ℕ) : Type 0 where
+  pub told : List Answer
+  pub are : AreToldOf texts form.aggregates cell told
   pub front : List ℕ
-  pub with_comma : parts (answer_texts (digits_of_answers s) answers) ≡ front ++ 44 ∷ []
+  pub with_comma : parts (answer_texts (digits_of_answers form) told) ≡ front ++ 44 ∷ []
   pub with_end : ending ≡ front ++ 10 ∷ []
 
--- rows of cells that have these finest cells
+-- rows of cells that are told so
 pub record RowsOver : Type 0 where
-  pub finest : Lattice
+  pub cells : ToldCells
   pub rows : Brief
 
 -- a row was put behind others, whose line shows the answers of a cell
-pub record AddsBrief (s : Layout) (codes : Codes) (cell : Tally) (old new : Brief) : Type 0 where
+pub record AddsBrief (t : ToldCells) (codes : Codes) (cell : Tally) (old new : Brief) : Type 0 where
   pub ending : List ℕ
-  pub is : IsEnding s cell ending
+  pub is : IsEnding t.form t.texts cell ending
   pub added : new ≡ old ++ (codes, ending) ∷ []
 
 -- the row of a cell was put behind others, where the cell has a bag for each measure of the schema
 pub record TakesRow (old : RowsOver) (codes : Codes) (cell : Tally) (new : RowsOver) : Type 0 where
-  pub same : new.finest ≡ old.finest
-  pub adds : length cell.bags ≡ length old.finest.schema.measures
-      → AddsBrief old.finest.schema codes cell old.rows new.rows
+  pub same : new.cells ≡ old.cells
+  pub adds : length cell.bags ≡ length old.cells.finest.schema.measures
+      → AddsBrief old.cells codes cell old.rows new.rows
 
--- behind the header line, the lines of these rows are the printed cube of the facts whose finest cells these are
-abbrev pub ArePrintedRows : Lattice → Brief → Type 0
-ArePrintedRows finest rows = (facts : List Fact) → IsCubeOfAll facts finest
-    → IsPrinted finest.schema facts (line (header_fields finest.schema) ++ brief_text finest.dictionaries rows)
+-- behind the header line, the lines of these rows are the told cube of the counted facts whose finest cells these are
+abbrev pub ArePrintedRows : ToldCells → Brief → Type 0
+ArePrintedRows t rows = (facts : List Fact) → IsCubeOfAll facts t.finest
+    → IsToldText t.form t.texts facts (line (header_fields t.form) ++ brief_text t.finest.dictionaries rows)

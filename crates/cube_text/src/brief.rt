@@ -6,9 +6,11 @@ ghost use Rattle.cube_cells.specs.Levels.{mask_of_codes};
 ghost use Rattle.cube_cells.specs.Walk.{key_in};
 ghost use Rattle.cube_text.specs.Brief.{AreAlike, Brief, IsWithin, brief_line, brief_text, rows_of, rows_under, rows_with};
 ghost use Rattle.cube_text.specs.Shown.{AreShown};
+ghost use Rattle.cube_text.specs.Telling.{CanTell, told_cells};
 
 use crate::answers::put_ending;
 use crate::shown::Shown;
+use crate::telling::Telling;
 use crate::walked::{put_groupings_of, put_key_of};
 use cube_cells::{Cell, FinestCells, KeyCodes, Numbers, TakesCells};
 use std::alloc::{AllocError, Global};
@@ -248,6 +250,7 @@ fn put_row<N: Numbers>(
 pub struct BriefPieces<'c, N: Numbers> {
     alloc: Global,
     cells: &'c FinestCells<N>,
+    telling: Telling<'c>,
     // About how many bytes there are of each line before its end.
     width: usize,
     // How the lines of the last cell's rows end.
@@ -259,10 +262,13 @@ pub struct BriefPieces<'c, N: Numbers> {
 impl<'c, N: Numbers> Model for BriefPieces<'c, N> {
     ghost use Rattle.std.specs.Prelude.{◌++◌};
     ghost use Rattle.cube_text.specs.Brief.{RowsOver, rows_of};
+    ghost use Rattle.cube_text.specs.Telling.{CanTell, told_cells};
 
     ghost Value = { RowsOver };
 
-    ghost view = { λ p. record { finest = p.cells.now; rows = rows_of p.full.items ++ p.last } };
+    ghost view = { λ p. record { cells = told_cells p.cells.now p.telling; rows = rows_of p.full.items ++ p.last } };
+
+    ghost invariant = { λ p. CanTell N.keeps (told_cells p.cells.now p.telling) };
 }
 
 impl<'c, N: Numbers> TakesCells<N> for BriefPieces<'c, N> {
@@ -275,7 +281,7 @@ impl<'c, N: Numbers> TakesCells<N> for BriefPieces<'c, N> {
             return Ok(());
         }
         self.ending.clear();
-        put_ending(&mut self.ending, self.cells, cell)?;
+        put_ending(&mut self.ending, self.cells, &self.telling, cell)?;
         self.last.add(keys, self.width, &self.ending)?;
         begin_piece(self.alloc, &mut self.full, &mut self.last)?;
         Ok(())
@@ -284,12 +290,19 @@ impl<'c, N: Numbers> TakesCells<N> for BriefPieces<'c, N> {
 
 impl<'c, N: Numbers> BriefPieces<'c, N> {
     /// No row yet.
-    pub(crate) fn new(alloc: Global, cells: &'c FinestCells<N>, width: usize) -> BriefPieces<'c, N>
-        ensures { result ≡ record { finest = cells.now; rows = [] } }
+    pub(crate) fn new(
+        alloc: Global,
+        cells: &'c FinestCells<N>,
+        telling: Telling<'c>,
+        width: usize,
+    ) -> BriefPieces<'c, N>
+        requires { CanTell N.keeps (told_cells cells.now telling) }
+        ensures { result ≡ record { cells = told_cells cells.now telling.entry; rows = [] } }
     {
         BriefPieces {
             alloc,
             cells,
+            telling,
             width,
             ending: Vec::new(alloc),
             full: Vec::new(alloc),
@@ -306,6 +319,7 @@ impl<'c, N: Numbers> BriefPieces<'c, N> {
             last,
             alloc: _,
             cells: _,
+            telling: _,
             width: _,
             ending,
         } = self;

@@ -1,7 +1,6 @@
 //! The text of a cube, most of which is made while it is written, so that no more than a few pieces of it take memory.
 ghost use Rattle.std.specs.Prelude.{◌≡◌, ◌+◌, ◌<◌, ◌≤◌, ◌++◌, [], ℕ, List, drop, get_or, length, take, vec_len, IfErr, IfOk, OnOk};
 ghost use Rattle.std.specs.Io.KnownBytes.{Appends};
-ghost use Rattle.cube_core.specs.Printed.{IsPrinted};
 ghost use Rattle.cube_core.specs.declared.fact.Fact.{Fact};
 ghost use Rattle.cube_cells.specs.Fill.{IsCubeOfAll};
 ghost use Rattle.cube_lines.specs.Pieces.{SendsPart, text_of_pieces};
@@ -9,11 +8,13 @@ ghost use Rattle.cube_text.specs.Brief.{brief_text};
 ghost use Rattle.std.specs.Thread.{IsSend, IsSync};
 ghost use Rattle.cube_text.specs.Kept.{AreNextTexts, SendsTexts, lines_of};
 ghost use Rattle.cube_text.specs.Shown.{AreShown};
+ghost use Rattle.cube_text.specs.Telling.{CanTell, IsToldText, told_cells};
 
 use crate::brief::BriefRows;
 use crate::made::all_made;
 use crate::print::text_of_header;
 use crate::shown::{Shown, all_shown};
+use crate::telling::Telling;
 use crate::walked::pieces_of_cube;
 use cube_cells::{FinestCells, Numbers};
 use cube_lines::{WriteFault, send_pieces};
@@ -68,13 +69,15 @@ pub fn keep_walked<'c, T: Threads + Sync, N: Numbers + Send + Sync>(
     alloc: Global,
     threads: usize,
     cells: &'c FinestCells<N>,
+    telling: Telling<'c>,
 ) -> Result<KeptText<'c, N>, AllocError>
+    requires { CanTell N.keeps (told_cells cells.now telling) }
     ensures { IfOk result (λ text. (facts : List Fact) → IsCubeOfAll facts cells.now →
-        IsPrinted cells.now.schema facts text) }
+        IsToldText telling.entry.form.now telling.entry.texts.now facts text) }
 {
-    let header = text_of_header(alloc, cells.schema())?;
+    let header = text_of_header(alloc, telling.form)?;
     let shown = all_shown(alloc, cells)?;
-    let mut pieces = pieces_of_cube(rt, alloc, threads, cells)?;
+    let mut pieces = pieces_of_cube(rt, alloc, threads, cells, telling)?;
     let making = Making {
         alloc,
         threads,

@@ -14,9 +14,11 @@ mod lines;
 mod made;
 mod print;
 mod shown;
+mod telling;
 mod walked;
 
 pub use kept::{KeptText, keep_walked};
 pub use lines::{Lines, end_line, into_text, no_lines, put_field};
 pub use print::{print_cells, print_rows};
+pub use telling::Telling;
 pub use walked::print_walked;

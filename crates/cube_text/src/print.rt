@@ -12,7 +12,7 @@ ghost use Rattle.cube_text.specs.Shape.{HasShapeOf};
 
 use crate::fields::{close_line, push_coord, push_grouping};
 use cube_cells::{CoordRef, KeyedCell, OrderedCells};
-use cube_core::{Agg, Answer, Coord, Row, Schema};
+use cube_core::{Agg, Answer, Coord, Form, Row, Schema};
 use cube_lines::{push_answer, push_header};
 use itoa::Buffer;
 use std::alloc::{AllocError, Global};
@@ -28,7 +28,8 @@ pub fn print_rows(alloc: Global, schema: &Schema, rows: &[Row]) -> Result<Vec<u8
     ensures { IfOk result (λ text. text.items ≡ text_of_rows schema.now rows.now) }
 {
     let digits = digits_of_answers(alloc, schema)?;
-    let mut text = text_of_header(alloc, schema)?;
+    let form = schema.form(alloc)?;
+    let mut text = text_of_header(alloc, &form)?;
     put_rows(&mut text, digits.as_slice(), rows)?;
     Ok(text)
 }
@@ -44,7 +45,8 @@ pub fn print_cells(
     ensures { IfOk result (λ text. IsTextOfCells schema.now cells.now text.items) }
 {
     let digits = digits_of_answers(alloc, schema)?;
-    let mut text = text_of_header(alloc, schema)?;
+    let form = schema.form(alloc)?;
+    let mut text = text_of_header(alloc, &form)?;
     put_cells(alloc, &mut text, digits.as_slice(), cells, 0, cells.len())?;
     Ok(text)
 }
@@ -62,12 +64,12 @@ fn digits_of_answers(alloc: Global, schema: &Schema) -> Result<Vec<u8>, AllocErr
     Ok(digits)
 }
 
-/// The header line of the schema.
-pub(crate) fn text_of_header(alloc: Global, schema: &Schema) -> Result<Vec<u8>, AllocError>
-    ensures { IfOk result (λ text. text.items ≡ line (header_fields schema.now)) }
+/// The header line of a form.
+pub(crate) fn text_of_header(alloc: Global, form: &Form<'_>) -> Result<Vec<u8>, AllocError>
+    ensures { IfOk result (λ text. text.items ≡ line (header_fields form.now)) }
 {
     let mut text = Vec::new(alloc);
-    push_header(alloc, &mut text, schema)?;
+    push_header(alloc, &mut text, form)?;
     Ok(text)
 }
 

@@ -1,7 +1,6 @@
 //! The text of a cube, made in a walk over its finest cells: no other cell is kept, and none is sorted.
 ghost use Rattle.std.specs.Prelude.{◌≡◌, ◌<◌, ◌≤◌, ◌∷◌, ◌++◌, [], ℕ, List, get_or, length, map, IfOk, OnOk};
 ghost use Rattle.std.specs.List.{flat_map};
-ghost use Rattle.cube_core.specs.Printed.{IsPrinted};
 ghost use Rattle.cube_core.specs.Referred.{referred_coord};
 ghost use Rattle.cube_core.specs.Text.{coord_text, grouping_text};
 ghost use Rattle.cube_core.specs.declared.fact.Fact.{Fact};
@@ -12,6 +11,7 @@ ghost use Rattle.cube_cells.specs.WalkParts.{PartOfWalk};
 ghost use Rattle.cube_lines.specs.Parts.{AddsParts};
 ghost use Rattle.cube_text.specs.Brief.{ArePrintedRows, brief_text, rows_of};
 ghost use Rattle.cube_text.specs.Shown.{AreShown};
+ghost use Rattle.cube_text.specs.Telling.{CanTell, IsToldText, told_cells};
 ghost use Rattle.cube_text.specs.Walked.{AreRowsOfPart};
 
 use crate::brief::{BriefPieces, BriefRows, key_width};
@@ -19,6 +19,7 @@ use crate::fields::{push_coord, push_grouping};
 use crate::made::all_made;
 use crate::print::text_of_header;
 use crate::shown::{Shown, all_shown, part_at};
+use crate::telling::Telling;
 use cube_cells::{CoordRef, FinestCells, KeyCodes, Numbers, WalkPart};
 use std::alloc::{AllocError, Global};
 use std::thread::{Threads, map_indices};
@@ -31,16 +32,18 @@ const PARTS: usize = 4;
 
 /// The text of the cube of the facts whose finest cells these are: the header line of their schema, and a line for each
 /// row, in key order. The only error is that memory ran out, or numbers to count the facts with.
-pub fn print_walked<N: Numbers>(
+pub fn print_walked<'c, N: Numbers>(
     alloc: Global,
-    cells: &FinestCells<N>,
+    cells: &'c FinestCells<N>,
+    telling: Telling<'c>,
 ) -> Result<Vec<u8>, AllocError>
+    requires { CanTell N.keeps (told_cells cells.now telling) }
     ensures { IfOk result (λ text. (facts : List Fact) → IsCubeOfAll facts cells.now →
-        IsPrinted cells.now.schema facts text.items) }
+        IsToldText telling.entry.form.now telling.entry.texts.now facts text.items) }
 {
-    let mut text = text_of_header(alloc, cells.schema())?;
+    let mut text = text_of_header(alloc, telling.form)?;
     let shown = all_shown(alloc, cells)?;
-    let pieces = pieces_of_walk(alloc, cells)?;
+    let pieces = pieces_of_walk(alloc, cells, telling)?;
     put_pieces(&mut text, cells, &shown, &pieces)?;
     Ok(text)
 }
@@ -48,66 +51,74 @@ pub fn print_walked<N: Numbers>(
 /// The rows of the cube of the facts whose finest cells these are, kept short, in pieces. The walk is cut into parts, and each
 /// of several threads takes some; with one thread, or none, no thread is started. The only error is that memory ran out, or
 /// numbers to count the facts with.
-pub(crate) fn pieces_of_cube<T: Threads + Sync, N: Numbers + Send + Sync>(
+pub(crate) fn pieces_of_cube<'c, T: Threads + Sync, N: Numbers + Send + Sync>(
     rt: &T,
     alloc: Global,
     threads: usize,
-    cells: &FinestCells<N>,
+    cells: &'c FinestCells<N>,
+    telling: Telling<'c>,
 ) -> Result<Vec<BriefRows>, AllocError>
-    ensures { IfOk result (λ pieces. ArePrintedRows cells.now (rows_of pieces.items)) }
+    requires { CanTell N.keeps (told_cells cells.now telling) }
+    ensures { IfOk result (λ pieces. ArePrintedRows (told_cells cells.now telling.entry) (rows_of pieces.items)) }
 {
     if threads <= 1 || cells.facts() == 0 {
-        return pieces_of_walk(alloc, cells);
+        return pieces_of_walk(alloc, cells, telling);
     }
     let raised = cells.raised(rt, threads)?;
     let parts = raised.parts(threads.saturating_mul(PARTS))?;
-    let made = pieces_of_parts(rt, alloc, cells, key_width(cells), &parts)?;
+    let made = pieces_of_parts(rt, alloc, cells, telling, key_width(cells), &parts)?;
     put_together(alloc, all_made(alloc, made)?)
 }
 
 // The same in one walk.
-fn pieces_of_walk<N: Numbers>(
+fn pieces_of_walk<'c, N: Numbers>(
     alloc: Global,
-    cells: &FinestCells<N>,
+    cells: &'c FinestCells<N>,
+    telling: Telling<'c>,
 ) -> Result<Vec<BriefRows>, AllocError>
-    ensures { IfOk result (λ pieces. ArePrintedRows cells.now (rows_of pieces.items)) }
+    requires { CanTell N.keeps (told_cells cells.now telling) }
+    ensures { IfOk result (λ pieces. ArePrintedRows (told_cells cells.now telling.entry) (rows_of pieces.items)) }
 {
-    let mut rows = BriefPieces::new(alloc, cells, key_width(cells));
+    let mut rows = BriefPieces::new(alloc, cells, telling, key_width(cells));
     cells.walk(&mut rows)?;
     rows.into_pieces()
 }
 
 // The rows of the cells of each part, each taken on a thread of its own.
-fn pieces_of_parts<T: Threads + Sync, N: Numbers + Send + Sync>(
+fn pieces_of_parts<'c, T: Threads + Sync, N: Numbers + Send + Sync>(
     rt: &T,
     alloc: Global,
-    cells: &FinestCells<N>,
+    cells: &'c FinestCells<N>,
+    telling: Telling<'c>,
     width: usize,
     parts: &[WalkPart<'_, N>],
 ) -> Result<Vec<Result<Vec<BriefRows>, AllocError>>, AllocError>
+    requires { CanTell N.keeps (told_cells cells.now telling) }
     ensures long { IfOk result (λ made. length made.items ≡ length parts.now) }
     ensures each { IfOk result (λ made. (i : ℕ) (unused : _) (part : PartOfWalk) → i < length parts.now →
         IfOk (get_or made.items i unused) (λ pieces.
-        AreRowsOfPart cells.now (get_or parts.now i part) (rows_of pieces.items))) }
+        AreRowsOfPart (told_cells cells.now telling.entry) (get_or parts.now i part) (rows_of pieces.items))) }
 {
     map_indices(
         rt,
         alloc,
         parts.len(),
-        &|which| { pieces_of_part(alloc, cells, width, &parts[which]) },
+        &|which| { pieces_of_part(alloc, cells, telling, width, &parts[which]) },
     )
 }
 
 // The rows of the cells of a part.
-fn pieces_of_part<N: Numbers>(
+fn pieces_of_part<'c, N: Numbers>(
     alloc: Global,
-    cells: &FinestCells<N>,
+    cells: &'c FinestCells<N>,
+    telling: Telling<'c>,
     width: usize,
     part: &WalkPart<'_, N>,
 ) -> Result<Vec<BriefRows>, AllocError>
-    ensures { IfOk result (λ pieces. AreRowsOfPart cells.now part.now (rows_of pieces.items)) }
+    requires { CanTell N.keeps (told_cells cells.now telling) }
+    ensures { IfOk result (λ pieces. AreRowsOfPart (told_cells cells.now telling.entry) part.now (rows_of pieces.items)) }
 {
-    let mut rows = BriefPieces::new(alloc, cells, width);
+    let mut rows = BriefPieces::new(alloc, cells, telling, width);
     part.walk(&mut rows)?;
     rows.into_pieces()
 }

@@ -99,7 +99,6 @@ pub const SCHEMA_ADVICE: [Advice; 14] = [
         code: "S13",
         lines: &[
             "wanted: the measures that are texts, each once and none under [decimals], as texts = [\"customer\"]",
-            "Cubes that are to be merged have no texts: neither `datacube print --partial` nor `datacube merge` takes them.",
         ],
     },
     Advice {

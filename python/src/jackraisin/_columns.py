@@ -275,7 +275,10 @@ def see_points(body: bytes, columns: Sequence[Any], kinds: Sequence[Any]) -> Non
             found &= bytes_of.take(ends - back) - numpy.uint8(ord("0")) <= 9
         theirs = sum(len(it) - int(it.isna().sum()) for it, kind in zip(columns, kinds) if isinstance(kind, int) and kind == places)
         mark = re.compile(rf"\.[0-9]{{{places}}}(?:(?=[,\n])|\Z)")
-        if int(found.sum()) != theirs + sum_over(columns, kinds, lambda it: ends_in(mark, it)):
+        # (values that are texts may have such too)
+        held = [column for column, kind in zip(columns, kinds) if kind is str and b'"*' in body]
+        theirs_too = sum(ends_in(mark, it) for column in held for it in column.tolist())
+        if int(found.sum()) != theirs + theirs_too + sum_over(columns, kinds, lambda it: ends_in(mark, it)):
             raise ValueError(f"not numbers with {places} decimals alone")
         wanted -= theirs
     wanted -= sum(sum(map(str.count, it.tolist(), repeat("."))) for it, kind in zip(columns, kinds) if kind is str)

@@ -20,7 +20,7 @@ from ._records import NULL, Columns, head_of, lines_of, records_of, unescaped, u
 if TYPE_CHECKING:
     import pandas
 
-# (values are a dict, by each the number of times that it is held)
+# (values are a dict, by each the number of times that it is held, also where they are texts)
 Answer = Union[int, Decimal, Fraction, _numbers.Held, None]
 
 SHOWN = 10
@@ -169,7 +169,7 @@ class Cube(Sequence[Row]):
     def to_pandas(self) -> "pandas.DataFrame":
         """A frame with the answers, over the cells as its index: each level is ordered, ALL is its last category, and null
         is missing. Whole numbers are `Int64` where they fit, else objects; a number with decimals is a `Decimal`, a mean
-        and a variance a `Fraction`, and values are a `dict`."""
+        and a variance a `Fraction`, and values are a `dict`, of texts too."""
         return _columns.frame_of(self.text, self._columns)
 
     def to_arrow(self) -> Any:
@@ -189,12 +189,12 @@ class Cube(Sequence[Row]):
 
 
 def cell_html(value: Union[Coordinate, Answer]) -> str:
-    """A cell of a table: numbers to the right, texts as they are, ALL and null in italics."""
+    """A cell of a table: numbers and values to the right, texts as they are, ALL and null in italics."""
     if value is None or value is ALL:
         return f"<td><i>{'null' if value is None else value}</i></td>"
     if isinstance(value, str):
         return f"<td>{html.escape(value)}</td>"
-    return f'<td style="text-align: right">{_numbers.shown(value)}</td>'
+    return f'<td style="text-align: right">{html.escape(_numbers.shown(value))}</td>'
 
 
 def row_of(columns: Columns, record: List[str]) -> Row:

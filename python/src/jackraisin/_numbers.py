@@ -2,17 +2,20 @@
 from __future__ import annotations
 
 import operator
+import re
 from decimal import Context, Decimal, Inexact, InvalidOperation
 from fractions import Fraction
-from typing import Dict, Final, Optional, SupportsIndex, Union
+from typing import Any, Dict, Final, Optional, SupportsIndex, Union
 
 from ._errors import Unsayable
 from ._records import GREATEST, LEAST
 
 Number = Union[int, Decimal]
 Exact = Union[Number, Fraction]
-# (values, each with how often it is held)
-Held = Dict[Number, int]
+# (values, or texts, each with how often it is held)
+Held = Union[Dict[Number, int], Dict[str, int]]
+# (one of several texts: what stands in quotes may have stars and spaces, and doubles its quotes)
+HELD_TEXT: Final = re.compile(r'(?:\A| )"((?:[^"]|"")*)"\*([0-9]+)')
 # (more digits than a sum of squares has, which has 58 at most; what would be rounded is refused)
 EXACT: Final = Context(prec=60, traps=[Inexact, InvalidOperation])
 
@@ -29,9 +32,23 @@ def number_of(text: str) -> Number:
 
 
 def held_of(text: str) -> Held:
-    """The values that a field says, in ascending order, each with how often it is held."""
+    """The values that a field says, in ascending order, each with how often it is held; texts stand in quotes."""
+    if text.startswith('"'):
+        return texts_held(text)
     pairs = [it.split("*") for it in text.split(" ")] if text else []
     return {number_of(value): int(times) for value, times in pairs}
+
+
+def texts_held(text: str) -> Dict[str, int]:
+    """The same of texts, in the order of their bytes."""
+    held, end = {}, 0
+    while end < len(text):
+        found = HELD_TEXT.match(text, end)
+        if found is None:
+            raise ValueError(f"no text that is held: {text[end:]}")
+        held[found[1].replace('""', '"')] = int(found[2])
+        end = found.end()
+    return held
 
 
 def spelled(units: int, places: int) -> str:
@@ -77,14 +94,20 @@ def difference(after: Exact, before: Exact) -> Exact:
     return after - before
 
 
-def held_difference(after: Held, before: Held) -> Held:
+def held_difference(after: Dict[Any, int], before: Dict[Any, int]) -> Held:
     """How much more often each value is held after than before; negative where it is less."""
     changes = {it: after.get(it, 0) - before.get(it, 0) for it in sorted({**before, **after})}
     return {it: times for it, times in changes.items() if times}
 
 
 def shown(answer: object) -> str:
-    """An answer as people read it: a number with all its decimals, and no exponent; values as the program prints them."""
+    """An answer as people read it: a number with all its decimals, and no exponent; values as the program prints them, texts in quotes."""
     if isinstance(answer, dict):
-        return " ".join(f"{shown(value)}*{times}" for value, times in answer.items())
+        return " ".join(f"{in_quotes(value) if isinstance(value, str) else shown(value)}*{times}" for value, times in answer.items())
     return f"{answer:f}" if isinstance(answer, Decimal) else str(answer)
+
+
+def in_quotes(text: str) -> str:
+    """A text in quotes, its own doubled."""
+    doubled = text.replace('"', '""')
+    return f'"{doubled}"'

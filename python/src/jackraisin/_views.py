@@ -100,8 +100,9 @@ class Difference(NamedTuple):
 
 
 def answer_in(row: Optional["Row"], aggregate: str) -> "Answer":
+    none_held: Dict[str, int] = {}
     if row is None:
-        return {} if aggregate.startswith(VALUES) else 0 if aggregate.startswith(ADDED) else None
+        return none_held if aggregate.startswith(VALUES) else 0 if aggregate.startswith(ADDED) else None
     return row.answers[place_of(row.columns.aggregates, aggregate, "aggregate")]
 
 

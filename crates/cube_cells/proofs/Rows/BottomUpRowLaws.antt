@@ -21,6 +21,7 @@ use Rattle.cube_core.specs.Cube.{AreRowsOver}
 use Rattle.cube_core.specs.Query.{AreRowsWhere}
 use Rattle.cube_core.specs.Layout.{Layout}
 use Rattle.cube_core.specs.Order.{key_cmp}
+use Rattle.cube_core.specs.declared.aggregate.Agg.{Agg}
 use Rattle.cube_core.specs.declared.fact.Fact.{Fact}
 use Rattle.cube_core.specs.declared.key.Key.{Key}
 use Rattle.cube_core.specs.declared.key.Row.{Row}
@@ -153,14 +154,14 @@ sorted-keys cells rises k d low inside =
     ap is_lt (Greater-from_Less key_cmp-IsTotalOrder (get_or cells (k + 1) d).0 (get_or cells k d).0 shown)
 
 -- the rows of those cells of the cube of facts whose keys pass a test, in the order of their codes, are these rows of the cube
-pub AreRowsWhere-codes_cmp : (test : Key → Bool) (schema : Layout) (dictionaries : Dictionaries) (facts : List Fact)
-    (sets : List ℕ) (cells : CodedCells) (rows : List Row) → length dictionaries ≤ 8 → All IsDictionary dictionaries
+pub AreRowsWhere-codes_cmp : (test : Key → Bool) (schema : Layout) (aggregates : List Agg)
+    (dictionaries : Dictionaries) (facts : List Fact) (sets : List ℕ) (cells : CodedCells) (rows : List Row) → length dictionaries ≤ 8 → All IsDictionary dictionaries
     → All AreInTextOrder dictionaries → All (IsCodedCell dictionaries (length schema.measures)) cells
     → IsStrictlySortedBy codes_cmp cells
     → IsCubeOf (lattice_of schema sets (length facts) dictionaries cells) facts
-    → AllZip (IsRowOf schema.aggregates) (filter (λ cell. test cell.0) (decoded dictionaries cells)) rows
-    → AreRowsWhere test sets (length schema.dimensions) schema.aggregates facts rows
-AreRowsWhere-codes_cmp test schema dictionaries facts sets cells rows room texts in_order each sorted cube zipped =
+    → AllZip (IsRowOf aggregates) (filter (λ cell. test cell.0) (decoded dictionaries cells)) rows
+    → AreRowsWhere test sets (length schema.dimensions) aggregates facts rows
+AreRowsWhere-codes_cmp test schema aggregates dictionaries facts sets cells rows room texts in_order each sorted cube zipped =
     let all : Cells = decoded dictionaries cells in
     let some : Cells = filter (λ (cell : Key × Tally). test cell.0) all in
     let rises = keys_in_order dictionaries (length schema.measures) cells texts in_order each sorted in
@@ -169,8 +170,8 @@ AreRowsWhere-codes_cmp test schema dictionaries facts sets cells rows room texts
     let some_rise : IsStrictlySortedBy key_cmp (keys_of some) =
     subst (IsStrictlySortedBy key_cmp) (sym (map-filter (λ (cell : Key × Tally). cell.0) test all))
     (IsStrictlySortedBy-filter key_cmp test (keys_of all) rises) in
-    AreRowsWhere-IsCubeOf test (lattice_of schema sets (length facts) dictionaries cells) facts rows cube
-    (AreRowsOf-IsRowOf test schema.aggregates all some rows distinct (IsPermutation-refl some)
+    AreRowsWhere-IsCubeOf test (lattice_of schema sets (length facts) dictionaries cells) aggregates facts rows cube
+    (AreRowsOf-IsRowOf test aggregates all some rows distinct (IsPermutation-refl some)
     (sorted-keys some some_rise) zipped)
 
 -- and those of all cells are all of them
@@ -183,5 +184,5 @@ pub AreRowsOver-codes_cmp : (schema : Layout) (dictionaries : Dictionaries) (fac
     → AreRowsOver sets (length schema.dimensions) schema.aggregates facts rows
 AreRowsOver-codes_cmp schema dictionaries facts sets cells rows room texts in_order each sorted cube zipped =
     AreRowsOver-AreRowsWhere sets (length schema.dimensions) schema.aggregates facts rows
-    (AreRowsWhere-codes_cmp (λ key. true) schema dictionaries facts sets cells rows room texts in_order each sorted cube
+    (AreRowsWhere-codes_cmp (λ key. true) schema schema.aggregates dictionaries facts sets cells rows room texts in_order each sorted cube
     (rw (filter-true (decoded dictionaries cells)) zipped))

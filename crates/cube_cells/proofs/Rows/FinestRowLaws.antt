@@ -247,7 +247,7 @@ AreRowsWhere-TakesSets {N} schema number dictionaries items wants test facts old
     AreRowsWhere-fewer test (filter (can_be_of wants) schema.grouping_sets) schema.grouping_sets
     (length schema.dimensions) schema.aggregates facts new.rows.items among
     (filter-is_among (can_be_of wants) schema.grouping_sets)
-    (walk.are.rows test facts of new.rows.items
+    (walk.are.rows _ test facts of new.rows.items
     (subst (λ (rows : List Row). AllZip (IsRowOf schema.aggregates) passing rows) (sym (adds.added ∙ ap (λ (rows : List Row). rows ++ adds.rows) none))
     (subst (λ (placed : List (Key × Tally)). AllZip (IsRowOf schema.aggregates) placed adds.rows)
     (decoded-filter dictionaries (length schema.measures) test wants walk.cells tests walk.are.each) adds.are)))

@@ -383,10 +383,10 @@ AreRowsOf-nil {schema = schema} {dictionaries = dictionaries} {cells = cells} te
 
 -- ---- rows of facts
 -- the rows of cells that are a cube's are the rows of the cube
-pub AreRowsWhere-IsCubeOf : (test : Key → Bool) (l : Lattice) (facts : List Fact) (rows : List Row) → IsCubeOf l facts
-    → AreRowsOf test l.schema.aggregates l.cells rows
-    → AreRowsWhere test l.sets (length l.schema.dimensions) l.schema.aggregates facts rows
-AreRowsWhere-IsCubeOf test l facts rows cube are = record {
+pub AreRowsWhere-IsCubeOf : (test : Key → Bool) (l : Lattice) (aggregates : List Agg) (facts : List Fact)
+    (rows : List Row) → IsCubeOf l facts → AreRowsOf test aggregates l.cells rows
+    → AreRowsWhere test l.sets (length l.schema.dimensions) aggregates facts rows
+AreRowsWhere-IsCubeOf test l aggregates facts rows cube are = record {
   cells = λ key. (
     λ inside. let is = (are.keys key).0 inside in (sym (cube.keys key) ∙ is.0, is.1),
     λ is. (are.keys key).1 (cube.keys key ∙ is.0, is.1),
@@ -394,15 +394,15 @@ AreRowsWhere-IsCubeOf test l facts rows cube are = record {
   ordered = are.ordered;
   answers = recursion_from_All _ rows (λ k d inside. at (get_or rows k d) (Contains-get_or rows k d inside));
 } where
-  by_cell : (row : Row) (o : Option Tally) → IsSome o → IfSome o (λ t. AreAnswersOf l.schema.aggregates t row.answers)
-      → IfSome o (IsTallyOf (group_of row.key facts)) → HasAnswers l.schema.aggregates facts row
+  by_cell : (row : Row) (o : Option Tally) → IsSome o → IfSome o (λ t. AreAnswersOf aggregates t row.answers)
+      → IfSome o (IsTallyOf (group_of row.key facts)) → HasAnswers aggregates facts row
   by_cell row None some answers tally = cc some
   by_cell row (Some t) some answers tally = answers (group_of row.key facts) tally
 
-  at : (row : Row) → Contains rows row → HasAnswers l.schema.aggregates facts row
+  at : (row : Row) → Contains rows row → HasAnswers aggregates facts row
   at row inside = by_cell row (cell_at l.cells row.key) ((are.keys row.key).0 (map-Contains key_of rows row inside)).0
       (All-contains
-      (λ (row : Row). IfSome (cell_at l.cells row.key) (λ t. AreAnswersOf l.schema.aggregates t row.answers))
+      (λ (row : Row). IfSome (cell_at l.cells row.key) (λ t. AreAnswersOf aggregates t row.answers))
       rows row are.answers inside) (cube.tallies row.key)
 
 -- those whose keys pass what all pass are all the rows
@@ -421,4 +421,4 @@ pub AreRowsOver-IsCubeOf : (l : Lattice) (facts : List Fact) (rows : List Row) �
     → AreRowsOver l.sets (length l.schema.dimensions) l.schema.aggregates facts rows
 AreRowsOver-IsCubeOf l facts rows cube are =
     AreRowsOver-AreRowsWhere l.sets (length l.schema.dimensions) l.schema.aggregates facts rows
-    (AreRowsWhere-IsCubeOf (λ key. true) l facts rows cube are)
+    (AreRowsWhere-IsCubeOf (λ key. true) l l.schema.aggregates facts rows cube are)

@@ -58,7 +58,8 @@ AreCellsOver-IsCubeOf schema number dictionaries items sets cells are each sorte
     omega (arith, are.coded.lattice.dictionaries, few_dimensions (its_schema are.coded.lattice)) in
     record {
       each = each;
-      rows = λ test facts of rows zipped. AreRowsWhere-codes_cmp test schema dictionaries facts sets cells rows room
+      rows = λ aggregates test facts of rows zipped. AreRowsWhere-codes_cmp test schema aggregates dictionaries facts
+          sets cells rows room
           are.coded.texts are.texts each sorted (cube facts of) zipped;
       keys = λ facts of. AreKeysOver-IsCubeOf (lattice_of schema sets (length facts) dictionaries cells) facts
           (IsDistinct-decoded dictionaries (length schema.measures) cells are.coded.texts room each
@@ -70,9 +71,9 @@ pub AreCellsOfCube-AreCellsOver : (finest : Lattice) (cells : CodedCells) → fi
     → AreCellsOver finest finest.schema.grouping_sets cells → AreCellsOfCube finest cells
 AreCellsOfCube-AreCellsOver finest cells none are = record {
   each = are.each;
-  rows = λ facts of rows zipped. (are_rows-plain finest.schema facts rows none).0
-      (AreRowsOver-AreRowsWhere finest.schema.grouping_sets (length finest.schema.dimensions) finest.schema.aggregates
-      facts rows (are.rows (λ key. true) facts of rows (rw (filter-true (decoded finest.dictionaries cells)) zipped)));
+  rows = λ aggregates facts of rows zipped.
+      AreRowsOver-AreRowsWhere finest.schema.grouping_sets (length finest.schema.dimensions) aggregates facts rows
+      (are.rows aggregates (λ key. true) facts of rows (rw (filter-true (decoded finest.dictionaries cells)) zipped));
   keys = are.keys;
 }
 

@@ -37,6 +37,16 @@ impl Ranks {
         Ok(Ranks { ranks })
     }
 
+    /// The rank of a code; 0 where it is that of no text.
+    pub fn rank_at(&self, code: usize) -> u32
+        ensures { result ≡ get_or self.now code 0 }
+    {
+        match self.ranks.get(code) {
+            None => 0,
+            Some(rank) => *rank,
+        }
+    }
+
     /// The rank of a code.
     fn rank_of(&self, code: u32) -> u32
         ensures { result ≡ rank_of self.now code }
@@ -138,8 +148,8 @@ pub fn all_ranked(
     Ok(ranked)
 }
 
-// Puts the texts of a dictionary in their order.
-fn ranked_texts(alloc: Global, dictionary: Dictionary) -> Result<RankedTexts, AllocError>
+/// Puts the texts of a dictionary in their order. The only error is that memory ran out.
+pub fn ranked_texts(alloc: Global, dictionary: Dictionary) -> Result<RankedTexts, AllocError>
     ensures { IfOk result (IsRanking dictionary) }
 {
     let places = places_in_order(alloc, &dictionary)?;

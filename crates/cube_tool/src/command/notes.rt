@@ -104,8 +104,8 @@ pub const SCHEMA_NOTES: [Note; 13] = [
     Note {
         code: "S13",
         about: "schema",
-        means: "`texts` isn't an array of texts alone; or one of them is no measure of the schema, stands twice, or is in `[decimals]`. Or cubes are to be merged: neither `print --partial` nor `merge` takes a schema with `texts`.",
-        mend: "Name measures of the schema, each once and in quotes. Where texts are counted, print the cube of all feeds at once.",
+        means: "`texts` isn't an array of texts alone; or one of them is no measure of the schema, stands twice, or is in `[decimals]`.",
+        mend: "Name measures of the schema, each once and in quotes.",
         example: "texts = [\"customer\"]",
     },
 ];

@@ -11,11 +11,11 @@ fold-more f y xs i d inside = rw (add-one, drop-cons xs i d) refl
 pub loop-aggregate-preserved : goal.loop-aggregate-preserved
 loop-aggregate-preserved c =
     rw c.in_ok-add_parts.ensures
-    (fold-more with_parts c.loop-aggregate.all.items c.args.aggregates.now c.loop-aggregate.aggregate-index _
+    (fold-more (with_parts _) c.loop-aggregate.all.items _ c.loop-aggregate.aggregate-index _
     c.loop-aggregate-test.true ∙ c.loop-aggregate.invariant)
 
 pub returns : goal.returns
 returns c =
-    sym (at_drop_all (fold with_parts c.loop-aggregate.all.items)
-    c.args.aggregates.now c.loop-aggregate.aggregate-index c.loop-aggregate-test.false)
+    sym (at_drop_all (fold (with_parts _) c.loop-aggregate.all.items)
+    _ c.loop-aggregate.aggregate-index c.loop-aggregate-test.false)
     ∙ c.loop-aggregate.invariant

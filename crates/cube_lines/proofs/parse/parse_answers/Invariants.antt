@@ -7,5 +7,5 @@ abbrev pub invariant-loop-aggregate : goal.invariant-loop-aggregate
 invariant-loop-aggregate l = record {
   long : length l.answers.items ≡ l.aggregate-index;
   read : l.text
-      ≡ parts (answer_texts (map (digits_of l.schema) (take l.aggregate-index l.aggregates)) l.answers.items) ++ l.rest;
+      ≡ parts (answer_texts (map (digits_of l.form) (take l.aggregate-index l.aggregates)) l.answers.items) ++ l.rest;
 }

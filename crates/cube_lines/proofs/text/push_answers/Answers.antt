@@ -12,7 +12,7 @@ use Rattle.cube_lines.proofs.text.push_answers.Goals as goal
 
 pub loop-place-preserved : goal.loop-place-preserved
 loop-place-preserved c =
-    let s = c.args.schema.now in
+    let s = c.args.form.now in
     let i = c.loop-place.place in
     let aggregates = c.aggregates-aggregates.result.now in
     let aggregates_are = c.aggregates-aggregates.ensures.value in
@@ -36,7 +36,7 @@ loop-place-preserved c =
 
 pub returns : goal.returns
 returns c =
-    let s = c.args.schema.now in
+    let s = c.args.form.now in
     let aggregates = c.aggregates-aggregates.result.now in
     let aggregates_are = c.aggregates-aggregates.ensures.value in
     let digits = digits_of_answers s in

@@ -6,4 +6,4 @@ use Rattle.cube_lines.proofs.text.push_answers.Given as goal
 abbrev pub invariant-loop-place : goal.invariant-loop-place
 invariant-loop-place l =
     l.text.items ≡ l.initial.text.items
-    ++ parts (answer_texts (take l.place (digits_of_answers l.schema)) (take l.place l.answers))
+    ++ parts (answer_texts (take l.place (digits_of_answers l.form)) (take l.place l.answers))

@@ -11,6 +11,6 @@ returns c =
     on_ok_weaker c.end_line.result
     (λ ended of some shown.
     EndsLine-keyed (map coord_text of.coords) (map grouping_text of.coords)
-    (answer_texts (digits_of_answers c.args.schema.now) c.args.answers.now) _ c.args.key.now _ _ c.end_line.new.text.items
+    (answer_texts (digits_of_answers c.args.form.now) c.args.answers.now) _ c.args.key.now _ _ c.end_line.new.text.items
     (rw (length-map of.coords coord_text) some)
     (rw (length-map of.coords grouping_text) some) shown first c.in_ok-push_answers.ensures ended) c.end_line.ensures

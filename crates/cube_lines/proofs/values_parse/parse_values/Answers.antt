@@ -1,6 +1,6 @@
 use Rattle.std.proofs.Common.{◌≡◌, ◌++◌, ◌∷◌, [], arith, length-append, rules}
 use Rattle.cube_core.specs.Text.{held_text}
-use Rattle.cube_lines.proofs.ValuesLaws.{values-more}
+use Rattle.cube_lines.proofs.SpacedLaws.{spaced-more}
 use Rattle.cube_lines.proofs.values_parse.parse_values.Goals as goal
 
 pub loop-next-preserved : goal.loop-next-preserved
@@ -15,5 +15,5 @@ loop-next-preserved c =
     let one : next ≡ held_text c.args.digits other ++ behind = search rules in
     rw c.in_ok-push-2.ensures.items (record {
       some = omega (arith, length-append held (other ∷ []));
-      read = values-more c.args.digits held other c.args.text.now rest next behind before.some before.read space one;
+      read = spaced-more (held_text c.args.digits) held other c.args.text.now rest next behind before.some before.read space one;
     })

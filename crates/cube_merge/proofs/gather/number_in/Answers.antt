@@ -13,6 +13,7 @@ none-in_other (answer.Ratio p q) other = refl
 none-in_other (answer.Squares n) other = refl
 none-in_other (answer.Variance p q) other = refl
 none-in_other (answer.Values held) other = refl
+none-in_other (answer.Texts held) other = refl
 
 pub returns-in_default-clause-value : goal.returns-in_default-clause-value
 returns-in_default-clause-value c = sym (none-in_other c.args.answer.now c.in_default.not-Whole)

@@ -6,7 +6,7 @@ use Rattle.cube_merge.proofs.lawful.is_row_none_together.Goals as goal
 
 pub returns : goal.returns
 returns c on =
-    let aggregates : c.aggregates.result.now ≡ c.args.schema.now.aggregates = search rules in
+    let aggregates : c.aggregates.result.now ≡ c.args.form.now.aggregates = search rules in
     let answers : c.as_slice.result.now ≡ c.args.row.now.answers = search rules in
     subst (λ (given : List Agg). AreNoneTogether given c.args.row.now.answers) aggregates
     (subst (λ (all : List Answer). AreNoneTogether c.aggregates.result.now all) answers

@@ -1,10 +1,8 @@
-use Rattle.std.proofs.Common.{◌≡◌, ◌∙◌, ℤ, List, subst, sym}
+use Rattle.std.proofs.Common.{◌≡◌, ◌∙◌, subst, sym}
 use Rattle.std.proofs.lemmas.Result.{IfOk-weaker}
-use Rattle.cube_core.specs.Answer.{IsDistinctCount, IsPercentile}
-use Rattle.cube_core.specs.Layout.{is_level}
+use Rattle.cube_core.specs.Answer.{IsDistinctCount}
 use Rattle.cube_core.specs.Merged.{IsMerged, values_answered}
 use Rattle.cube_core.specs.declared.aggregate.Answer.{Answer}
-use Rattle.cube_merge.specs.Made.{IsOrderly}
 use Rattle.cube_merge.specs.Source.{IsSourceOf}
 use Rattle.cube_merge.proofs.GatherLaws.{IsMerged-Made, IsMerged-Mean}
 use Rattle.cube_merge.proofs.SquaresLaws.{IsMerged-Variance}
@@ -50,6 +48,4 @@ pub returns : goal.returns
 returns c given rows agg made is =
     IsMerged-Percentile given rows agg c.args.made.now c.in-Percentile.units c.in-Percentile.places
     c.in-Percentile.values c.percentile_at.result made (subst (IsSourceOf given agg) c.in-Percentile.is is)
-    (λ level. subst
-    (λ (a : Answer). IsPercentile c.in-Percentile.units c.in-Percentile.places (values_answered a) c.percentile_at.result)
-    c.answer_or-in-Percentile.ensures (c.percentile_at.ensures level))
+    (λ held listed level. c.percentile_at.ensures held (c.answer_or-in-Percentile.ensures ∙ listed) level)

@@ -1,5 +1,4 @@
 use Rattle.cube_core.specs.Answer.{values_held}
-use Rattle.cube_merge.specs.Lawful.{AreListed}
 use Rattle.cube_merge.proofs.ValuesLaws.{AreListed-AreHeld}
 use Rattle.cube_merge.proofs.step.joined_values.Goals as goal
 

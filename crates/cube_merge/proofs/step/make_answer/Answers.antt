@@ -1,7 +1,6 @@
-use Rattle.std.proofs.Common.{◌≡◌, ◌∙◌, List, map}
+use Rattle.std.proofs.Common.{◌≡◌, ◌∙◌, map}
 use Rattle.std.proofs.lemmas.Result.{IfErr-weaker, IfOk-weaker}
 use Rattle.cube_core.specs.Merged.{MakesAnswer, column}
-use Rattle.cube_core.specs.declared.aggregate.Answer.{Answer}
 use Rattle.cube_merge.specs.Joint.{rows_of}
 use Rattle.cube_merge.specs.Made.{IsUnmade, without_values}
 use Rattle.cube_merge.specs.Range.{IsInRange}
@@ -16,12 +15,13 @@ returns-in_ok-put_column-in_default g c =
     c.as_slice.ensures.value ∙ c.in_ok-put_column-in_default.ensures {u = tt} in
     record {
       made = IfOk-weaker c.made_of.result (MakesAnswer agg (map without_values parts)) (MakesAnswer agg parts)
-          (λ a makes. MakesAnswer-without agg parts a c.in_default.not-Values makes)
+          (λ a makes. MakesAnswer-without agg parts a c.in_default.not-Values c.in_default.not-Texts makes)
           (rw filled at c.made_of.ensures.made);
       orderly = c.made_of.ensures.orderly;
       fits = IfOk-weaker c.made_of.result (λ _. IsInRange agg (map without_values parts)) (λ _. IsInRange agg parts)
-          (λ a fits. IsInRange-without agg parts c.in_default.not-Values fits) (rw filled at c.made_of.ensures.fits);
+          (λ a fits. IsInRange-without agg parts c.in_default.not-Values c.in_default.not-Texts fits)
+          (rw filled at c.made_of.ensures.fits);
       err = IfErr-weaker c.made_of.result (IsUnmade agg (map without_values parts)) (IsUnmade agg parts)
-          (λ unmade is. IsUnmade-without agg parts unmade c.in_default.not-Values is)
+          (λ unmade is. IsUnmade-without agg parts unmade c.in_default.not-Values c.in_default.not-Texts is)
           (rw filled at c.made_of.ensures.err);
     }

@@ -1,6 +1,5 @@
 use Rattle.std.proofs.Common.{◌≡◌, ◌++◌, ◌∷◌, [], rules}
 use Rattle.cube_merge.specs.Joint.{rows_of}
-use Rattle.cube_merge.specs.Made.{AreOrderly}
 use Rattle.cube_merge.proofs.FaultLaws.{FailsToMake-told}
 use Rattle.cube_merge.proofs.JointLaws.{AreMadeSoFar-all, AreMadeSoFar-fit, AreMadeSoFar-more, AreTooLarge-at}
 use Rattle.cube_merge.proofs.ValuesLaws.{AreOrderly-push}

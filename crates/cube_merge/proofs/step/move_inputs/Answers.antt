@@ -9,7 +9,7 @@ use Rattle.cube_merge.proofs.step.move_inputs.Goals as goal
 pub loop-place-preserved : goal.loop-place-preserved
 loop-place-preserved g c =
     let before = c.loop-place.invariant in
-    let s = c.args.schema.now in
+    let s = c.args.form.now in
     let used = c.args.used.now in
     let start = c.args.inputs.now in
     let olds = c.loop-place.inputs in
@@ -28,7 +28,7 @@ loop-place-preserved g c =
 pub returns-in-Err-clause-err : goal.returns-in-Err-clause-err
 returns-in-Err-clause-err g c =
     let before = c.loop-place.invariant in
-    let s = c.args.schema.now in
+    let s = c.args.form.now in
     let start = c.args.inputs.now in
     let olds = c.loop-place.inputs in
     let place = c.loop-place.place in
@@ -47,7 +47,7 @@ returns-in-Err-clause-err g c =
 
 pub returns-clause-ok : goal.returns-clause-ok
 returns-clause-ok g c =
-    AllMove-all c.args.schema.now c.args.used.now c.args.inputs.now c.loop-place.inputs c.loop-place.place c.requires
+    AllMove-all c.args.form.now c.args.used.now c.args.inputs.now c.loop-place.inputs c.loop-place.place c.requires
     c.loop-place.auto.inputs c.loop-place-test.false c.loop-place.invariant.done
 
 pub loop-place-init : goal.loop-place-init

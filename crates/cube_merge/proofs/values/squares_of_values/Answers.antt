@@ -1,4 +1,4 @@
-use Rattle.std.proofs.Common.{◌≡◌, ◌<◌, length, arith, rules}
+use Rattle.std.proofs.Common.{◌<◌, length, rules}
 use Rattle.cube_core.specs.Answer.{values_held}
 use Rattle.cube_merge.proofs.ValuesLaws.{AreListed-some, IsSumOfSquares-some}
 use Rattle.cube_merge.proofs.values.squares_of_values.Goals as goal

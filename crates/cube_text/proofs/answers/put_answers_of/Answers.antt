@@ -1,30 +1,32 @@
-use Rattle.std.proofs.Common.{rules, ◌≡◌, ◌<◌, ◌∙◌, ap, get_or, length}
-use Rattle.cube_core.specs.Layout.{Layout}
-use Rattle.cube_core.specs.Text.{digits_of}
-use Rattle.cube_core.specs.declared.aggregate.Agg.TheVariants.{CountAll}
-use Rattle.cube_text.specs.Rows.{IsAnswerOf}
+use Rattle.std.proofs.Common.{◌≡◌, ◌<◌, ◌∙◌, Bool, true, List, ap, get_or, length, map, subst, sym, arith}
+use Rattle.std.specs.List.{list_all}
+use Rattle.std.proofs.lemmas.List.{length-map}
+use Rattle.std.proofs.Math.ListN.{get_or-map}
+use Rattle.cube_core.specs.Layout.{is_aggregate_of, suffices}
+use Rattle.cube_core.specs.declared.aggregate.Agg.{Agg}
+use Rattle.cube_core.proofs.ListLaws.{list_all-Contains, map-Contains}
+use Rattle.std.proofs.lemmas.List.Elements.{Contains-get_or}
+use Rattle.cube_cells.specs.Told.{by_numbers}
 use Rattle.cube_text.proofs.AnswerLaws.{HasAnswersBelow-more, HasAnswersBelow-none}
 use Rattle.cube_text.proofs.answers.put_answers_of.Goals as goal
 
+-- what each of some aggregates passes by numbers, one of them does
+passes : (p : Agg → Bool) (aggregates : List Agg) (i : _) (one : Agg) → i < length aggregates
+    → one ≡ get_or aggregates i one → list_all p (map by_numbers aggregates) ≡ true → p (by_numbers one) ≡ true
+passes p aggregates i one inside is all =
+    list_all-Contains p (map by_numbers aggregates) (by_numbers one) all
+    (map-Contains by_numbers aggregates one
+    (rw is (Contains-get_or aggregates i one inside)))
+
+pub put_answer-requires-clause-measure : goal.put_answer-requires-clause-measure
+put_answer-requires-clause-measure g c = ?
+
+pub put_answer-requires-clause-keeps : goal.put_answer-requires-clause-keeps
+put_answer-requires-clause-keeps g c = ?
+
 pub loop-aggregate-init : goal.loop-aggregate-init
-loop-aggregate-init g c =
-    HasAnswersBelow-none c.args.cells.now.schema c.args.cell.now c.args.text.now.items
+loop-aggregate-init g c = HasAnswersBelow-none c.args.telling.now.form.now c.args.telling.now.texts.now c.args.cell.now
+    c.args.text.now.items
 
 pub loop-aggregate-preserved : goal.loop-aggregate-preserved
-loop-aggregate-preserved g c =
-    let s : Layout = c.args.cells.now.schema in
-    let i = c.loop-aggregate.aggregate-index in
-    let items = c.aggregates-aggregate-items.result.now in
-    let same : items ≡ s.aggregates = c.aggregates-aggregate-items.ensures.value
-    ∙ ap (λ (l : Layout). l.aggregates) c.schema-schema.ensures.schema in
-    let inside : i < length s.aggregates = rw same at c.loop-aggregate-test.true in
-    let k_is : c.digits_of-digits.result ≡ digits_of c.schema-schema.result.now (get_or items i CountAll) =
-    search rules in
-    let a_is : IsAnswerOf (get_or items i CountAll) c.args.cell.now c.in_ok-try_answer.field-0 = search rules in
-    HasAnswersBelow-more s c.args.cell.now i c.digits_of-digits.result c.in_ok-try_answer.field-0 c.args.text.now.items
-    c.loop-aggregate.text.items c.push_answer.new.text.items c.loop-aggregate.invariant inside
-    (rw (c.schema-schema.ensures.schema, same) at k_is) (rw same at a_is) c.in_ok-push_answer.ensures
-
-pub returns-clause-some : goal.returns-clause-some
-returns-clause-some g c =
-    (rw c.schema-schema.ensures.schema at c.aggregates-aggregate-items.ensures.schema).some_aggregate
+loop-aggregate-preserved g c = ?

@@ -2,7 +2,8 @@ use Rattle.std.proofs.Common.{◌≡◌, ◌<◌, ◌≤◌, List, arith, length
 use Rattle.std.proofs.lemmas.List.{length-map, take_all}
 use Rattle.cube_core.specs.declared.fact.Fact.{Fact}
 use Rattle.cube_cells.proofs.Filling.GatheredLaws.{All-fact, take_fact}
-use Rattle.cube_cells.proofs.TextNumberLaws.{AreCountedIn, AreCountedIn-StandFirst, AreCountedIn-push, StandFirst-trans}
+use Rattle.cube_cells.specs.TextNumbers.{AreCountedIn}
+use Rattle.cube_cells.proofs.TextNumberLaws.{AreCountedIn-StandFirst, AreCountedIn-push, StandFirst-trans}
 use Rattle.cube_cells.proofs.text_numbers.TextNumbers.each_counted.Goals.{After-loop-fact}
 use Rattle.cube_cells.proofs.text_numbers.TextNumbers.each_counted.Goals as goal
 

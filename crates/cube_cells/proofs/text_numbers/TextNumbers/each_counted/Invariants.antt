@@ -1,7 +1,6 @@
 use Rattle.std.proofs.Common.{map, take}
 use Rattle.cube_cells.specs.Codes.{IsDictionary}
-use Rattle.cube_cells.specs.TextNumbers.{StandFirst}
-use Rattle.cube_cells.proofs.TextNumberLaws.{AreCountedIn}
+use Rattle.cube_cells.specs.TextNumbers.{AreCountedIn, StandFirst}
 use Rattle.cube_cells.proofs.text_numbers.TextNumbers.each_counted.Given as goal
 
 abbrev pub invariant-loop-fact : goal.invariant-loop-fact

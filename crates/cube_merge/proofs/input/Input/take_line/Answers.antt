@@ -18,9 +18,9 @@ returns-in_default-2-clause-err g c =
 
 pub returns-then-not-is_after-clause-err : goal.returns-then-not-is_after-clause-err
 returns-then-not-is_after-clause-err g c =
-    let is : row_line c.args.schema.now c.in-Some-2.row ≡ c.read_line.new.line.items = search rules in (
+    let is : row_line c.args.form.now c.in-Some-2.row ≡ c.read_line.new.line.items = search rules in (
       search rules,
-      subst (λ (i : InputView). HasRowBelow c.args.schema.now
+      subst (λ (i : InputView). HasRowBelow c.args.form.now
           (record { left = i.left; row = c.args.before.now; lines = i.lines })) c.self.view_is
           (record {
             row = c.in-Some-2.row;
@@ -48,7 +48,7 @@ returns-then-not-is_complete-clause-err g c =
     let empty = nil_from_length c.read_line.new.line.items none in
     let lacks = c.is_complete.ensures.lacks c.if-not-is_complete.true in (
       search rules,
-      subst (λ (i : InputView). LacksTotal c.args.schema.now
+      subst (λ (i : InputView). LacksTotal c.args.form.now
           (record { left = i.left; row = c.args.before.now; lines = i.lines })) c.self.view_is
           (record {
             at_end = IsAtEnd-none _ _ (subst (Consumes _ _) empty c.in_ok-read_line.ensures.taken)

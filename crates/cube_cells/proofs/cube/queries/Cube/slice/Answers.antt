@@ -16,7 +16,7 @@ returns-then-wanted-len-clause-rows c =
 
 pub returns-then-wanted-len-clause-cube : goal.returns-then-wanted-len-clause-cube
 returns-then-wanted-len-clause-cube c =
-    λ facts cube. AreRowsWhere-IsCubeOf (matches c.args.pattern.now) c.args.self.now facts c.new.result.items cube
+    λ facts cube. AreRowsWhere-IsCubeOf (matches c.args.pattern.now) c.args.self.now _ facts c.new.result.items cube
     (returns-then-wanted-len-clause-rows c)
 
 pub wants_of-requires : goal.wants_of-requires
@@ -38,5 +38,5 @@ returns-clause-rows c =
 pub returns-clause-cube : goal.returns-clause-cube
 returns-clause-cube c =
     IfOk-weaker c.rows_where.result _ _ (λ rows are.
-    λ facts cube. AreRowsWhere-IsCubeOf (matches c.args.pattern.now) c.args.self.now facts rows.items cube are)
+    λ facts cube. AreRowsWhere-IsCubeOf (matches c.args.pattern.now) c.args.self.now _ facts rows.items cube are)
     (returns-clause-rows c)
